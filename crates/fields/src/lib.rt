@@ -1,0 +1,120 @@
+// The bytes of a record: tests of zero and of equality, big-endian numbers, flags, token parameters. Nothing here knows a kind of record;
+// each contract is a definition of the crate rules over an offset and a length.
+ghost use mathlib.Core.Path.{_≡_};
+ghost use Prim.Native.Nat.{_+_, _*_, _≤_, _<_};
+ghost use lib.ListN.{length};
+ghost use Rattle.rules.specs.Basics.{allZero, same, bit, within, number, blank, flag};
+ghost use Rattle.rules.specs.Layout.{tokenParametersAt};
+
+// Whether two runs of bytes are the same, their lengths too.
+pub fn same_bytes(a: &[u8], b: &[u8]) -> bool
+    ensures { λ r. ⌜ r ≡ same (now (a .entry)) (now (b .entry)) ⌝ }
+{
+    if a.len() != b.len() {
+        return false;
+    }
+    let mut i = 0;
+    while i < a.len() {
+        if a[i] != b[i] {
+            return false;
+        }
+        i += 1;
+    }
+    true
+}
+
+// Whether every byte is zero.
+pub fn all_zero(s: &[u8]) -> bool
+    ensures { λ r. ⌜ r ≡ allZero (now (s .entry)) ⌝ }
+{
+    let mut i = 0;
+    while i < s.len() {
+        if s[i] != 0 {
+            return false;
+        }
+        i += 1;
+    }
+    true
+}
+
+// Whether the len bytes from off on are zero.
+pub fn zero_part(s: &[u8], off: usize, len: usize) -> bool
+    requires { ⌜ off + len ≤ length (now s) ⌝ }
+    ensures { λ r. ⌜ r ≡ blank off len (now (s .entry)) ⌝ }
+{
+    all_zero(&s[off..off + len])
+}
+
+// A number from its two halves, at each width.
+fn join16(hi: u8, lo: u8) -> u16
+    ensures { λ r. ⌜ r ≡ hi * 256 + lo ⌝ }
+{
+    (hi as u16) * 256 + (lo as u16)
+}
+
+fn join32(hi: u16, lo: u16) -> u32
+    ensures { λ r. ⌜ r ≡ hi * 65536 + lo ⌝ }
+{
+    (hi as u32) * 65536 + (lo as u32)
+}
+
+fn join64(hi: u32, lo: u32) -> u64
+    ensures { λ r. ⌜ r ≡ hi * 4294967296 + lo ⌝ }
+{
+    (hi as u64) * 4294967296 + (lo as u64)
+}
+
+// The big-endian number of 2, 4 and 8 bytes from an offset on.
+pub fn be16(s: &[u8], at: usize) -> u16
+    requires { ⌜ at + 2 ≤ length (now s) ⌝ }
+    ensures { λ r. ⌜ r ≡ number at 2 (now (s .entry)) ⌝ }
+{
+    join16(s[at], s[at + 1])
+}
+
+pub fn be32(s: &[u8], at: usize) -> u32
+    requires { ⌜ at + 4 ≤ length (now s) ⌝ }
+    ensures { λ r. ⌜ r ≡ number at 4 (now (s .entry)) ⌝ }
+{
+    join32(be16(s, at), be16(s, at + 2))
+}
+
+pub fn be64(s: &[u8], at: usize) -> u64
+    requires { ⌜ at + 8 ≤ length (now s) ⌝ }
+    ensures { λ r. ⌜ r ≡ number at 8 (now (s .entry)) ⌝ }
+{
+    join64(be32(s, at), be32(s, at + 4))
+}
+
+// Bit b of a number.
+pub fn bit_of(b: u16, n: u16) -> bool
+    requires { ⌜ b < 16 ⌝ }
+    ensures { λ r. ⌜ r ≡ bit b n ⌝ }
+{
+    (n >> b) % 2 == 1
+}
+
+// Flag f of a record's flags, which stand in bytes 2 and 3.
+pub fn flag_of(f: u16, s: &[u8]) -> bool
+    requires { ⌜ (f < 16) × (4 ≤ length (now s)) ⌝ }
+    ensures { λ r. ⌜ r ≡ flag f (now (s .entry)) ⌝ }
+{
+    bit_of(f, be16(s, 2))
+}
+
+// Whether every bit of a is set in b.
+pub fn subset16(a: u16, b: u16) -> bool
+    ensures { λ r. ⌜ r ≡ within 16 a b ⌝ }
+{
+    a & b == a
+}
+
+// Whether the eight bytes from off on are well-formed token parameters.
+pub fn token_parameters(s: &[u8], off: usize) -> bool
+    requires { ⌜ off + 8 ≤ length (now s) ⌝ }
+    ensures { λ r. ⌜ r ≡ tokenParametersAt off (now (s .entry)) ⌝ }
+{
+    let needed = s[off + 2];
+    let total = s[off + 3];
+    subset16(be16(s, off), 1) & ((1 <= needed) & (needed <= total)) & (total <= 64)
+}

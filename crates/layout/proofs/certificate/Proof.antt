@@ -1,0 +1,21 @@
+use Rattle.rules.specs.Layout.{certificateLaidOut}
+use borrow.Author.Needs.{needs}
+use Rattle.layout.proofs.certificate.Statement.{statement}
+use Rattle.layout.proofs.certificate.Tie as tie
+
+plain-header-requires : tie.Need-plain-header-requires
+plain-header-requires c κs = search needs
+
+mechanism-at-requires : tie.Need-mechanism-at-requires
+mechanism-at-requires c κs = search needs
+
+zero-part-requires : tie.Need-zero-part-requires
+zero-part-requires c κs = search needs
+
+returns : tie.Need-returns
+unfolding certificateLaidOut
+returns c = cc
+
+pub certificate-spec : {M : Type 1} → statement M
+certificate-spec =
+    tie.close (tie.spec plain-header-requires mechanism-at-requires zero-part-requires returns)

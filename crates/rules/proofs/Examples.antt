@@ -1,0 +1,129 @@
+-- The clerk's examples: those marked * in document 01, each of them and no other, as one table that antt computes; and a second, small table that
+-- keeps the definitions honest against the wrong products that document 01 lists. Two that they rule out: a gate that denies all (the second row), and
+-- a desk that grades a key by its first blob action (the tenth).
+use Prim.Native.Nat.{ℕ, _-_}
+use mathlib.Core.Path.{_≡_, refl}
+use mathlib.Core.List.{List, [], _∷_, _++_, map}
+use mathlib.Core.Bool.{Bool, true, false}
+use lib.ListN.{length, replicate}
+use Rattle.rules.specs.Sizes.{groupsMax, countersMax}
+use Rattle.rules.specs.Basics.{Bytes, any, all, allZero, same, numberFrom, ascii, allBelow, within, chunks, records, firstFault, eachFault, scan}
+use Rattle.rules.specs.Layout.{header, zeroUnless, mechanismAt, tokenParametersAt, tokenParametersIf, certifierMechanism, counterOfSort, groupLaidOut, limitLaidOut, permissionsLaidOut, blobActionLaidOut, archiveActionLaidOut, useLaidOut, blobRequestLaidOut, recoveryLaidOut, certificateLaidOut, factLaidOut, signatureLaidOut, policyLaidOut, hintLaidOut}
+use Rattle.rules.specs.Acl.{actionOf, limitsOf, actionsOf, groupsOf, inPlace, hasRoom, afterRecord, aclRecordFault, aclFault}
+use Rattle.rules.specs.Request.{wantedOf, certificatesOf, requestFrom, requestLaidOut, requestRecordFault, requestFault, hintsFault}
+use Rattle.rules.specs.Ledger.{Ledger, freshLedger, raisedBy, charge}
+use Rattle.rules.specs.Grant.{admits}
+use Rattle.rules.specs.Narrow.{noWider, actionsNoWider, narrowsFrom}
+use Rattle.rules.specs.Gate.{Answer, done, permit, refuse, Outcome, lowest, judge, request, load, clear, narrow, expand}
+use Rattle.rules.specs.Suites.{suite}
+use Rattle.rules.specs.Bundle.{bundleRecordLaidOut, bundleRecordFault, afterBundleRecord, bundleFault, field, listed, signatureOutcome, policyOf}
+use Rattle.rules.specs.Desk.{kmVouched, kmFipsVouched, kreVouched, Step, WB1, WB2, WB6, byPolicy, Verdict, accepted, failed, moduleKey, recoveryKey, classOf, policyAdmits, actionFailure, aclFailure, actionProtection, smallest, keyProtection, recoverableKey, fullFailure, basicFailure, deskFault, desk}
+use Rattle.rules.specs.Subject.{SubjectReply, written, unwritten, subject, subjectFault, subjectReply, subjectBuffer}
+use Rattle.rules.proofs.Samples.{rec, hash, openGroup, signGroup, limited, certifiedGroup, sign, decrypt, otherMechanism, counting, reducible, expandable, reduce, enlarge, hint, bundle, uncertifiedBundle, blob, cardset, softcard, archive}
+
+-- What an example states: the gate's answer with the whole ledger handed back, the desk's verdict, or the subject writer's reply with the whole
+-- buffer.
+pub data Stated : Type 0 where
+  answered : Answer → Ledger → Stated
+  judged : Verdict → Stated
+  wrote : SubjectReply → Bytes → Stated
+
+-- a ledger whose tables begin so and are zero from there on
+abbrev ledgerOf : List ℕ → List ℕ → ℕ → ℕ → Ledger
+ledgerOf counts counters loaded last =
+    record {
+      counts = counts ++ replicate (groupsMax - length counts) 0;
+      counters = counters ++ replicate (countersMax - length counters) 0;
+      loaded = loaded;
+      last = last;
+    }
+
+-- group 0 permits and is charged: the ledger was loaded at one time, the request is of the other
+abbrev permits : ℕ → ℕ → Stated
+permits loaded time = answered (permit 0) (ledgerOf (1 ∷ []) [] loaded time)
+
+-- a refusal leaves the ledger as it was loaded
+abbrev refuses : ℕ → ℕ → Stated
+refuses n loaded = answered (refuse n) (ledgerOf [] [] loaded loaded)
+
+-- an acceptance under approach 2
+abbrev accepts : ℕ → Bool → Stated
+accepts protection recoverable = judged (accepted (byPolicy (record { protection = protection; recoverable = recoverable })))
+
+-- the first failing step
+abbrev fails : Step → Stated
+fails s = judged (failed s)
+
+-- what is handed back of an outcome
+abbrev handed : Outcome → Stated
+handed o = answered (o .answer) (o .ledger)
+
+-- a fresh ledger loaded at a time, then one request
+abbrev gate : ℕ → Bytes → Bytes → Stated
+gate time acl req = handed (request (load freshLedger time .ledger) (hash 0) acl req)
+
+-- the desk on the passing bundle and an ACL
+abbrev attest : Bytes → Stated
+attest acl = judged (desk bundle acl)
+
+-- the subject writer on a buffer
+abbrev write : ℕ → ℕ → Bytes → Bytes → Stated
+write certificate suite hashes buffer = wrote (subjectReply certificate suite hashes buffer) (subjectBuffer certificate suite hashes buffer)
+
+-- what the definitions compute, and what document 01 states
+pub record Example : Type 0 where
+  pub computed : Stated
+  pub expected : Stated
+
+abbrev _is_ : Stated → Stated → Example
+_is_ c e = record { computed = c; expected = e }
+
+infix 70 _is_
+-- "Marked * go into a single proved table"
+unfoldable pub starred : List Example
+starred =
+    gate 0 [] (sign 5) is refuses 5 0
+    ∷ gate 0 signGroup (sign 5) is permits 0 5
+    ∷ gate 0 signGroup (decrypt 5) is refuses 5 0
+    ∷ gate 0 (limited 1 0) (sign 5) is refuses 7 0
+    ∷ gate 0 certifiedGroup (sign 5) is refuses 6 0
+    ∷ gate 0 certifiedGroup (sign 5 ++ otherMechanism) is refuses 6 0
+    ∷ gate 100 (limited 3 10) (sign 109) is permits 100 109
+    ∷ gate 100 (limited 3 10) (sign 110) is refuses 7 100
+    ∷ gate 100 (limited 3 10) (sign 99) is refuses 4 100
+    ∷ attest (openGroup ++ blob 28 (hash 20) cardset ++ blob 5 (hash 0) []) is accepts 1 false
+    ∷ attest (openGroup ++ blob 29 (hash 20) cardset) is accepts 1 false
+    ∷ attest (openGroup ++ blob 12 (hash 20) []) is fails WB6
+    ∷ attest (openGroup ++ rec (4 ∷ 0 ∷ 0 ∷ 32 ∷ [])) is fails WB1
+    ∷ attest signGroup is accepts 4 false
+    ∷ []
+
+-- What document 01 shuts out ("denying all", "permitting all", "protection always 1", "a gate that never charges or spends a whole limit at load",
+-- "a narrowing check that always says 8", "made-up counters", "a writer that writes nothing") or fears ("Grading by the first blob action",
+-- "Trusting hkm because it is listed", "Letting two new groups share one source"), as far as no starred row does.
+unfoldable pub guards : List Example
+guards =
+    gate 0 (counting 3 2) (sign 5) is answered (permit 0) (ledgerOf (1 ∷ []) (0 ∷ 0 ∷ 0 ∷ 1 ∷ []) 0 5)
+    ∷ handed (narrow freshLedger (hash 0) reducible (reduce 6) signGroup (hint 0)) is permits 0 6
+    ∷ handed (narrow freshLedger (hash 0) reducible (reduce 6) (signGroup ++ signGroup) (hint 0 ++ hint 0)) is refuses 8 0
+    ∷ handed (narrow freshLedger (hash 0) reducible (reduce 6) signGroup (hint 0 ++ hint 1)) is refuses 8 0
+    ∷ handed (narrow freshLedger (hash 0) reducible (sign 6) signGroup (hint 0)) is refuses 2 0
+    ∷ handed (expand freshLedger (hash 0) expandable (enlarge 6) signGroup) is answered (permit 0) (ledgerOf [] [] 0 6)
+    ∷ handed (clear (ledgerOf [] (0 ∷ 7 ∷ 7 ∷ []) 0 0) 1) is answered done (ledgerOf [] (0 ∷ 0 ∷ 7 ∷ []) 0 0)
+    ∷ handed (clear freshLedger 96) is refuses 10 0
+    ∷ attest (openGroup ++ blob 28 (hash 20) cardset) is accepts 3 false
+    ∷ attest (openGroup ++ blob 28 (hash 20) softcard) is accepts 2 false
+    ∷ attest (openGroup ++ archive) is accepts 4 true
+    ∷ judged (desk uncertifiedBundle (openGroup ++ blob 5 (hash 0) [])) is fails WB2
+    ∷ write 5 1 (hash 1 ++ hash 2 ++ hash 3) (replicate 76 8) is wrote (written 74) (ascii "Card Recovery" ++ (0 ∷ []) ++ hash 1 ++ hash 2 ++ hash 3 ++ (8 ∷ 8 ∷ []))
+    ∷ write 3 1 (hash 1 ++ hash 2 ++ hash 3) (replicate 71 8) is wrote (unwritten 9) (replicate 71 8)
+    ∷ []
+
+-- what is computed is what is stated, row by row
+abbrev Hold : List Example → Type 0
+Hold rows = map (λ e. e .computed) rows ≡ map (λ e. e .expected) rows
+
+-- Both tables hold: the starred one, and the one that guards the definitions.
+pub examples-hold : Hold starred × Hold guards
+unfolding starred guards any all allZero same numberFrom ascii allBelow within chunks records firstFault eachFault scan header zeroUnless mechanismAt tokenParametersAt tokenParametersIf certifierMechanism counterOfSort groupLaidOut limitLaidOut permissionsLaidOut blobActionLaidOut archiveActionLaidOut useLaidOut blobRequestLaidOut recoveryLaidOut certificateLaidOut factLaidOut signatureLaidOut policyLaidOut hintLaidOut actionOf limitsOf actionsOf groupsOf inPlace hasRoom afterRecord aclRecordFault aclFault wantedOf certificatesOf requestFrom requestLaidOut requestRecordFault requestFault hintsFault admits raisedBy charge noWider actionsNoWider narrowsFrom lowest judge request clear narrow expand suite bundleRecordLaidOut bundleRecordFault afterBundleRecord bundleFault field signatureOutcome listed policyOf kmVouched kmFipsVouched kreVouched moduleKey recoveryKey classOf policyAdmits actionFailure aclFailure actionProtection smallest keyProtection recoverableKey fullFailure basicFailure deskFault desk subject subjectFault subjectReply subjectBuffer
+examples-hold = (refl, refl)

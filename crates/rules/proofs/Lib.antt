@@ -1,0 +1,4 @@
+pub mod Laws
+pub mod Choices
+pub mod Samples
+pub mod Examples

@@ -1,0 +1,102 @@
+-- Sample files of document 01's examples.
+use Prim.Native.Nat.{ℕ, _-_}
+use mathlib.Core.List.{[], _∷_, _++_}
+use lib.ListN.{length, replicate}
+use Rattle.rules.specs.Sizes.{recordBytes, hashBytes}
+use Rattle.rules.specs.Basics.{Bytes}
+
+-- a record that begins with these bytes, and is zero from there on
+abbrev pub rec : Bytes → Bytes
+rec bs = bs ++ replicate (recordBytes - length bs) 0
+
+-- a request record with its time
+abbrev pub timed : Bytes → ℕ → Bytes
+timed bs time = bs ++ replicate (63 - length bs) 0 ++ (time ∷ [])
+
+abbrev pub hash : ℕ → Bytes
+hash n = replicate hashBytes n
+
+-- "Sign group" is bytes 01 and 63 zeros, then 03 00 00 00 00 10 and 58 zeros.
+abbrev pub openGroup : Bytes
+openGroup = rec (1 ∷ [])
+
+abbrev pub signAction : Bytes
+signAction = rec (3 ∷ 0 ∷ 0 ∷ 0 ∷ 0 ∷ 0x10 ∷ [])
+
+abbrev pub signGroup : Bytes
+signGroup = openGroup ++ signAction
+
+abbrev pub limited : ℕ → ℕ → Bytes
+limited sort maximum = openGroup ++ rec (2 ∷ 0 ∷ 0 ∷ 0 ∷ sort ∷ 0 ∷ 0 ∷ 0 ∷ 0 ∷ 0 ∷ 0 ∷ maximum ∷ []) ++ signAction
+
+-- a Sign group with a certifier at mechanism 1
+abbrev pub certifiedGroup : Bytes
+certifiedGroup = rec (1 ∷ 0 ∷ 0 ∷ 3 ∷ [] ++ hash 9 ++ (0 ∷ 1 ∷ [])) ++ signAction
+
+abbrev pub sign : ℕ → Bytes
+sign time = timed (6 ∷ 0 ∷ 0 ∷ 0 ∷ 4 ∷ []) time
+
+abbrev pub decrypt : ℕ → Bytes
+decrypt time = timed (6 ∷ 0 ∷ 0 ∷ 0 ∷ 9 ∷ []) time
+
+-- the certifier's hash at mechanism 2
+abbrev pub otherMechanism : Bytes
+otherMechanism = rec (9 ∷ 0 ∷ 0 ∷ 0 ∷ [] ++ hash 9 ++ (0 ∷ 2 ∷ []))
+
+-- a group with a limit of sort 2 on a counter
+abbrev pub counting : ℕ → ℕ → Bytes
+counting counter maximum = openGroup ++ rec (2 ∷ 0 ∷ 0 ∷ 0 ∷ 2 ∷ counter ∷ 0 ∷ 0 ∷ 0 ∷ 0 ∷ 0 ∷ maximum ∷ []) ++ signAction
+
+-- Sign and ReduceACL; ExpandACL; their uses; a hint that names source group n and its first action
+abbrev pub reducible : Bytes
+reducible = openGroup ++ rec (3 ∷ 0 ∷ 0 ∷ 0 ∷ 0 ∷ 0x14 ∷ [])
+
+abbrev pub expandable : Bytes
+expandable = openGroup ++ rec (3 ∷ 0 ∷ 0 ∷ 0 ∷ 0x10 ∷ 0 ∷ [])
+
+abbrev pub reduce : ℕ → Bytes
+reduce time = timed (6 ∷ 0 ∷ 0 ∷ 0 ∷ 2 ∷ []) time
+
+abbrev pub enlarge : ℕ → Bytes
+enlarge time = timed (6 ∷ 0 ∷ 0 ∷ 0 ∷ 12 ∷ []) time
+
+abbrev pub hint : ℕ → Bytes
+hint source = rec (13 ∷ 0 ∷ 0 ∷ 0 ∷ source ∷ [])
+
+-- A bundle in which all passes; hkm is field 6. The signatures are given.
+abbrev pub fact : ℕ → Bytes → Bytes
+fact n h = rec (10 ∷ 0 ∷ 0 ∷ 0 ∷ n ∷ 0 ∷ 0 ∷ 0 ∷ [] ++ h)
+
+abbrev pub signedWell : ℕ → Bytes
+signedWell n = rec (11 ∷ 0 ∷ 0 ∷ 0 ∷ n ∷ 1 ∷ [])
+
+abbrev pub bundleWith : Bytes → Bytes
+bundleWith signatures =
+    fact 1 (hash 1) ++ fact 2 (hash 1) ++ fact 3 (hash 3) ++ fact 4 (hash 4) ++ fact 5 (hash 4) ++ fact 6 (hash 6)
+    ++ fact 7 (hash 7) ++ fact 8 (hash 8) ++ fact 9 (hash 8) ++ fact 10 (hash 8) ++ fact 11 (hash 11) ++ fact 12 (hash 12)
+    ++ fact 14 (hash 5) ++ fact 14 (hash 6)
+    ++ signatures
+    ++ rec (12 ∷ 0 ∷ 0 ∷ 0 ∷ 3 ∷ 2 ∷ 7 ∷ 1 ∷ [])
+
+abbrev pub bundle : Bytes
+bundle = bundleWith (signedWell 1 ++ signedWell 2 ++ signedWell 3 ++ signedWell 5 ++ signedWell 6)
+
+-- the same without a world certificate
+abbrev pub uncertifiedBundle : Bytes
+uncertifiedBundle = bundleWith (signedWell 1 ++ signedWell 2 ++ signedWell 6)
+
+-- MakeBlob under hkm, with these flags besides kmhash, this kthash and these ktparams
+abbrev pub blob : ℕ → Bytes → Bytes → Bytes
+blob flags kthash ktparams = rec (4 ∷ 0 ∷ 0 ∷ flags ∷ [] ++ hash 6 ++ kthash ++ ktparams)
+
+-- shares 1 of 2, no soft slots
+abbrev pub cardset : Bytes
+cardset = 0 ∷ 0 ∷ 1 ∷ 2 ∷ 0 ∷ 0 ∷ 0 ∷ 0 ∷ []
+
+-- shares 1 of 2, soft slots
+abbrev pub softcard : Bytes
+softcard = 0 ∷ 1 ∷ 1 ∷ 2 ∷ 0 ∷ 0 ∷ 0 ∷ 0 ∷ []
+
+-- MakeArchiveBlob under hkre, by suite 3's mechanism
+abbrev pub archive : Bytes
+archive = rec (5 ∷ 0 ∷ 0 ∷ 1 ∷ [] ++ hash 7 ++ (0 ∷ 2 ∷ []))

@@ -1,0 +1,95 @@
+-- When a new ACL is a narrowing of an old one by given hints: document 01, "The ledger".
+use Prim.Native.Nat.{ℕ, suc}
+use mathlib.Core.List.{List, [], _∷_}
+use mathlib.Core.Option.{Option, none, some}
+use mathlib.Core.Bool.{Bool, true, false, _&&_}
+use lib.ListN.{getElem?}
+use lib.Dec.{eqb, leb}
+use Rattle.rules.specs.Basics.{Bytes, implies, any, all, allZero, same, within}
+use Rattle.rules.specs.Acl.{Parameters, BlobRule, ArchiveRule, Action, permissions, makeBlob, makeArchive, Limit, Group}
+use Rattle.rules.specs.Request.{Hint}
+use Rattle.rules.specs.Grant.{tighter}
+
+-- "restrictions kept equal or added"
+abbrev pub kept : Option Bytes → Option Bytes → Bool
+kept new none = true
+kept none (some o) = false
+kept (some n) (some o) = same n o
+
+-- .. of a mechanism
+abbrev pub keptNumber : Option ℕ → Option ℕ → Bool
+keptNumber new none = true
+keptNumber none (some o) = false
+keptNumber (some n) (some o) = eqb n o
+
+-- "ktparams kept or tighter"
+abbrev pub keptParameters : Option Parameters → Option Parameters → Bool
+keptParameters new none = true
+keptParameters none (some o) = false
+keptParameters (some n) (some o) = tighter n o
+
+-- "allowing flags a subset; restrictions kept equal or added, ktparams kept or tighter"
+abbrev pub blobNoWider : BlobRule → BlobRule → Bool
+blobNoWider n o =
+    implies (n .kmOnly) (o .kmOnly)
+    && implies (n .nonKm0) (o .nonKm0)
+    && implies (n .nullToken) (o .nullToken)
+    && kept (n .kmhash) (o .kmhash)
+    && kept (n .kthash) (o .kthash)
+    && keptParameters (n .ktparams) (o .ktparams)
+
+-- "same mechanism"
+abbrev pub archiveNoWider : ArchiveRule → ArchiveRule → Bool
+archiveNoWider n o = eqb (n .mechanism) (o .mechanism) && kept (n .kahash) (o .kahash)
+
+-- "each action is of the hinted action's kind and no wider: subset of permission bits"
+unfoldable pub noWider : Action → Action → Bool
+noWider (permissions n) (permissions o) = within 16 n o
+noWider (permissions n) (makeBlob o) = false
+noWider (permissions n) (makeArchive o) = false
+noWider (makeBlob n) (permissions o) = false
+noWider (makeBlob n) (makeBlob o) = blobNoWider n o
+noWider (makeBlob n) (makeArchive o) = false
+noWider (makeArchive n) (permissions o) = false
+noWider (makeArchive n) (makeBlob o) = false
+noWider (makeArchive n) (makeArchive o) = archiveNoWider n o
+
+-- an action against the one that its hint names, if that is there
+abbrev pub noWiderThan : Action → Option Action → Bool
+noWiderThan n none = false
+noWiderThan n (some o) = noWider n o
+
+-- each new action has a hint; "Unused action bytes are zero."
+unfoldable pub actionsNoWider : List Action → List ℕ → List Action → Bool
+actionsNoWider [] hints old = allZero hints
+actionsNoWider (a ∷ rest) [] old = false
+actionsNoWider (a ∷ rest) (h ∷ hs) old = noWiderThan a (getElem? old h) && actionsNoWider rest hs old
+
+-- "answers each old limit by one of the same sort and counter with a maximum no larger"
+abbrev pub answers : Limit → Limit → Bool
+answers o n = eqb (n .sort) (o .sort) && eqb (n .counter) (o .counter) && leb (n .maximum) (o .maximum)
+
+-- "Against its source a new group keeps any certifier and mechanism (it may add them)"
+abbrev pub groupNarrows : Group → List ℕ → Group → Bool
+groupNarrows n hints o =
+    kept (n .certifier) (o .certifier)
+    && keptNumber (n .mechanism) (o .mechanism)
+    && all (λ m. any (answers m) (n .limits)) (o .limits)
+    && actionsNoWider (n .actions) hints (o .actions)
+
+-- a new group against the source that its hint names; "one naming nothing gives 8"
+abbrev pub narrowsSource : Group → List ℕ → Option Group → Bool
+narrowsSource n hints none = false
+narrowsSource n hints (some o) = groupNarrows n hints o
+
+-- "with one hint per new group. Sources rise strictly.": each from `low` on
+unfoldable pub narrowsFrom : List Group → ℕ → List Group → List Hint → Bool
+narrowsFrom old low [] [] = true
+narrowsFrom old low [] (h ∷ hs) = false
+narrowsFrom old low (n ∷ ns) [] = false
+narrowsFrom old low (n ∷ ns) (h ∷ hs) =
+    leb low (h .source) && narrowsSource n (h .actions) (getElem? old (h .source)) && narrowsFrom old (suc (h .source)) ns hs
+
+-- the hints show that the new ACL is a narrowing of the old
+abbrev pub narrows : List Group → List Group → List Hint → Bool
+narrows old new hints = narrowsFrom old 0 new hints

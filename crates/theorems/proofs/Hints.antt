@@ -1,0 +1,179 @@
+-- What hints that show a narrowing are, and that an ACL narrows to itself.
+use Prim.Native.Nat.{ℕ, zero, suc, _+_, _-_, _≤_, _<_}
+use native.Mathlib.Omega.{arith}
+use native.Mathlib.Nat.{add-zero, zero-add, suc-add, add-suc}
+use mathlib.Core.Path.{_≡_, refl, ap}
+use mathlib.Core.List.{List, [], _∷_, _++_}
+use mathlib.Core.Option.{Option, none, some}
+use mathlib.Core.Bool.{Bool, true, false, _&&_, _||_, false≢true}
+use lib.ListN.{length, getElem?, replicate}
+use lib.Dec.{eqb, leb, ltb}
+use borrow.Author.Tests.{eq-eqb, leb-true, le-leb, lt-ltb}
+use Rattle.rules.specs.Sizes.{actionsMax}
+use Rattle.rules.specs.Basics.{Bytes, implies, any, all, allZero, Every, bit, within}
+use Rattle.rules.specs.Acl.{Parameters, BlobRule, ArchiveRule, Action, permissions, makeBlob, makeArchive, Limit, Group}
+use Rattle.rules.specs.Request.{Hint}
+use Rattle.rules.specs.Grant.{tighter}
+use Rattle.rules.specs.Narrow.{kept, keptNumber, keptParameters, blobNoWider, archiveNoWider, noWider, noWiderThan, actionsNoWider, answers, groupNarrows, narrowsSource, narrowsFrom, narrows}
+use Rattle.rules.proofs.Laws.{and-left, and-right, and-both, or-right, implication, allBelow-all, same-refl, every-at, any-here}
+
+ruleset conj = (and-left, and-right, and-both)
+
+-- "Sources rise strictly.": each from `low` on
+abbrev pub Rising : ℕ → List Hint → Type 0
+Rising low [] = Unit {0}
+Rising low (h ∷ hs) = (low ≤ h .source) × Rising (suc (h .source)) hs
+
+module _ (old : List Group) where
+  shown-from : (low : ℕ) (new : List Group) (hints : List Hint) → narrowsFrom old low new hints ≡ true → (length hints ≡ length new) × Rising low hints
+  unfolding narrowsFrom
+  shown-from low [] [] e = (refl, tt)
+  shown-from low [] (h ∷ hs) e = absurd (false≢true e)
+  shown-from low (n ∷ ns) [] e = absurd (false≢true e)
+  shown-from low (n ∷ ns) (h ∷ hs) e =
+      let r = shown-from (suc (h .source)) ns hs (search conj) in
+      (ap suc (r .0), (leb-true low (h .source) (search conj), r .1))
+
+-- A narrowing has "one hint per new group. Sources rise strictly."
+pub narrows-shown : (old new : List Group) (hints : List Hint) → narrows old new hints ≡ true → (length hints ≡ length new) × Rising 0 hints
+narrows-shown old new hints e = shown-from old 0 new hints e
+
+-- so no two new groups share a source
+pub sources-differ : (low : ℕ) (h : Hint) (hs : List Hint) → Rising low (h ∷ hs) → Every (λ k. h .source < k .source) hs
+sources-differ low h hs r = later (suc (h .source)) hs (r .1) (omega arith)
+  where
+    later : (low : ℕ) (ks : List Hint) → Rising low ks → h .source < low → Every (λ k. h .source < k .source) ks
+    later low [] t b = tt
+    later low (k ∷ ks) t b = (omega (arith, t .0), later (suc (k .source)) ks (t .1) (omega (arith, t .0)))
+
+-- What is kept is no wider.
+kept-self : (o : Option Bytes) → kept o o ≡ true
+kept-self none = refl
+kept-self (some h) = same-refl h
+
+kept-number-self : (o : Option ℕ) → keptNumber o o ≡ true
+kept-number-self none = refl
+kept-number-self (some n) = eq-eqb n n refl
+
+within-self : (k a : ℕ) → within k a a ≡ true
+unfolding within
+within-self k a = allBelow-all k (λ i. implies (bit i a) (bit i a)) (λ i h. implication (bit i a) (bit i a) (λ e. e))
+
+time-self : (t : ℕ) → (eqb t 0 || ltb 0 t && leb t t) ≡ true
+time-self zero = refl
+time-self (suc t) = or-right (eqb (suc t) 0) (ltb 0 (suc t) && leb (suc t) (suc t)) (and-both (ltb 0 (suc t)) (leb (suc t) (suc t)) (lt-ltb 0 (suc t) (omega arith)) (le-leb (suc t) (suc t) (omega arith)))
+
+tighter-self : (p : Parameters) → tighter p p ≡ true
+tighter-self p =
+    let a = within-self 16 (p .flags) in
+    let b = le-leb (p .needed) (p .needed) (omega arith) in
+    let c = le-leb (p .total) (p .total) (omega arith) in
+    let d = time-self (p .timeLimit) in
+    search conj
+
+kept-parameters-self : (o : Option Parameters) → keptParameters o o ≡ true
+kept-parameters-self none = refl
+kept-parameters-self (some p) = tighter-self p
+
+blob-self : (b : BlobRule) → blobNoWider b b ≡ true
+blob-self b =
+    let x = implication (b .kmOnly) (b .kmOnly) (λ e. e) in
+    let y = implication (b .nonKm0) (b .nonKm0) (λ e. e) in
+    let z = implication (b .nullToken) (b .nullToken) (λ e. e) in
+    let u = kept-self (b .kmhash) in
+    let v = kept-self (b .kthash) in
+    let w = kept-parameters-self (b .ktparams) in
+    search conj
+
+archive-self : (a : ArchiveRule) → archiveNoWider a a ≡ true
+archive-self a =
+    let x = eq-eqb (a .mechanism) (a .mechanism) refl in
+    let y = kept-self (a .kahash) in
+    search conj
+
+action-self : (a : Action) → noWider a a ≡ true
+unfolding noWider
+action-self (permissions n) = within-self 16 n
+action-self (makeBlob b) = blob-self b
+action-self (makeArchive a) = archive-self a
+
+limit-self : (m : Limit) → answers m m ≡ true
+limit-self m =
+    let x = eq-eqb (m .sort) (m .sort) refl in
+    let y = eq-eqb (m .counter) (m .counter) refl in
+    let z = le-leb (m .maximum) (m .maximum) (omega arith) in
+    search conj
+
+-- the numbers of a list's places, from `place` on
+unfoldable pub places : {A : Type 0} → ℕ → List A → List ℕ
+places place [] = []
+places place (x ∷ xs) = place ∷ places (suc place) xs
+
+-- the hints that name every group and action by its own place; "Unused action bytes are zero."
+abbrev pub ownActions : List Action → List ℕ
+ownActions xs = places 0 xs ++ replicate (actionsMax - length xs) 0
+
+unfoldable pub ownHints : ℕ → List Group → List Hint
+ownHints place [] = []
+ownHints place (g ∷ gs) = record { source = place; actions = ownActions (g .actions) } ∷ ownHints (suc place) gs
+
+-- a list stands in another from a place on
+abbrev StandsAt : {A : Type 0} → List A → ℕ → List A → Type 0
+StandsAt {A} whole place xs = (j : ℕ) (x : A) → getElem? xs j ≡ some x → getElem? whole (place + j) ≡ some x
+
+module _ {A : Type 0} (whole : List A) where
+  stands-here : (place : ℕ) (x : A) (xs : List A) → StandsAt whole place (x ∷ xs) → getElem? whole place ≡ some x
+  stands-here place x xs f = rw add-zero at (f 0 x refl)
+
+  stands-next : (place : ℕ) (x : A) (xs : List A) → StandsAt whole place (x ∷ xs) → StandsAt whole (suc place) xs
+  stands-next place x xs f j y e = rw (suc-add, ← (add-suc place j)) (f (suc j) y e)
+
+  every-index : (P : A → Type 0) (xs : List A) → ((i : ℕ) (x : A) → getElem? xs i ≡ some x → P x) → Every P xs
+  every-index P [] f = tt
+  every-index P (x ∷ xs) f = (f 0 x refl, every-index P xs (λ i y e. f (suc i) y e))
+
+all-zero : (n : ℕ) → allZero (replicate n 0) ≡ true
+unfolding allZero
+all-zero zero = refl
+all-zero (suc n) = all-zero n
+
+every-all : {A : Type 0} (p : A → Bool) (xs : List A) → Every (λ x. p x ≡ true) xs → all p xs ≡ true
+unfolding all
+every-all p [] h = refl
+every-all p (x ∷ xs) h = and-both (p x) (all p xs) (h .0) (every-all p xs (h .1))
+
+own-actions : (old : List Action) (place pad : ℕ) (xs : List Action) → StandsAt old place xs → actionsNoWider xs (places place xs ++ replicate pad 0) old ≡ true
+unfolding actionsNoWider places
+own-actions old place pad [] f = all-zero pad
+own-actions old place pad (a ∷ rest) f =
+    let e : noWiderThan a (getElem? old place) ≡ true = rw (stands-here old place a rest f) (action-self a) in
+    and-both (noWiderThan a (getElem? old place)) (actionsNoWider rest (places (suc place) rest ++ replicate pad 0) old) e
+    (own-actions old (suc place) pad rest (stands-next old place a rest f))
+
+limits-self : (ms : List Limit) → all (λ m. any (answers m) ms) ms ≡ true
+limits-self ms =
+    every-all (λ m. any (answers m) ms) ms
+    (every-index ms (λ m. any (answers m) ms ≡ true) ms
+    (λ i m e. every-at (λ x. answers m x ≡ true → any (answers m) ms ≡ true) ms i m (any-here (answers m) ms) e (limit-self m)))
+
+group-self : (g : Group) → groupNarrows g (ownActions (g .actions)) g ≡ true
+group-self g =
+    let a = kept-self (g .certifier) in
+    let b = kept-number-self (g .mechanism) in
+    let c = limits-self (g .limits) in
+    let d : actionsNoWider (g .actions) (ownActions (g .actions)) (g .actions) ≡ true =
+    own-actions (g .actions) 0 (actionsMax - length (g .actions)) (g .actions) (λ j x e. rw zero-add e) in
+    search conj
+
+own-from : (old : List Group) (place : ℕ) (gs : List Group) → StandsAt old place gs → narrowsFrom old place gs (ownHints place gs) ≡ true
+unfolding narrowsFrom ownHints
+own-from old place [] f = refl
+own-from old place (g ∷ gs) f =
+    let a = le-leb place place (omega arith) in
+    let b : narrowsSource g (ownActions (g .actions)) (getElem? old place) ≡ true = rw (stands-here old place g gs f) (group-self g) in
+    let c = own-from old (suc place) gs (stands-next old place g gs f) in
+    search conj
+
+-- Every ACL narrows to itself, by the hints that name each group and action by its own place.
+pub narrows-itself : (gs : List Group) → narrows gs gs (ownHints 0 gs) ≡ true
+narrows-itself gs = own-from gs 0 gs (λ j g e. rw zero-add e)

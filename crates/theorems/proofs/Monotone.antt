@@ -1,0 +1,197 @@
+-- Narrowing is monotone: what an action of a narrowed ACL admits, the action that its hint names admitted.
+use Prim.Native.Nat.{ℕ, suc, _<_}
+use native.Mathlib.Omega.{arith}
+use mathlib.Core.Path.{_≡_, refl, sym, _∙_}
+use mathlib.Core.Logic.{_⊎_, inl, inr}
+use mathlib.Core.List.{List, [], _∷_}
+use mathlib.Core.Option.{Option, none, some}
+use mathlib.Core.Bool.{Bool, true, not, _&&_, _||_, false≢true}
+use lib.ListN.{getElem?}
+use lib.Dec.{eqb, leb, ltb}
+use borrow.Author.Tests.{eqb-true, eq-eqb, leb-true, le-leb, ltb-true}
+use Rattle.rules.specs.Basics.{Bytes, implies, Every, same, bit, within, present, bothSame, matches}
+use Rattle.rules.specs.Acl.{Parameters, BlobRule, ArchiveRule, Action, permissions, makeBlob, makeArchive, Group}
+use Rattle.rules.specs.Request.{Token, WorkingBlob, RecoveryBlob, Wanted, operation, workingBlob, recoveryBlob, Hint}
+use Rattle.rules.specs.Grant.{tighter, meets, nullKey, admitsDirect, admitsToken, admitsKey, admitsUnder, admitsBlob, admitsArchive, admits}
+use Rattle.rules.specs.Narrow.{kept, keptParameters, blobNoWider, archiveNoWider, noWider, noWiderThan, actionsNoWider, groupNarrows, narrowsSource, narrowsFrom}
+use Rattle.rules.proofs.Laws.{never, and-left, and-right, and-both, or-cases, or-left, or-right, implied, implication, every-at, allBelow-at, allBelow-all, same-eq, eq-same, bothSame-eq}
+
+-- a permission that a request can name
+abbrev pub Known : Wanted → Type 0
+Known (operation p) = p < 16
+Known (workingBlob w) = Unit {0}
+Known (recoveryBlob w) = Unit {0}
+
+pub within-at : (k a b i : ℕ) → i < k → within k a b ≡ true → bit i a ≡ true → bit i b ≡ true
+unfolding within
+within-at k a b i h e p = implied (bit i a) (bit i b) (allBelow-at k (λ i. implies (bit i a) (bit i b)) i h e) p
+
+within-trans : (k a b c : ℕ) → within k a b ≡ true → within k b c ≡ true → within k a c ≡ true
+unfolding within
+within-trans k a b c p q =
+    allBelow-all k (λ i. implies (bit i a) (bit i c))
+    (λ i h. implication (bit i a) (bit i c) (λ r. within-at k b c i h q (within-at k a b i h p r)))
+
+ruleset conj = (and-left, and-right, and-both)
+
+-- a time limit that answers another
+abbrev timeAnswers : ℕ → ℕ → Bool
+timeAnswers new old = eqb old 0 || ltb 0 new && leb new old
+
+time-trans : (p n o : ℕ) → timeAnswers p n ≡ true → timeAnswers n o ≡ true → timeAnswers p o ≡ true
+time-trans p n o d e = pick (or-cases (eqb o 0) (ltb 0 n && leb n o) e) (or-cases (eqb n 0) (ltb 0 p && leb p n) d)
+  where
+    pick : (eqb o 0 ≡ true) ⊎ ((ltb 0 n && leb n o) ≡ true) → (eqb n 0 ≡ true) ⊎ ((ltb 0 p && leb p n) ≡ true) → timeAnswers p o ≡ true
+    pick (inl x) y = or-left (eqb o 0) (ltb 0 p && leb p o) x
+    pick (inr x) (inl y) =
+        let l = ltb-true 0 n (and-left (ltb 0 n) (leb n o) x) in
+        let z = eqb-true n 0 y in
+        absurd (omega arith)
+    pick (inr x) (inr y) =
+        let a = leb-true p n (and-right (ltb 0 p) (leb p n) y) in
+        let b = leb-true n o (and-right (ltb 0 n) (leb n o) x) in
+        or-right (eqb o 0) (ltb 0 p && leb p o)
+        (and-both (ltb 0 p) (leb p o) (and-left (ltb 0 p) (leb p n) y) (le-leb p o (omega arith)))
+
+tighter-trans : (p n o : Parameters) → tighter p n ≡ true → tighter n o ≡ true → tighter p o ≡ true
+tighter-trans p n o d e =
+    let w : within 16 (p .flags) (o .flags) ≡ true = within-trans 16 (p .flags) (n .flags) (o .flags) (search conj) (search conj) in
+    let a = leb-true (o .needed) (n .needed) (search conj) in
+    let b = leb-true (n .needed) (p .needed) (search conj) in
+    let f = leb-true (p .total) (n .total) (search conj) in
+    let g = leb-true (n .total) (o .total) (search conj) in
+    let x : leb (o .needed) (p .needed) ≡ true = le-leb (o .needed) (p .needed) (omega arith) in
+    let y : leb (p .total) (o .total) ≡ true = le-leb (p .total) (o .total) (omega arith) in
+    let t : timeAnswers (p .timeLimit) (o .timeLimit) ≡ true = time-trans (p .timeLimit) (n .timeLimit) (o .timeLimit) (search conj) (search conj) in
+    search conj
+
+-- What a kept restriction lets through, the old one let through.
+kept-matches : (n o : Option Bytes) (h : Bytes) → kept n o ≡ true → matches n h ≡ true → matches o h ≡ true
+kept-matches n none h e p = refl
+kept-matches none (some o) h e p = absurd (false≢true e)
+kept-matches (some n) (some o) h e p = eq-same o h (sym (same-eq n o e) ∙ same-eq n h p)
+
+kept-absent : (n o : Option Bytes) → kept n o ≡ true → not (present n) ≡ true → not (present o) ≡ true
+kept-absent n none e p = refl
+kept-absent none (some o) e p = e
+kept-absent (some n) (some o) e p = p
+
+kept-meets : (n o : Option Parameters) (p : Parameters) → keptParameters n o ≡ true → meets n p ≡ true → meets o p ≡ true
+kept-meets n none p e d = refl
+kept-meets none (some o) p e d = absurd (false≢true e)
+kept-meets (some n) (some o) p e d = tighter-trans p n o d e
+
+kept-without : (n o : Option Parameters) → keptParameters n o ≡ true → not (present n) ≡ true → not (present o) ≡ true
+kept-without n none e p = refl
+kept-without none (some o) e p = e
+kept-without (some n) (some o) e p = p
+
+module _ (n o : BlobRule) (e : blobNoWider n o ≡ true) where
+  key-wider : (km0 key : Bytes) → admitsKey km0 n key ≡ true → admitsKey km0 o key ≡ true
+  key-wider km0 key d =
+      let m : matches (o .kmhash) key ≡ true = kept-matches (n .kmhash) (o .kmhash) key (search conj) (search conj) in
+      let k : (o .nonKm0 || same key km0) ≡ true = pick (or-cases (n .nonKm0) (same key km0) (search conj)) in
+      search conj
+    where
+      pick : (n .nonKm0 ≡ true) ⊎ (same key km0 ≡ true) → (o .nonKm0 || same key km0) ≡ true
+      pick (inl x) = or-left (o .nonKm0) (same key km0) (implied (n .nonKm0) (o .nonKm0) (search conj) x)
+      pick (inr x) = or-right (o .nonKm0) (same key km0) x
+
+  direct-wider : (key : Bytes) → admitsDirect n key ≡ true → admitsDirect o key ≡ true
+  direct-wider key d =
+      let a : o .kmOnly ≡ true = implied (n .kmOnly) (o .kmOnly) (search conj) (search conj) in
+      let b : not (present (o .kthash)) ≡ true = kept-absent (n .kthash) (o .kthash) (search conj) (search conj) in
+      let c : not (present (o .ktparams)) ≡ true = kept-without (n .ktparams) (o .ktparams) (search conj) (search conj) in
+      let f : not (same key nullKey) ≡ true = search conj in
+      search conj
+
+  token-wider : (key : Bytes) (t : Token) → admitsToken n key t ≡ true → admitsToken o key t ≡ true
+  token-wider key t d =
+      let a : matches (o .kthash) (t .hash) ≡ true = kept-matches (n .kthash) (o .kthash) (t .hash) (search conj) (search conj) in
+      let b : meets (o .ktparams) (t .parameters) ≡ true = kept-meets (n .ktparams) (o .ktparams) (t .parameters) (search conj) (search conj) in
+      let c : implies (same key nullKey) (o .nullToken) ≡ true =
+      implication (same key nullKey) (o .nullToken)
+      (λ x. implied (n .nullToken) (o .nullToken) (search conj) (implied (same key nullKey) (n .nullToken) (search conj) x)) in
+      search conj
+
+  under-wider : (key : Bytes) (t : Option Token) → admitsUnder n key t ≡ true → admitsUnder o key t ≡ true
+  under-wider key none d = direct-wider key d
+  under-wider key (some t) d = token-wider key t d
+
+  blob-wider : (km0 : Bytes) (w : WorkingBlob) → admitsBlob km0 n w ≡ true → admitsBlob km0 o w ≡ true
+  blob-wider km0 w d =
+      let a = key-wider km0 (w .key) (and-left (admitsKey km0 n (w .key)) (admitsUnder n (w .key) (w .token)) d) in
+      let b = under-wider (w .key) (w .token) (and-right (admitsKey km0 n (w .key)) (admitsUnder n (w .key) (w .token)) d) in
+      and-both (admitsKey km0 o (w .key)) (admitsUnder o (w .key) (w .token)) a b
+
+archive-wider : (n o : ArchiveRule) (w : RecoveryBlob) → archiveNoWider n o ≡ true → admitsArchive n w ≡ true → admitsArchive o w ≡ true
+archive-wider n o w e d =
+    let x = eqb-true (n .mechanism) (o .mechanism) (search conj) in
+    let y = eqb-true (n .mechanism) (w .mechanism) (search conj) in
+    let a = eq-eqb (o .mechanism) (w .mechanism) (omega arith) in
+    let b = kept-matches (n .kahash) (o .kahash) (w .key) (search conj) (search conj) in
+    search conj
+
+-- What an action admits, a wider one admits.
+pub admits-wider : (km0 : Bytes) (w : Wanted) (n o : Action) → Known w → noWider n o ≡ true → admits km0 w n ≡ true → admits km0 w o ≡ true
+unfolding admits noWider
+admits-wider km0 (operation p) (permissions n) (permissions o) k e d = within-at 16 n o p k e d
+admits-wider km0 (operation p) (permissions n) (makeBlob o) k e d = e
+admits-wider km0 (operation p) (permissions n) (makeArchive o) k e d = e
+admits-wider km0 (operation p) (makeBlob n) o k e d = absurd (false≢true d)
+admits-wider km0 (operation p) (makeArchive n) o k e d = absurd (false≢true d)
+admits-wider km0 (workingBlob w) (permissions n) o k e d = absurd (false≢true d)
+admits-wider km0 (workingBlob w) (makeBlob n) (permissions o) k e d = e
+admits-wider km0 (workingBlob w) (makeBlob n) (makeBlob o) k e d = blob-wider n o e km0 w d
+admits-wider km0 (workingBlob w) (makeBlob n) (makeArchive o) k e d = e
+admits-wider km0 (workingBlob w) (makeArchive n) o k e d = absurd (false≢true d)
+admits-wider km0 (recoveryBlob w) (permissions n) o k e d = absurd (false≢true d)
+admits-wider km0 (recoveryBlob w) (makeBlob n) o k e d = absurd (false≢true d)
+admits-wider km0 (recoveryBlob w) (makeArchive n) (permissions o) k e d = e
+admits-wider km0 (recoveryBlob w) (makeArchive n) (makeBlob o) k e d = e
+admits-wider km0 (recoveryBlob w) (makeArchive n) (makeArchive o) k e d = archive-wider n o w e d
+
+-- If all that the source's actions admit is good (of a KM0 and a wanted thing), so is all that the new group's actions admit.
+module _ (Good : Bytes → Wanted → Type 0) where
+  -- all that an action admits is good
+  abbrev pub Confined : Action → Type 0
+  Confined a = (km0 : Bytes) (w : Wanted) → Known w → admits km0 w a ≡ true → Good km0 w
+
+  pub actions-confined : (new : List Action) (hints : List ℕ) (old : List Action) → actionsNoWider new hints old ≡ true → Every Confined old → Every Confined new
+  unfolding actionsNoWider
+  actions-confined [] hints old e h = tt
+  actions-confined (a ∷ rest) [] old e h = absurd (false≢true e)
+  actions-confined (a ∷ rest) (i ∷ is) old e h = (
+    named (getElem? old i) refl (and-left (noWiderThan a (getElem? old i)) (actionsNoWider rest is old) e),
+    actions-confined rest is old (and-right (noWiderThan a (getElem? old i)) (actionsNoWider rest is old) e) h,
+  )
+    where
+      named : (o : Option Action) → getElem? old i ≡ o → noWiderThan a o ≡ true → Confined a
+      named none q f = absurd (false≢true f)
+      named (some o) q f = λ km0 w k d. every-at Confined old i o h q km0 w k (admits-wider km0 w a o k f d)
+
+-- A group is safe if the officer's key is its certifier, or all that its actions admit is good. A narrowing keeps groups safe.
+module _ (officer : Option Bytes) (Good : Bytes → Wanted → Type 0) where
+  abbrev pub Safe : Group → Type 0
+  Safe g = (bothSame officer (g .certifier) ≡ true) ⊎ Every (Confined Good) (g .actions)
+
+  kept-officer : (n o : Option Bytes) → kept n o ≡ true → bothSame officer o ≡ true → bothSame officer n ≡ true
+  kept-officer n none e d = let q = bothSame-eq officer none d in absurd (never (cc))
+  kept-officer none (some o) e d = absurd (false≢true e)
+  kept-officer (some n) (some o) e d = rw (same-eq n o e) d
+
+  group-safe : (n : Group) (hints : List ℕ) (o : Group) → groupNarrows n hints o ≡ true → Safe o → Safe n
+  group-safe n hints o e (inl d) = inl (kept-officer (n .certifier) (o .certifier) (search conj) d)
+  group-safe n hints o e (inr h) = inr (actions-confined Good (n .actions) hints (o .actions) (search conj) h)
+
+  pub narrowed-safe : (old : List Group) (low : ℕ) (new : List Group) (hints : List Hint) → narrowsFrom old low new hints ≡ true → Every Safe old → Every Safe new
+  unfolding narrowsFrom
+  narrowed-safe old low [] [] e h = tt
+  narrowed-safe old low [] (i ∷ is) e h = tt
+  narrowed-safe old low (n ∷ ns) [] e h = absurd (false≢true e)
+  narrowed-safe old low (n ∷ ns) (i ∷ is) e h =
+      (named (getElem? old (i .source)) refl (search conj), narrowed-safe old (suc (i .source)) ns is (search conj) h)
+    where
+      named : (o : Option Group) → getElem? old (i .source) ≡ o → narrowsSource n (i .actions) o ≡ true → Safe n
+      named none q f = absurd (false≢true f)
+      named (some o) q f = group-safe n (i .actions) o f (every-at Safe old (i .source) o h q)

@@ -1,0 +1,95 @@
+-- Every call keeps the lengths of the ledger's tables, 16 and 96.
+use Prim.Native.Nat.{ℕ, _+_, _-_, _*_, _≤_, _/_, _%_}
+use native.Mathlib.Omega.{arith}
+use mathlib.Core.Path.{_≡_, refl, _∙_}
+use mathlib.Core.List.{List, [], _∷_, map}
+use mathlib.Core.Option.{Option, none, some}
+use mathlib.Core.Bool.{Bool, true, false, _&&_}
+use lib.ListN.{length, getD, replicate, length-set, length-append, length-replicate, length-map}
+use lib.Dec.{eqb, leb, ltb}
+use borrow.Author.Tests.{leb-true}
+use Rattle.rules.specs.Sizes.{recordBytes, groupsMax, countersMax, aclRecords, hintRecords}
+use Rattle.rules.specs.Numbers.{badLength}
+use Rattle.rules.specs.Basics.{Bytes, records, fits}
+use Rattle.rules.specs.Acl.{Group, aclOf}
+use Rattle.rules.specs.Request.{Request, requestOf, Hint, hintOf, hintsOf}
+use Rattle.rules.specs.Ledger.{Ledger, freshLedger, charge, carried}
+use Rattle.rules.specs.Narrow.{narrows}
+use Rattle.rules.specs.Gate.{Outcome, Judgement, granted, denied, judge, permitted, unlessFault, settle, lengthsFit, requestFiles, request, clear, narrowFiles, narrowed, narrow, expandFiles, expanded, expand}
+use Rattle.rules.proofs.Laws.{and-right, unless-passed, fault-none-every, chunks-length}
+use Rattle.theorems.specs.Demands.{Call, requesting, loading, clearing, narrowing, expanding, State, outcome, after, afterAll}
+use Rattle.theorems.proofs.Permit.{called}
+use Rattle.theorems.proofs.Counters.{raisedBy-length}
+
+-- "sixteen group counts, ninety-six named counters"
+pub record Sized (l : Ledger) : Type 0 where
+  pub groups : length (l .counts) ≡ groupsMax
+  pub named : length (l .counters) ≡ countersMax
+
+pub fresh-sized : Sized freshLedger
+fresh-sized = record { groups = length-replicate {A = ℕ} groupsMax 0; named = length-replicate {A = ℕ} countersMax 0 }
+
+charge-sized : (l : Ledger) (k : ℕ) (g : Group) (time : ℕ) → Sized l → Sized (charge l k g time)
+unfolding charge
+charge-sized l k g time h =
+    record { groups = length-set (l .counts) k (getD (l .counts) k 0 + 1) ∙ h .groups; named = raisedBy-length (l .counters) (g .limits) (l .counters) ∙ h .named }
+
+called-sized : (fault : Option ℕ) (l : Ledger) (km0 : Bytes) (gs : List Group) (q : Request) (onPermit : ℕ → Ledger → Outcome) → Sized l
+    → ((k : ℕ) (m : Ledger) → fault ≡ none → Sized m → Sized (onPermit k m .ledger)) → Sized (called fault l km0 gs q onPermit .ledger)
+called-sized fault l km0 gs q onPermit h f = pick fault (judge l km0 gs q) f
+  where
+    pick : (o : Option ℕ) (j : Judgement) → ((k : ℕ) (m : Ledger) → o ≡ none → Sized m → Sized (onPermit k m .ledger)) → Sized (unlessFault l o (settle l (q .time) onPermit j) .ledger)
+    pick (some x) j f = h
+    pick none (granted k g) f = f k (charge l k g (q .time)) refl (charge-sized l k g (q .time) h)
+    pick none (denied d) f = h
+
+-- a hints file of at most 16 records has as many hints
+hints-few : (hints : Bytes) → fits hintRecords hints ≡ true → length (hintsOf hints) ≤ groupsMax
+unfolding records
+hints-few hints e =
+    let a = leb-true (length hints) (hintRecords * recordBytes) (and-right (eqb (length hints % recordBytes) 0) (leb (length hints) (hintRecords * recordBytes)) e) in
+    let b : length (hintsOf hints) ≡ length hints / 64 = length-map (records hints) hintOf ∙ chunks-length (length hints / 64) hints in
+    omega arith
+
+carried-sized : (counts : List ℕ) (hints : List Hint) → length hints ≤ groupsMax → length (carried counts hints) ≡ groupsMax
+carried-sized counts hints h =
+    let a = length-map hints (λ (x : Hint). getD counts (x .source) 0) in
+    let b = length-append (map (λ (x : Hint). getD counts (x .source) 0) hints) (replicate (groupsMax - length hints) 0) in
+    let c = length-replicate {A = ℕ} (groupsMax - length hints) 0 in
+    omega arith
+
+narrow-sized : (l : Ledger) (km0 acl req new hints : Bytes) → Sized l → Sized (narrow l km0 acl req new hints .ledger)
+unfolding narrow
+narrow-sized l km0 acl req new hints h =
+    called-sized (narrowFiles km0 acl req new hints) l km0 (aclOf acl) (requestOf req) (narrowed l (aclOf acl) (aclOf new) (hintsOf hints)) h
+    (λ k m e s. pick k m e s (narrows (aclOf acl) (aclOf new) (hintsOf hints)) refl)
+  where
+    few : narrowFiles km0 acl req new hints ≡ none → length (hintsOf hints) ≤ groupsMax
+    few e =
+        let t = unless-passed (lengthsFit km0 acl req && fits aclRecords new && fits hintRecords hints) badLength (fault-none-every _ e .0) in
+        hints-few hints (and-right (lengthsFit km0 acl req && fits aclRecords new) (fits hintRecords hints) t)
+
+    pick : (k : ℕ) (m : Ledger) → narrowFiles km0 acl req new hints ≡ none → Sized m → (b : Bool) → narrows (aclOf acl) (aclOf new) (hintsOf hints) ≡ b
+        → Sized (narrowed l (aclOf acl) (aclOf new) (hintsOf hints) k m .ledger)
+    pick k m e s true d = rw d (record { groups = carried-sized (m .counts) (hintsOf hints) (few e); named = s .named })
+    pick k m e s false d = rw d h
+
+pub call-sized : (s : State) (c : Call) → Sized (s .ledger) → Sized (outcome s c .ledger)
+unfolding outcome request clear expand
+call-sized s (requesting km0 req) h =
+    called-sized (requestFiles km0 (s .acl) req) (s .ledger) km0 (aclOf (s .acl)) (requestOf req) permitted h (λ k m e t. t)
+call-sized s (loading time) h = record { groups = length-replicate {A = ℕ} groupsMax 0; named = h .named }
+call-sized s (clearing counter) h = pick (ltb counter countersMax) refl
+  where
+    pick : (b : Bool) → ltb counter countersMax ≡ b → Sized (clear (s .ledger) counter .ledger)
+    pick true e = rw e (record { groups = h .groups; named = length-set (s .ledger .counters) counter 0 ∙ h .named })
+    pick false e = rw e h
+call-sized s (narrowing km0 req new hints) h = narrow-sized (s .ledger) km0 (s .acl) req new hints h
+call-sized s (expanding km0 req new) h =
+    called-sized (expandFiles km0 (s .acl) req new) (s .ledger) km0 (aclOf (s .acl)) (requestOf req) expanded h
+    (λ k m e t. record { groups = length-replicate {A = ℕ} groupsMax 0; named = t .named })
+
+pub calls-sized : (s : State) (cs : List Call) → Sized (s .ledger) → Sized (afterAll s cs .ledger)
+unfolding afterAll after
+calls-sized s [] h = h
+calls-sized s (c ∷ cs) h = calls-sized (after s c) cs (call-sized s c h)
