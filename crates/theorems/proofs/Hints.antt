@@ -1,4 +1,5 @@
--- What hints that show a narrowing are, and that an ACL narrows to itself.
+-- What hints that show a narrowing are: one for each new group, with sources that rise strictly; and an ACL narrows to itself. Two wrong products that
+-- this rules out: one that lets two new groups share one source, and one whose narrowing check always says 8.
 use Prim.Native.Nat.{ℕ, zero, suc, _+_, _-_, _≤_, _<_}
 use native.Mathlib.Omega.{arith}
 use native.Mathlib.Nat.{add-zero, zero-add, suc-add, add-suc}

@@ -1,4 +1,5 @@
--- Narrowing is monotone: what an action of a narrowed ACL admits, the action that its hint names admitted.
+-- A narrowing gives nothing new: what an action of the new ACL admits, the action that its hint names admitted; and a group that was safe stays so.
+-- Two wrong products that this rules out: one whose narrowing lets an allowing flag be added, and one whose narrowing lets ktparams be loosened.
 use Prim.Native.Nat.{ℕ, suc, _<_}
 use native.Mathlib.Omega.{arith}
 use mathlib.Core.Path.{_≡_, refl, sym, _∙_}

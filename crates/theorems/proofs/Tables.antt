@@ -1,4 +1,5 @@
--- Every call keeps the lengths of the ledger's tables, 16 and 96.
+-- Every call keeps the lengths of the ledger's tables, 16 and 96. Two wrong products that this rules out: one whose narrowing hands back as many counts
+-- as there are new groups, and one whose expansion drops the counts.
 use Prim.Native.Nat.{ℕ, _+_, _-_, _*_, _≤_, _/_, _%_}
 use native.Mathlib.Omega.{arith}
 use mathlib.Core.Path.{_≡_, refl, _∙_}

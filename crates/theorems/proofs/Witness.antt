@@ -1,5 +1,6 @@
 -- Demand 3 speaks of something: a bundle that the desk accepts under approach 2, and a sequence of calls without the officer's certificate in which
--- a token blob, a recovery blob, a narrowing and a use are permitted, and others refused with 8, 7 and 4.
+-- a token blob, a recovery blob, a narrowing and a use are permitted, and others refused with 8, 7 and 4. Two wrong products that this rules out: a
+-- desk that accepts nothing, and a gate that permits no blob.
 use mathlib.Core.Path.{_≡_, refl}
 use mathlib.Core.List.{List, [], _∷_, _++_, map}
 use mathlib.Core.Bool.{true, false}
