@@ -8,6 +8,7 @@ use mathlib.Core.Bool.{Bool, true, false, not, _&&_, _||_}
 use lib.ListN.{length, getD, take, drop}
 use lib.Dec.{eqb, leb}
 use Rattle.rules.specs.Sizes.{recordBytes}
+use Rattle.rules.specs.Numbers.{badLength, malformed, tooMany}
 
 -- a choice by a test
 infix 5 if_then_else_
@@ -133,7 +134,7 @@ unfoldable pub records : Bytes → List Bytes
 records bs = chunks (length bs / recordBytes) bs
 
 -- whole records, and not more than `most` of them
-abbrev pub fits : ℕ → Bytes → Bool
+unfoldable pub fits : ℕ → Bytes → Bool
 fits most bs = eqb (length bs % recordBytes) 0 && leb (length bs) (most * recordBytes)
 
 -- The first fault of a list of tests, each done after those before it.
@@ -151,6 +152,10 @@ unfoldable pub firstFault : {F : Type 0} → List (Option F) → Option F
 firstFault [] = none
 firstFault (t ∷ ts) = orNext t (firstFault ts)
 
+-- "within one record 2 before 3": a record that is good as it stands there, and for which there is room
+unfoldable pub recordFault : Bool → Bool → Option ℕ
+recordFault good room = firstFault (unless good malformed ∷ unless room tooMany ∷ [])
+
 -- the first fault of a file's records, each judged by itself
 unfoldable pub eachFault : {F : Type 0} → (Bytes → Option F) → List Bytes → Option F
 eachFault fault rs = firstFault (map fault rs)
@@ -159,3 +164,7 @@ eachFault fault rs = firstFault (map fault rs)
 unfoldable pub scan : {S F : Type 0} → (S → Bytes → Option F) → (S → Bytes → S) → (S → Option F) → S → List Bytes → Option F
 scan fault next end s [] = end s
 scan fault next end s (r ∷ rs) = orNext (fault s r) (scan fault next end (next s r) rs)
+
+-- A file by itself: "1 a file not whole records or over its greatest length", then its records from the first.
+unfoldable pub fileFault : ℕ → (List Bytes → Option ℕ) → Bytes → Option ℕ
+fileFault most fault file = firstFault (unless (fits most file) badLength ∷ fault (records file) ∷ [])

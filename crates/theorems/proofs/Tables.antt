@@ -46,7 +46,7 @@ called-sized fault l km0 gs q onPermit h f = pick fault (judge l km0 gs q) f
 
 -- a hints file of at most 16 records has as many hints
 hints-few : (hints : Bytes) → fits hintRecords hints ≡ true → length (hintsOf hints) ≤ groupsMax
-unfolding records
+unfolding records fits
 hints-few hints e =
     let a = leb-true (length hints) (hintRecords * recordBytes) (and-right (eqb (length hints % recordBytes) 0) (leb (length hints) (hintRecords * recordBytes)) e) in
     let b : length (hintsOf hints) ≡ length hints / 64 = length-map (records hints) hintOf ∙ chunks-length (length hints / 64) hints in
