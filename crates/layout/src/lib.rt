@@ -6,9 +6,6 @@ ghost use Rattle.rules.specs.Sizes.{recordBytes};
 ghost use Rattle.rules.specs.Basics.{within};
 ghost use Rattle.rules.specs.Layout.{header, zeroUnless, mechanismAt, tokenParametersIf, certifierMechanism, counterOfSort, groupLaidOut, limitLaidOut, permissionsLaidOut, blobActionLaidOut, archiveActionLaidOut, useLaidOut, blobRequestLaidOut, recoveryLaidOut, certificateLaidOut, factLaidOut, signatureLaidOut, policyLaidOut, hintLaidOut};
 
-// How many named counters there are.
-const COUNTERS: u8 = 96;
-
 // Byte 1 is zero, and no flag is set but those listed.
 fn plain_header(listed: u16, s: &[u8]) -> bool
     requires { ⌜ 4 ≤ length (now s) ⌝ }
@@ -63,7 +60,7 @@ fn counter_of_sort(sort: u8, counter: u8) -> bool
     ensures { λ r. ⌜ r ≡ counterOfSort sort counter ⌝ }
 {
     if sort == 2 {
-        return counter < COUNTERS;
+        return (counter as usize) < sizes::COUNTERS;
     }
     counter == 0
 }

@@ -1,4 +1,6 @@
 pub mod Laws
 pub mod Choices
+pub mod Rows
+pub mod Faults
 pub mod Samples
 pub mod Examples

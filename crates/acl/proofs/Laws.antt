@@ -1,0 +1,101 @@
+-- The turns of the loops of this crate, and what a key added to those of a group comes to.
+use Prim.Native.Nat.{ℕ, suc, _+_, _-_, _≤_, _<_, min}
+use native.Mathlib.Omega.{arith}
+use native.Mathlib.Numerals.{add-one}
+use mathlib.Core.Path.{_≡_, refl, sym, _∙_, ap}
+use mathlib.Core.List.{List, [], _∷_, _++_}
+use mathlib.Core.Option.{Option, none, some}
+use mathlib.Core.Bool.{Bool, true, false, not, _&&_, _||_}
+use lib.ListN.{length, take, drop, getD, set, drop-of-length-le, length-take}
+use lib.Seq.{drop-cons, take-suc-set}
+use lib.Dec.{eqb, ltb}
+use borrow.Author.Tests.{eq-eqb, ne-eqb, lt-ltb, le-ltb, ltb-true, ltb-false, not-false}
+use Rattle.rules.specs.Sizes.{groupsMax, limitsMax, actionsMax}
+use Rattle.rules.specs.Numbers.{malformed, tooMany}
+use Rattle.rules.specs.Basics.{Bytes, any, kind, recordFault}
+use Rattle.rules.specs.Layout.{limitLaidOut}
+use Rattle.rules.specs.Acl.{AclPlace, among, limitKey, limitInPlace, inPlace, hasRoom, aclRecordFault, limitAdded}
+use Rattle.acl.specs.declared.Place.{Place}
+use Rattle.acl.specs.Places.{placeOf}
+use Rattle.rules.proofs.Rows.{bad-record, full-record, sound-record}
+
+-- A key among some, by a loop: what is left has the whole's answer.
+module _ (key : ℕ) (keys : List ℕ) (i : ℕ) (inv : among key (drop i keys) ≡ among key keys) where
+  among-at : i < length keys → among key keys ≡ (eqb (getD keys i 0) key || among key (drop (i + 1) keys))
+  unfolding among any
+  among-at h = sym inv ∙ rw (add-one, drop-cons keys i 0)
+
+  pub among-stop : i < length keys → getD keys i 0 ≡ key → true ≡ among key keys
+  among-stop h e = sym (among-at h ∙ rw (eq-eqb _ _ e))
+
+  pub among-next : i < length keys → (getD keys i 0 ≡ key → ⊥) → among key (drop (i + 1) keys) ≡ among key keys
+  among-next h n = sym (among-at h ∙ rw (ne-eqb _ _ n))
+
+  pub among-done : length keys ≤ i → false ≡ among key keys
+  unfolding among any
+  among-done h = rw (drop-of-length-le keys {i = i} h) at inv
+
+-- the first n of a row's keys have room for one more exactly if n is below the row's length
+pub room-left : (n k : ℕ) (keys : List ℕ) → length keys ≡ k → ltb n k ≡ ltb (length (take n keys)) k
+room-left n k keys e = pick (ltb n k) refl
+  where
+    pick : (b : Bool) → ltb n k ≡ b → b ≡ ltb (length (take n keys)) k
+    pick true d = let l = ltb-true n k d in sym (lt-ltb (length (take n keys)) k (omega (arith, length-take n keys)))
+    pick false d = let l = ltb-false n k d in sym (le-ltb (length (take n keys)) k (omega (arith, length-take n keys)))
+
+-- a key stored after the first n
+key-added : (n key : ℕ) (keys : List ℕ) → n < length keys → take (n + 1) (set keys n key) ≡ take n keys ++ (key ∷ [])
+key-added n key keys h = rw add-one (take-suc-set keys n key h)
+
+pub place-added : (p : Place) (key : ℕ) → p .limits < length (p .keys)
+    → placeOf (record { groups = p .groups; limits = p .limits + 1; actions = p .actions; keys = set (p .keys) (p .limits) key }) ≡ limitAdded (placeOf p) key
+place-added p key h = ap (λ (l : List ℕ). record { groups = p .groups; limits = l; actions = p .actions }) (key-added (p .limits) key (p .keys) h)
+
+-- The fault of a record, by what the two tests answered.
+module _ (s : AclPlace) (r : Bytes) (a : Bool) (e : a ≡ inPlace s r) where
+  pub acl-bad : not a ≡ true → aclRecordFault s r ≡ some malformed
+  unfolding aclRecordFault
+  acl-bad h = bad-record (inPlace s r) (hasRoom s r) a e h
+
+  pub acl-full : (b : Bool) → b ≡ hasRoom s r → not a ≡ false → not b ≡ true → aclRecordFault s r ≡ some tooMany
+  unfolding aclRecordFault
+  acl-full b d h k = full-record (inPlace s r) (hasRoom s r) a e b d h k
+
+  pub acl-sound : (b : Bool) → b ≡ hasRoom s r → not a ≡ false → not b ≡ false → aclRecordFault s r ≡ none
+  unfolding aclRecordFault
+  acl-sound b d h k = sound-record (inPlace s r) (hasRoom s r) a e b d h k
+
+-- what room says of each kind
+module _ (p : Place) (r : Bytes) (h : hasRoom (placeOf p) r ≡ true) where
+  pub group-fits : kind r ≡ 1 → p .groups + 1 < groupsMax + 1
+  unfolding hasRoom
+  group-fits e = let d = ltb-true (p .groups) groupsMax (rw (eq-eqb (kind r) 1 e) at h) in omega arith
+
+  pub limit-fits : (kind r ≡ 1 → ⊥) → kind r ≡ 2 → length (p .keys) ≡ limitsMax → p .limits < limitsMax
+  unfolding hasRoom
+  limit-fits n e l =
+      ltb-true (p .limits) limitsMax (room-left (p .limits) limitsMax (p .keys) l ∙ rw (ne-eqb (kind r) 1 n, eq-eqb (kind r) 2 e) at h)
+
+  pub action-fits : (kind r ≡ 1 → ⊥) → (kind r ≡ 2 → ⊥) → p .actions + 1 < actionsMax + 1
+  unfolding hasRoom
+  action-fits n m = let d = ltb-true (p .actions) actionsMax (rw (ne-eqb (kind r) 1 n, ne-eqb (kind r) 2 m) at h) in omega arith
+
+-- the part of a group's keys that stands for limits
+module _ (n k : ℕ) (keys : List ℕ) (e : length keys ≡ k) (h : n ≤ k) where
+  pub row-holds : n ≤ length keys
+  row-holds = omega arith
+
+  pub row-part : n ≡ length (take n keys)
+  row-part = omega (arith, length-take n keys)
+
+-- a limit's key, as `be16` read it
+module _ (s : AclPlace) (r : Bytes) (key : ℕ) (e : key ≡ limitKey r) where
+  pub limit-placed : (a b : Bool) → a ≡ limitLaidOut r → b ≡ limitInPlace s key → (a && b) ≡ (limitLaidOut r && limitInPlace s (limitKey r))
+  limit-placed a b p q = rw (p, q, e)
+
+  pub limit-next : (t : AclPlace) → t ≡ limitAdded s key → t ≡ limitAdded s (limitKey r)
+  limit-next t p = p ∙ ap (limitAdded s) e
+
+-- a call that answered yes
+pub was-true : (r t : Bool) → r ≡ t → not r ≡ false → t ≡ true
+was-true r t e h = sym e ∙ not-false r h

@@ -1,0 +1,172 @@
+// An ACL file: its first fault. Reading goes record by record and carries where it stands.
+ghost use mathlib.Core.Path.{_≡_};
+ghost use mathlib.Core.Bool.{true};
+ghost use Prim.Native.Nat.{_≤_, _<_};
+ghost use lib.ListN.{length};
+ghost use Rattle.rules.specs.Sizes.{recordBytes, limitsMax};
+ghost use Rattle.rules.specs.Basics.{records};
+ghost use Rattle.rules.specs.Acl.{aclStart, among, limitInPlace, actionLaidOut, inPlace, hasRoom, limitAdded, afterRecord, aclFault, aclFileFault};
+ghost use Rattle.files.specs.Refusals.{faultOf};
+ghost use Rattle.acl.specs.Places.{placeOf};
+use files::Checked;
+use files::Refusal;
+
+// Where reading stands: groups begun; of the last group the limits, with the sort and counter of each, and the actions.
+struct Place {
+    groups: usize,
+    limits: usize,
+    actions: usize,
+    keys: [u16; sizes::LIMITS],
+}
+
+// Whether a number is among some.
+fn is_among(key: u16, keys: &[u16]) -> bool
+    ensures { λ r. ⌜ r ≡ among key (now (keys .entry)) ⌝ }
+{
+    let mut i = 0;
+    while i < keys.len() {
+        if keys[i] == key {
+            return true;
+        }
+        i += 1;
+    }
+    false
+}
+
+// Whether a record is a well-formed action.
+fn action(rec: &[u8]) -> bool
+    requires { ⌜ length (now rec) ≡ recordBytes ⌝ }
+    ensures { λ r. ⌜ r ≡ actionLaidOut (now (rec .entry)) ⌝ }
+{
+    let kind = rec[0];
+    if kind == 3 {
+        return layout::permissions(rec);
+    }
+    if kind == 4 {
+        return layout::blob_action(rec);
+    }
+    if kind == 5 {
+        return layout::archive_action(rec);
+    }
+    false
+}
+
+impl Place {
+    fn start() -> Self
+        ensures { λ r. ⌜ (placeOf r ≡ aclStart) × (r .limits ≤ limitsMax) ⌝ }
+    {
+        Self {
+            groups: 0,
+            limits: 0,
+            actions: 0,
+            keys: [0u16; sizes::LIMITS],
+        }
+    }
+
+    // Whether a limit of this sort and counter may stand here.
+    fn takes_limit(self, key: u16) -> bool
+        requires { ⌜ self .limits ≤ limitsMax ⌝ }
+        ensures { λ r. ⌜ r ≡ limitInPlace (placeOf self) key ⌝ }
+    {
+        let keys = self.keys;
+        let n = self.limits;
+        (0 < self.groups) & (self.actions == 0) & !is_among(key, &keys[..n])
+    }
+
+    // Whether a record is well formed and may stand here.
+    fn in_place(self, rec: &[u8]) -> bool
+        requires { ⌜ (self .limits ≤ limitsMax) × (length (now rec) ≡ recordBytes) ⌝ }
+        ensures { λ r. ⌜ r ≡ inPlace (placeOf self) (now (rec .entry)) ⌝ }
+    {
+        let kind = rec[0];
+        if kind == 1 {
+            return layout::group(rec);
+        }
+        if kind == 2 {
+            return layout::limit(rec) & self.takes_limit(fields::be16(rec, 4));
+        }
+        action(rec) & (0 < self.groups)
+    }
+
+    // Whether there is room for one more of a record's kind.
+    fn has_room(self, rec: &[u8]) -> bool
+        requires { ⌜ (self .limits ≤ limitsMax) × (length (now rec) ≡ recordBytes) ⌝ }
+        ensures { λ r. ⌜ r ≡ hasRoom (placeOf self) (now (rec .entry)) ⌝ }
+    {
+        let kind = rec[0];
+        if kind == 1 {
+            return self.groups < sizes::GROUPS;
+        }
+        if kind == 2 {
+            return self.limits < sizes::LIMITS;
+        }
+        self.actions < sizes::ACTIONS
+    }
+
+    // Where reading stands after a limit for which there is room.
+    fn after_limit(mut self, key: u16) -> Self
+        requires { ⌜ self .limits < limitsMax ⌝ }
+        ensures { λ r. ⌜ (placeOf r ≡ limitAdded (placeOf self) key) × (r .limits ≤ limitsMax) ⌝ }
+    {
+        let n = self.limits;
+        self.keys[n] = key;
+        self.limits = n + 1;
+        self
+    }
+
+    // Where reading stands after a record for which there is room.
+    fn after(self, rec: &[u8]) -> Self
+        requires { ⌜ (hasRoom (placeOf self) (now rec) ≡ true) × (self .limits ≤ limitsMax) × (length (now rec) ≡ recordBytes) ⌝ }
+        ensures { λ r. ⌜ (placeOf r ≡ afterRecord (placeOf self) (now (rec .entry))) × (r .limits ≤ limitsMax) ⌝ }
+    {
+        let kind = rec[0];
+        let keys = self.keys;
+        if kind == 1 {
+            return Self {
+                groups: self.groups + 1,
+                limits: 0,
+                actions: 0,
+                keys: keys,
+            };
+        }
+        if kind == 2 {
+            return self.after_limit(fields::be16(rec, 4));
+        }
+        Self {
+            groups: self.groups,
+            limits: self.limits,
+            actions: self.actions + 1,
+            keys: keys,
+        }
+    }
+}
+
+// The first fault of an ACL's records, from the first on; 2 before 3 within a record.
+pub fn acl_records(acl: &[u8]) -> Checked
+    ensures { λ r. ⌜ faultOf r ≡ aclFault (records (now (acl .entry))) ⌝ }
+{
+    let mut place = Place::start();
+    let mut at = 0;
+    while 64 <= acl.len() - at {
+        let rec = &acl[at..at + 64];
+        if !place.in_place(rec) {
+            return Checked::Refused(Refusal::Malformed);
+        }
+        if !place.has_room(rec) {
+            return Checked::Refused(Refusal::TooMany);
+        }
+        place = place.after(rec);
+        at += 64;
+    }
+    Checked::Sound
+}
+
+// The first fault of an ACL file: its length, then its records.
+pub fn acl_file(acl: &[u8]) -> Checked
+    ensures { λ r. ⌜ faultOf r ≡ aclFileFault (now (acl .entry)) ⌝ }
+{
+    if !files::whole(sizes::ACL_RECORDS, acl) {
+        return Checked::Refused(Refusal::BadLength);
+    }
+    acl_records(acl)
+}

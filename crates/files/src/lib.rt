@@ -1,0 +1,53 @@
+// What every reader of a file answers with, and the test of a file's length.
+ghost use mathlib.Core.Path.{_≡_};
+ghost use Prim.Native.Nat.{_≤_};
+ghost use Rattle.rules.specs.Basics.{fits};
+ghost use Rattle.files.specs.Refusals.{refusalNumber};
+
+// A refusal of document 01's table; refusalNumber gives its number there.
+pub enum Refusal {
+    BadLength,
+    Malformed,
+    TooMany,
+    ClockBack,
+    NotAdmitted,
+    NotCertified,
+    Spent,
+    NotNarrower,
+    ShortBuffer,
+    OutOfRange,
+    UnknownSuite,
+}
+
+// What a reader finds: no fault, or the first one.
+pub enum Checked {
+    Sound,
+    Refused(Refusal),
+}
+
+// The number of a refusal in document 01's table.
+pub fn number(r: Refusal) -> u8
+    ensures { λ n. ⌜ n ≡ refusalNumber r ⌝ }
+{
+    match r {
+        Refusal::BadLength => 1,
+        Refusal::Malformed => 2,
+        Refusal::TooMany => 3,
+        Refusal::ClockBack => 4,
+        Refusal::NotAdmitted => 5,
+        Refusal::NotCertified => 6,
+        Refusal::Spent => 7,
+        Refusal::NotNarrower => 8,
+        Refusal::ShortBuffer => 9,
+        Refusal::OutOfRange => 10,
+        Refusal::UnknownSuite => 11,
+    }
+}
+
+// Whether a file is whole records, and not more than `most` of them. No file has over 65,535.
+pub fn whole(most: usize, s: &[u8]) -> bool
+    requires { ⌜ most ≤ 65535 ⌝ }
+    ensures { λ r. ⌜ r ≡ fits most (now (s .entry)) ⌝ }
+{
+    (s.len() % sizes::RECORD == 0) & (s.len() <= most * sizes::RECORD)
+}

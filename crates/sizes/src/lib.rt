@@ -1,0 +1,31 @@
+// The sizes of document 01 that code goes by, each named once. The definitions have the same names in crates/rules/specs/Sizes.antt.
+
+// Bytes of a record.
+pub const RECORD: usize = 64;
+
+// Bytes of a hash.
+pub const HASH: usize = 20;
+
+// Groups of an ACL, limits and actions of a group.
+pub const GROUPS: usize = 16;
+
+pub const LIMITS: usize = 4;
+
+pub const ACTIONS: usize = 8;
+
+// Named counters.
+pub const COUNTERS: usize = 96;
+
+// Certificates of a request, and listed module keys of a bundle.
+pub const CERTIFICATES: usize = 32;
+
+pub const LISTED: usize = 32;
+
+// The greatest lengths of files, in records.
+pub const ACL_RECORDS: usize = GROUPS * (1 + LIMITS + ACTIONS);
+
+pub const REQUEST_RECORDS: usize = 1 + CERTIFICATES;
+
+pub const BUNDLE_RECORDS: usize = 13 + LISTED + 6 + 1;
+
+pub const HINT_RECORDS: usize = GROUPS;
