@@ -1,0 +1,22 @@
+use Rattle.rules.specs.Basics.{fileFault}
+use Rattle.rules.proofs.Faults.{fault-here, fault-later, fault-last}
+use borrow.Author.Needs.{needs}
+use Rattle.request.proofs.request_file.Statement.{statement}
+use Rattle.request.proofs.request_file.Tie as tie
+
+whole-requires : tie.Need-whole-requires
+whole-requires c κs = search needs
+
+returns : tie.Need-returns
+unfolding fileFault
+returns c = search (needs, fault-here)
+
+request-records-requires : tie.Need-request-records-requires
+request-records-requires c κs = search needs
+
+returns-2 : tie.Need-returns-2
+unfolding fileFault
+returns-2 c = search (needs, fault-later, fault-last)
+
+pub request-file-spec : {M : Type 1} → statement M
+request-file-spec = tie.close (tie.spec whole-requires returns request-records-requires returns-2)

@@ -1,0 +1,53 @@
+use Rattle.request.proofs.Laws.{request-missing, request-bad, request-rest}
+use borrow.Author.Needs.{needs}
+use Rattle.request.proofs.request_records.Statement.{statement}
+use Rattle.request.proofs.request_records.Tie as tie
+
+returns : tie.Need-returns
+returns c = search (needs, request-missing)
+
+sub-request-record : tie.Need-sub-request-record
+sub-request-record c = search needs
+
+part-request-record-start : tie.Need-part-request-record-start
+part-request-record-start c = search needs
+
+part-request-record-end : tie.Need-part-request-record-end
+part-request-record-end c = search needs
+
+request-record-requires : tie.Need-request-record-requires
+request-record-requires c κs = search needs
+
+returns-2 : tie.Need-returns-2
+returns-2 c = search (needs, request-bad)
+
+sub-certificate-records : tie.Need-sub-certificate-records
+sub-certificate-records c = search needs
+
+part-certificate-records-start : tie.Need-part-certificate-records-start
+part-certificate-records-start c = search needs
+
+part-certificate-records-end : tie.Need-part-certificate-records-end
+part-certificate-records-end c = search needs
+
+certificate-records-requires : tie.Need-certificate-records-requires
+certificate-records-requires c κs = search needs
+
+returns-3 : tie.Need-returns-3
+returns-3 c = search (needs, request-rest)
+
+pub request-records-spec : {M : Type 1} → statement M
+request-records-spec =
+    tie.close
+    (tie.spec
+    returns
+    sub-request-record
+    part-request-record-start
+    part-request-record-end
+    request-record-requires
+    returns-2
+    sub-certificate-records
+    part-certificate-records-start
+    part-certificate-records-end
+    certificate-records-requires
+    returns-3)

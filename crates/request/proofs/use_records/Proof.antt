@@ -1,0 +1,53 @@
+use Rattle.request.proofs.Laws.{request-missing, request-bad, request-rest}
+use borrow.Author.Needs.{needs}
+use Rattle.request.proofs.use_records.Statement.{statement}
+use Rattle.request.proofs.use_records.Tie as tie
+
+returns : tie.Need-returns
+returns c = search (needs, request-missing)
+
+sub-use-record : tie.Need-sub-use-record
+sub-use-record c = search needs
+
+part-use-record-start : tie.Need-part-use-record-start
+part-use-record-start c = search needs
+
+part-use-record-end : tie.Need-part-use-record-end
+part-use-record-end c = search needs
+
+use-record-requires : tie.Need-use-record-requires
+use-record-requires c κs = search needs
+
+returns-2 : tie.Need-returns-2
+returns-2 c = search (needs, request-bad)
+
+sub-certificate-records : tie.Need-sub-certificate-records
+sub-certificate-records c = search needs
+
+part-certificate-records-start : tie.Need-part-certificate-records-start
+part-certificate-records-start c = search needs
+
+part-certificate-records-end : tie.Need-part-certificate-records-end
+part-certificate-records-end c = search needs
+
+certificate-records-requires : tie.Need-certificate-records-requires
+certificate-records-requires c κs = search needs
+
+returns-3 : tie.Need-returns-3
+returns-3 c = search (needs, request-rest)
+
+pub use-records-spec : {M : Type 1} → statement M
+use-records-spec =
+    tie.close
+    (tie.spec
+    returns
+    sub-use-record
+    part-use-record-start
+    part-use-record-end
+    use-record-requires
+    returns-2
+    sub-certificate-records
+    part-certificate-records-start
+    part-certificate-records-end
+    certificate-records-requires
+    returns-3)
