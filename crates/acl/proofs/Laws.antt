@@ -4,20 +4,17 @@ use native.Mathlib.Omega.{arith}
 use native.Mathlib.Numerals.{add-one}
 use mathlib.Core.Path.{_≡_, refl, sym, _∙_, ap}
 use mathlib.Core.List.{List, [], _∷_, _++_}
-use mathlib.Core.Option.{Option, none, some}
 use mathlib.Core.Bool.{Bool, true, false, not, _&&_, _||_}
 use lib.ListN.{length, take, drop, getD, set, drop-of-length-le, length-take}
 use lib.Seq.{drop-cons, take-suc-set}
 use lib.Dec.{eqb, ltb}
 use borrow.Author.Tests.{eq-eqb, ne-eqb, lt-ltb, le-ltb, ltb-true, ltb-false, not-false}
 use Rattle.rules.specs.Sizes.{groupsMax, limitsMax, actionsMax}
-use Rattle.rules.specs.Numbers.{malformed, tooMany}
 use Rattle.rules.specs.Basics.{Bytes, any, kind, recordFault}
 use Rattle.rules.specs.Layout.{limitLaidOut}
 use Rattle.rules.specs.Acl.{AclPlace, among, limitKey, limitInPlace, inPlace, hasRoom, aclRecordFault, limitAdded}
 use Rattle.acl.specs.declared.Place.{Place}
 use Rattle.acl.specs.Places.{placeOf}
-use Rattle.rules.proofs.Rows.{bad-record, full-record, sound-record}
 
 -- A key among some, by a loop: what is left has the whole's answer.
 module _ (key : ℕ) (keys : List ℕ) (i : ℕ) (inv : among key (drop i keys) ≡ among key keys) where
@@ -51,19 +48,10 @@ pub place-added : (p : Place) (key : ℕ) → p .limits < length (p .keys)
     → placeOf (record { groups = p .groups; limits = p .limits + 1; actions = p .actions; keys = set (p .keys) (p .limits) key }) ≡ limitAdded (placeOf p) key
 place-added p key h = ap (λ (l : List ℕ). record { groups = p .groups; limits = l; actions = p .actions }) (key-added (p .limits) key (p .keys) h)
 
--- The fault of a record, by what the two tests answered.
-module _ (s : AclPlace) (r : Bytes) (a : Bool) (e : a ≡ inPlace s r) where
-  pub acl-bad : not a ≡ true → aclRecordFault s r ≡ some malformed
-  unfolding aclRecordFault
-  acl-bad h = bad-record (inPlace s r) (hasRoom s r) a e h
-
-  pub acl-full : (b : Bool) → b ≡ hasRoom s r → not a ≡ false → not b ≡ true → aclRecordFault s r ≡ some tooMany
-  unfolding aclRecordFault
-  acl-full b d h k = full-record (inPlace s r) (hasRoom s r) a e b d h k
-
-  pub acl-sound : (b : Bool) → b ≡ hasRoom s r → not a ≡ false → not b ≡ false → aclRecordFault s r ≡ none
-  unfolding aclRecordFault
-  acl-sound b d h k = sound-record (inPlace s r) (hasRoom s r) a e b d h k
+-- the fault of a record by its two tests
+pub acl-is : (s : AclPlace) (r : Bytes) → aclRecordFault s r ≡ recordFault (inPlace s r) (hasRoom s r)
+unfolding aclRecordFault
+acl-is s r = refl
 
 -- what room says of each kind
 module _ (p : Place) (r : Bytes) (h : hasRoom (placeOf p) r ≡ true) where

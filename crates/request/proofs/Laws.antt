@@ -9,10 +9,10 @@ use lib.ListN.{length, take, drop}
 use lib.Dec.{ltb}
 use borrow.Author.Tests.{not-true, not-false}
 use Rattle.rules.specs.Sizes.{certificatesMax}
-use Rattle.rules.specs.Numbers.{malformed, tooMany}
-use Rattle.rules.specs.Basics.{Bytes, number, records, unless, orNext}
+use Rattle.rules.specs.Numbers.{malformed}
+use Rattle.rules.specs.Basics.{Bytes, number, records, unless, orNext, recordFault}
 use Rattle.rules.specs.Request.{Certificate, certificateRecord, certificateFault, certificatesFault, requestFault, requestFrom, requestOf, certificatesOf, hintRecord, hintFault}
-use Rattle.rules.proofs.Rows.{recordsFrom, rows-start, rows-at, rows-end, rows-rest, bad-record, full-record, sound-record}
+use Rattle.rules.proofs.Rows.{recordsFrom, rows-start, rows-at, rows-end, rows-rest}
 
 -- the first record as code lends it, `&s[..64]`, and what follows
 request-rows : (s : Bytes) → 64 ≤ length s → records s ≡ take 64 s ∷ records (take (length s - 64) (drop 64 s))
@@ -35,19 +35,10 @@ module _ (first : Bytes → Bool) (s : Bytes) where
   unfolding requestFault
   request-rest r x h e n p = p ∙ sym (ap (requestFault first) (request-rows s h) ∙ rw (sym e ∙ not-false r n))
 
--- The fault of a certificate.
-module _ (n : ℕ) (r : Bytes) (a : Bool) (e : a ≡ certificateRecord r) where
-  pub certificate-bad : not a ≡ true → certificateFault n r ≡ some malformed
-  unfolding certificateFault
-  certificate-bad h = bad-record (certificateRecord r) (ltb n certificatesMax) a e h
-
-  pub certificate-full : not a ≡ false → not (ltb n certificatesMax) ≡ true → certificateFault n r ≡ some tooMany
-  unfolding certificateFault
-  certificate-full h k = full-record (certificateRecord r) (ltb n certificatesMax) a e (ltb n certificatesMax) refl h k
-
-  pub certificate-sound : not a ≡ false → not (ltb n certificatesMax) ≡ false → certificateFault n r ≡ none
-  unfolding certificateFault
-  certificate-sound h k = sound-record (certificateRecord r) (ltb n certificatesMax) a e (ltb n certificatesMax) refl h k
+-- the fault of a certificate by its two tests
+pub certificate-is : (n : ℕ) (r : Bytes) → certificateFault n r ≡ recordFault (certificateRecord r) (ltb n certificatesMax)
+unfolding certificateFault
+certificate-is n r = refl
 
 -- The fault of a hint.
 module _ (r : Bytes) (a : Bool) (e : a ≡ hintRecord r) where

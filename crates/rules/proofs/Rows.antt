@@ -97,16 +97,16 @@ module _ {F : Type 0} (fault : Bytes → Option F) (s : Bytes) (at : ℕ) (x : O
   unfolding eachFault firstFault
   each-done h = sym (ap (eachFault fault) (rows-end s at h)) ∙ inv
 
--- "within one record 2 before 3", by what two tests of the code answered: `if !f(..)`
-module _ (good room r : Bool) (e : r ≡ good) where
-  pub bad-record : not r ≡ true → recordFault good room ≡ some malformed
+-- "within one record 2 before 3": a record's fault, by what two tests of the code answered, `if !f(..)`
+module _ (x : Option ℕ) (good room r : Bool) (is : x ≡ recordFault good room) (e : r ≡ good) where
+  pub bad-record : not r ≡ true → x ≡ some malformed
   unfolding recordFault firstFault
-  bad-record h = rw (sym e ∙ not-true r h)
+  bad-record h = is ∙ rw (sym e ∙ not-true r h)
 
-  pub full-record : (t : Bool) → t ≡ room → not r ≡ false → not t ≡ true → recordFault good room ≡ some tooMany
+  pub full-record : (t : Bool) → t ≡ room → not r ≡ false → not t ≡ true → x ≡ some tooMany
   unfolding recordFault firstFault
-  full-record t d h k = rw (sym e ∙ not-false r h, sym d ∙ not-true t k)
+  full-record t d h k = is ∙ rw (sym e ∙ not-false r h, sym d ∙ not-true t k)
 
-  pub sound-record : (t : Bool) → t ≡ room → not r ≡ false → not t ≡ false → recordFault good room ≡ none
+  pub sound-record : (t : Bool) → t ≡ room → not r ≡ false → not t ≡ false → x ≡ none
   unfolding recordFault firstFault
-  sound-record t d h k = rw (sym e ∙ not-false r h, sym d ∙ not-false t k)
+  sound-record t d h k = is ∙ rw (sym e ∙ not-false r h, sym d ∙ not-false t k)

@@ -4,9 +4,9 @@ use lib.ListN.{length}
 use Rattle.rules.specs.Sizes.{limitsMax}
 use Rattle.rules.specs.Basics.{records, scan}
 use Rattle.rules.specs.Acl.{aclRecordFault, afterRecord, aclEnd, aclFault}
-use Rattle.rules.proofs.Rows.{recordsFrom, rows-start, scan-stop, scan-next, scan-done}
+use Rattle.rules.proofs.Rows.{recordsFrom, rows-start, scan-stop, scan-next, scan-done, bad-record, full-record, sound-record}
 use Rattle.acl.specs.Places.{placeOf}
-use Rattle.acl.proofs.Laws.{was-true, acl-bad, acl-full, acl-sound}
+use Rattle.acl.proofs.Laws.{was-true, acl-is}
 use borrow.Author.Needs.{needs}
 use Rattle.acl.proofs.acl_records.Statement.{statement}
 use Rattle.acl.proofs.acl_records.Tie as tie
@@ -43,13 +43,16 @@ in-place-requires : tie.Need-in-place-requires Inv-loop μ-loop
 in-place-requires c κs = search needs
 
 returns : tie.Need-returns Inv-loop μ-loop
-returns c = search (needs, scan-stop, acl-bad)
+returns c =
+    let l = c .before .before .before in
+    let b = bad-record _ _ _ _ (acl-is _ _) (c .before .in-place .ensures) (c .if1 .taken) in
+    scan-stop _ _ _ _ _ _ _ (l .before .loop .inv .1 .1) _ (l .loop-test .taken) b
 
 has-room-requires : tie.Need-has-room-requires Inv-loop μ-loop
 has-room-requires c κs = search needs
 
 returns-2 : tie.Need-returns-2 Inv-loop μ-loop
-returns-2 c = search (needs, scan-stop, acl-full)
+returns-2 c = search (needs, scan-stop, full-record, acl-is)
 
 after-requires : tie.Need-after-requires Inv-loop μ-loop
 after-requires c κs = (was-true _ _ (c .before .has-room .ensures) (c .if2 .left), search needs, search needs)
@@ -67,7 +70,7 @@ loop-again c =
     let f = h .before in
     let g = f .before in
     let l = g .before .before in
-    let s = acl-sound _ _ _ (g .in-place .ensures) _ (h .has-room .ensures) (f .if1 .left) (e .if2 .left) in
+    let s = sound-record _ _ _ _ (acl-is _ _) (g .in-place .ensures) _ (h .has-room .ensures) (f .if1 .left) (e .if2 .left) in
     (search needs, (search needs, scan-next _ _ _ _ _ _ _ (l .before .loop .inv .1 .1) _ (l .loop-test .taken) s (c .after .ensures .0)))
 
 returns-3 : tie.Need-returns-3 Inv-loop μ-loop

@@ -4,8 +4,8 @@ use lib.ListN.{length}
 use Rattle.rules.specs.Sizes.{certificatesMax}
 use Rattle.rules.specs.Basics.{records, scan}
 use Rattle.rules.specs.Request.{certificateFault, afterCertificate, certificatesEnd, certificatesFault}
-use Rattle.rules.proofs.Rows.{recordsFrom, scan-stop, scan-next, scan-done}
-use Rattle.request.proofs.Laws.{certificate-bad, certificate-full, certificate-sound}
+use Rattle.rules.proofs.Rows.{recordsFrom, scan-stop, scan-next, scan-done, bad-record, full-record, sound-record}
+use Rattle.request.proofs.Laws.{certificate-is}
 use borrow.Author.Needs.{needs}
 use Rattle.request.proofs.certificate_records.Statement.{statement}
 use Rattle.request.proofs.certificate_records.Tie as tie
@@ -39,10 +39,17 @@ certificate-record-requires : tie.Need-certificate-record-requires Inv-loop μ-l
 certificate-record-requires c κs = search needs
 
 returns : tie.Need-returns Inv-loop μ-loop
-returns c = search (needs, scan-stop, certificate-bad)
+returns c =
+    let l = c .before .before .before in
+    let b = bad-record _ _ _ _ (certificate-is _ _) (c .before .certificate-record .ensures) (c .if1 .taken) in
+    scan-stop _ _ _ _ _ _ _ (l .before .loop .inv .1 .1) _ (l .loop-test .taken) b
 
 returns-2 : tie.Need-returns-2 Inv-loop μ-loop
-returns-2 c = search (needs, scan-stop, certificate-full)
+returns-2 c =
+    let a = c .before .before in
+    let l = a .before .before in
+    let f = full-record _ _ _ _ (certificate-is _ _) (a .certificate-record .ensures) _ refl (c .before .if1 .left) (c .if2 .taken) in
+    scan-stop _ _ _ _ _ _ _ (l .before .loop .inv .1 .1) _ (l .loop-test .taken) f
 
 add-n : tie.Need-add-n Inv-loop μ-loop
 add-n c = search needs
@@ -57,7 +64,7 @@ loop-again : tie.Need-loop-again Inv-loop μ-loop
 loop-again c =
     let a = c .before .before in
     let l = a .before .before in
-    let s = certificate-sound _ _ _ (a .certificate-record .ensures) (c .before .if1 .left) (c .if2 .left) in
+    let s = sound-record _ _ _ _ (certificate-is _ _) (a .certificate-record .ensures) _ refl (c .before .if1 .left) (c .if2 .left) in
     (search needs, (search needs, scan-next _ _ _ _ _ _ _ (l .before .loop .inv .1 .1) _ (l .loop-test .taken) s refl))
 
 returns-3 : tie.Need-returns-3 Inv-loop μ-loop

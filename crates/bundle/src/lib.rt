@@ -1,0 +1,122 @@
+// A bundle file: its first fault.
+ghost use mathlib.Core.Path.{_≡_};
+ghost use Prim.Native.Nat.{_+_, _*_, _≤_, _<_};
+ghost use lib.ListN.{length};
+ghost use Rattle.rules.specs.Sizes.{recordBytes};
+ghost use Rattle.rules.specs.Basics.{records};
+ghost use Rattle.rules.specs.Bundle.{orderOf, inOrder, bundleRecordLaidOut, bundleInPlace, bundleHasRoom, listedAfter, bundleFault, bundleFileFault};
+ghost use Rattle.files.specs.Refusals.{faultOf};
+use files::Checked;
+use files::Refusal;
+
+// The places in the order of kind and number of field 14, and of the policy, which has no number.
+const LISTED_ORDER: u16 = 2574;
+
+const POLICY_ORDER: u16 = 3072;
+
+// A place in the order of kind and number.
+fn order(kind: u8, number: u8) -> u16
+    ensures { λ r. ⌜ r ≡ kind * 256 + number ⌝ }
+{
+    (kind as u16) * 256 + (number as u16)
+}
+
+// A record's place in the order.
+fn record_order(rec: &[u8]) -> u16
+    requires { ⌜ length (now rec) ≡ recordBytes ⌝ }
+    ensures { λ r. ⌜ r ≡ orderOf (now (rec .entry)) ⌝ }
+{
+    let kind = rec[0];
+    if kind == 12 {
+        return POLICY_ORDER;
+    }
+    order(kind, rec[4])
+}
+
+// Whether a record is a well-formed fact, signature outcome or policy.
+fn bundle_record(rec: &[u8]) -> bool
+    requires { ⌜ length (now rec) ≡ recordBytes ⌝ }
+    ensures { λ r. ⌜ r ≡ bundleRecordLaidOut (now (rec .entry)) ⌝ }
+{
+    let kind = rec[0];
+    if kind == 10 {
+        return layout::fact(rec);
+    }
+    if kind == 11 {
+        return layout::signature(rec);
+    }
+    if kind == 12 {
+        return layout::policy(rec);
+    }
+    false
+}
+
+// Whether one place may follow another: it rises, or both are field 14.
+fn follows(last: u16, next: u16) -> bool
+    ensures { λ r. ⌜ r ≡ inOrder last next ⌝ }
+{
+    (last < next) | ((last == LISTED_ORDER) & (next == LISTED_ORDER))
+}
+
+// Whether a record is well formed and may follow the place `last`.
+fn in_place(last: u16, rec: &[u8]) -> bool
+    requires { ⌜ length (now rec) ≡ recordBytes ⌝ }
+    ensures { λ r. ⌜ r ≡ bundleInPlace last (now (rec .entry)) ⌝ }
+{
+    bundle_record(rec) & follows(last, record_order(rec))
+}
+
+// Whether there is room for a record after `listed` records of field 14.
+fn has_room(listed: usize, rec: &[u8]) -> bool
+    requires { ⌜ length (now rec) ≡ recordBytes ⌝ }
+    ensures { λ r. ⌜ r ≡ bundleHasRoom listed (now (rec .entry)) ⌝ }
+{
+    !(record_order(rec) == LISTED_ORDER) | (listed < sizes::LISTED)
+}
+
+// How many records of field 14 there are with one record more.
+fn listed_after(listed: usize, rec: &[u8]) -> usize
+    requires { ⌜ (listed < 18446744073709551615) × (length (now rec) ≡ recordBytes) ⌝ }
+    ensures { λ r. ⌜ (r ≡ listedAfter listed (now (rec .entry))) × (r ≤ listed + 1) ⌝ }
+{
+    let here = record_order(rec);
+    if here == LISTED_ORDER {
+        return listed + 1;
+    }
+    listed
+}
+
+// The first fault of a bundle's records, from the first on; 2 before 3 within a record; a bundle without a policy gives 2 at its end.
+pub fn bundle_records(bundle: &[u8]) -> Checked
+    ensures { λ r. ⌜ faultOf r ≡ bundleFault (records (now (bundle .entry))) ⌝ }
+{
+    let mut last = 0;
+    let mut listed = 0;
+    let mut at = 0;
+    while 64 <= bundle.len() - at {
+        let rec = &bundle[at..at + 64];
+        if !in_place(last, rec) {
+            return Checked::Refused(Refusal::Malformed);
+        }
+        if !has_room(listed, rec) {
+            return Checked::Refused(Refusal::TooMany);
+        }
+        listed = listed_after(listed, rec);
+        last = record_order(rec);
+        at += 64;
+    }
+    if !(last == POLICY_ORDER) {
+        return Checked::Refused(Refusal::Malformed);
+    }
+    Checked::Sound
+}
+
+// The first fault of a bundle file: its length, then its records.
+pub fn bundle_file(bundle: &[u8]) -> Checked
+    ensures { λ r. ⌜ faultOf r ≡ bundleFileFault (now (bundle .entry)) ⌝ }
+{
+    if !files::whole(sizes::BUNDLE_RECORDS, bundle) {
+        return Checked::Refused(Refusal::BadLength);
+    }
+    bundle_records(bundle)
+}
