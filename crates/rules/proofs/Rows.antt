@@ -1,5 +1,5 @@
 -- Records of a file one after the other: what a loop over them goes by. `at` is the byte at which the next record begins.
-use Prim.Native.Nat.{ℕ, zero, suc, _≤_, _<_, _+_, _-_, _/_}
+use Prim.Native.Nat.{ℕ, zero, suc, _≤_, _<_, _+_, _-_, _*_, _/_}
 use native.Mathlib.Omega.{arith}
 use native.Mathlib.Nat.{add-sub-cancel-left, add-zero}
 use mathlib.Core.Path.{_≡_, refl, sym, _∙_, ap}
@@ -8,10 +8,10 @@ use mathlib.Core.Option.{Option, none, some}
 use mathlib.Core.Bool.{Bool, true, false, not, _&&_}
 use borrow.Author.Tests.{not-true, not-false}
 use lib.ListN.{length, take, drop, getD, length-drop}
-use lib.Seq.{drop-drop, take-all, getD-take, getD-drop}
+use lib.Seq.{drop-drop, take-all, length-take-le, getD-take, getD-drop}
 use Rattle.rules.specs.Sizes.{recordBytes}
 use Rattle.rules.specs.Numbers.{malformed, tooMany}
-use Rattle.rules.specs.Basics.{Bytes, part, chunks, records, unless, orNext, firstFault, recordFault, eachFault, scan}
+use Rattle.rules.specs.Basics.{Bytes, Every, part, chunks, records, unless, orNext, firstFault, recordFault, eachFault, scan}
 
 -- the records from a place on: shut, so that a search reads the file and the place off it
 unfoldable pub recordsFrom : Bytes → ℕ → List Bytes
@@ -40,6 +40,16 @@ rows-at s at h = first (drop at s) (omega (arith, length-drop at s)) ∙ ap (λ 
 pub rows-end : (s : Bytes) (at : ℕ) → length s - at < 64 → recordsFrom s at ≡ []
 unfolding recordsFrom records chunks
 rows-end s at h = ap (λ (n : ℕ). chunks n (drop at s)) (no-fuel (length (drop at s)) (omega (arith, length-drop at s)))
+
+-- each record has 64 bytes
+chunks-sized : (n : ℕ) (bs : Bytes) → n * 64 ≤ length bs → Every (λ r. length r ≡ 64) (chunks n bs)
+unfolding chunks
+chunks-sized zero bs h = tt
+chunks-sized (suc n) bs h = (length-take-le 64 bs (omega arith), chunks-sized n (drop 64 bs) (omega (arith, length-drop 64 bs)))
+
+pub records-sized : (s : Bytes) → Every (λ r. length r ≡ 64) (records s)
+unfolding records
+records-sized s = chunks-sized (length s / 64) s (omega arith)
 
 -- a record as code lends it, `&s[at..at + 64]`, and the rest of a file, `&s[at..]`
 abbrev pub lentRecord : Bytes → ℕ → Bytes
