@@ -12,14 +12,11 @@ use Rattle.rules.specs.Sizes.{certificatesMax}
 use Rattle.rules.specs.Numbers.{malformed}
 use Rattle.rules.specs.Basics.{Bytes, number, records, unless, orNext, recordFault}
 use Rattle.rules.specs.Request.{Certificate, certificateRecord, certificateFault, certificatesFault, requestFault, requestFrom, requestOf, certificatesOf, hintRecord, hintFault}
-use Rattle.rules.proofs.Rows.{recordsFrom, rows-start, rows-at, rows-end, rows-rest}
+use Rattle.rules.proofs.Rows.{recordsFrom, no-rows, rows-start, rows-at, rows-rest}
 
 -- the first record as code lends it, `&s[..64]`, and what follows
 request-rows : (s : Bytes) → 64 ≤ length s → records s ≡ take 64 s ∷ records (take (length s - 64) (drop 64 s))
 request-rows s h = sym (rows-start s) ∙ rows-at s 0 (omega arith) ∙ ap (λ (l : List Bytes). take 64 s ∷ l) (sym (rows-rest s 64))
-
-no-rows : (s : Bytes) → length s < 64 → records s ≡ []
-no-rows s h = sym (rows-start s) ∙ rows-end s 0 (omega arith)
 
 module _ (first : Bytes → Bool) (s : Bytes) where
   pub request-missing : length s < 64 → some malformed ≡ requestFault first (records s)

@@ -2,8 +2,8 @@
 ghost use mathlib.Core.Path.{_≡_};
 ghost use Prim.Native.Nat.{_≤_};
 ghost use lib.ListN.{length};
-ghost use Rattle.rules.specs.Sizes.{recordBytes};
-ghost use Rattle.rules.specs.Basics.{records};
+ghost use Rattle.rules.specs.Sizes.{recordBytes, requestRecords};
+ghost use Rattle.rules.specs.Basics.{fits, records};
 ghost use Rattle.rules.specs.Request.{requestLaidOut, useOf, certificateRecord, certificatesFault, requestFault, requestFileFault, requestOf, certificatesOf, hintRecord, hintsFault, hintsFileFault};
 ghost use Rattle.files.specs.Refusals.{faultOf};
 use files::Checked;
@@ -88,11 +88,18 @@ pub fn use_records(p: u8, req: &[u8]) -> Checked
     certificate_records(&req[64..])
 }
 
+// Whether a request file is whole records and not too long.
+fn whole_request(req: &[u8]) -> bool
+    ensures { λ r. ⌜ r ≡ fits requestRecords (now (req .entry)) ⌝ }
+{
+    files::whole(sizes::REQUEST_RECORDS, req)
+}
+
 // The first fault of a request file: its length, then its records.
 pub fn request_file(req: &[u8]) -> Checked
     ensures { λ r. ⌜ faultOf r ≡ requestFileFault requestLaidOut (now (req .entry)) ⌝ }
 {
-    if !files::whole(sizes::REQUEST_RECORDS, req) {
+    if !whole_request(req) {
         return Checked::Refused(Refusal::BadLength);
     }
     request_records(req)
@@ -102,7 +109,7 @@ pub fn request_file(req: &[u8]) -> Checked
 pub fn use_file(p: u8, req: &[u8]) -> Checked
     ensures { λ r. ⌜ faultOf r ≡ requestFileFault (useOf p) (now (req .entry)) ⌝ }
 {
-    if !files::whole(sizes::REQUEST_RECORDS, req) {
+    if !whole_request(req) {
         return Checked::Refused(Refusal::BadLength);
     }
     use_records(p, req)

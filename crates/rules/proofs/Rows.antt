@@ -27,9 +27,13 @@ fuel n h = omega arith
 no-fuel : (n : ℕ) → n < 64 → n / 64 ≡ zero
 no-fuel n h = omega arith
 
-first : (s : Bytes) → 64 ≤ length s → records s ≡ take 64 s ∷ records (drop 64 s)
+pub first : (s : Bytes) → 64 ≤ length s → records s ≡ take 64 s ∷ records (drop 64 s)
 unfolding records chunks
 first s h = ap (λ (n : ℕ). chunks n s) (fuel (length s) h) ∙ ap (λ (n : ℕ). take 64 s ∷ chunks (n / 64) (drop 64 s)) (sym (length-drop 64 s))
+
+pub no-rows : (s : Bytes) → length s < 64 → records s ≡ []
+unfolding records chunks
+no-rows s h = ap (λ (n : ℕ). chunks n s) (no-fuel (length s) h)
 
 -- one record, and the rest
 pub rows-at : (s : Bytes) (at : ℕ) → 64 ≤ length s - at → recordsFrom s at ≡ part at 64 s ∷ recordsFrom s (at + 64)
@@ -38,8 +42,8 @@ rows-at s at h = first (drop at s) (omega (arith, length-drop at s)) ∙ ap (λ 
 
 -- no record is left
 pub rows-end : (s : Bytes) (at : ℕ) → length s - at < 64 → recordsFrom s at ≡ []
-unfolding recordsFrom records chunks
-rows-end s at h = ap (λ (n : ℕ). chunks n (drop at s)) (no-fuel (length (drop at s)) (omega (arith, length-drop at s)))
+unfolding recordsFrom
+rows-end s at h = no-rows (drop at s) (omega (arith, length-drop at s))
 
 -- each record has 64 bytes
 chunks-sized : (n : ℕ) (bs : Bytes) → n * 64 ≤ length bs → Every (λ r. length r ≡ 64) (chunks n bs)

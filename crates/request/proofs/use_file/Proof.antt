@@ -4,8 +4,8 @@ use borrow.Author.Needs.{needs}
 use Rattle.request.proofs.use_file.Statement.{statement}
 use Rattle.request.proofs.use_file.Tie as tie
 
-whole-requires : tie.Need-whole-requires
-whole-requires c κs = search needs
+whole-request-requires : tie.Need-whole-request-requires
+whole-request-requires c κs = search needs
 
 returns : tie.Need-returns
 unfolding fileFault
@@ -19,4 +19,4 @@ unfolding fileFault
 returns-2 c = search (needs, fault-later, fault-last)
 
 pub use-file-spec : {M : Type 1} → statement M
-use-file-spec = tie.close (tie.spec whole-requires returns use-records-requires returns-2)
+use-file-spec = tie.close (tie.spec whole-request-requires returns use-records-requires returns-2)

@@ -1,0 +1,75 @@
+// Finding one's way in an ACL: a group by its number, the group's own records, its limits, its actions one after the other. Each is total: it goes
+// by whatever bytes stand there, and the file may or may not have been tested.
+ghost use mathlib.Core.Path.{_≡_};
+ghost use Prim.Native.Nat.{_≤_};
+ghost use lib.ListN.{length, drop};
+ghost use Rattle.rules.specs.Basics.{records};
+ghost use Rattle.rules.specs.Acl.{groupsOf};
+ghost use Rattle.groups.specs.Parts.{NextAction, limitRecords, groupRecords};
+
+// The ACL from its group g on; empty where there is none.
+pub fn from_group(acl: &[u8], g: usize) -> &[u8]
+    ensures { λ r. ⌜ groupsOf (records (now r)) ≡ drop g (groupsOf (records (now (acl .entry)))) ⌝ }
+{
+    let mut left = g;
+    let mut at = 0;
+    while 64 <= acl.len() - at {
+        if acl[at] != 1 {
+            at += 64;
+            continue;
+        }
+        if left == 0 {
+            return &acl[at..];
+        }
+        left -= 1;
+        at += 64;
+    }
+    &acl[0..0]
+}
+
+// The records of a group, its first one left out, of the records that follow that one: those before the next group.
+pub fn group_part(rest: &[u8]) -> &[u8]
+    ensures { λ r. ⌜ records (now r) ≡ groupRecords (records (now (rest .entry))) ⌝ }
+{
+    let mut at = 0;
+    while 64 <= rest.len() - at {
+        if rest[at] == 1 {
+            return &rest[0..at];
+        }
+        at += 64;
+    }
+    &rest[0..at]
+}
+
+// The limits of a group, of the records that follow its first one: those before any other kind.
+pub fn limits_part(rest: &[u8]) -> &[u8]
+    ensures { λ r. ⌜ records (now r) ≡ limitRecords (records (now (rest .entry))) ⌝ }
+{
+    let mut at = 0;
+    while 64 <= rest.len() - at {
+        if rest[at] != 2 {
+            return &rest[0..at];
+        }
+        at += 64;
+    }
+    &rest[0..at]
+}
+
+// Where the next action of a group stands, from the byte `at` on; the end of the file where the group has no more. A loop over a group's actions
+// steps by this alone.
+pub fn next_action(s: &[u8], at: usize) -> usize
+    requires { ⌜ at ≤ length (now s) ⌝ }
+    ensures { λ r. ⌜ NextAction (now (s .entry)) at r ⌝ }
+{
+    let mut i = at;
+    while 64 <= s.len() - i {
+        if s[i] == 1 {
+            return s.len();
+        }
+        if s[i] != 2 {
+            return i;
+        }
+        i += 64;
+    }
+    s.len()
+}
