@@ -4,11 +4,11 @@ use native.Mathlib.Omega.{arith}
 use native.Mathlib.Numerals.{add-one}
 use native.Mathlib.Nat.{add-sub-cancel-left}
 use mathlib.Core.Path.{_≡_, refl, sym, _∙_, ap}
-use mathlib.Core.List.{List, [], _∷_, _++_, append-assoc, append-nil}
+use mathlib.Core.List.{[], _∷_, _++_, append-assoc, append-nil}
 use mathlib.Core.Option.{Option, none, some}
 use mathlib.Core.Bool.{Bool, true, false, not, _&&_, false≢true}
 use lib.ListN.{length, take, drop, getD, set, length-append, length-drop, drop-of-length-le}
-use lib.Seq.{drop-cons, take-suc, set-at, append-snoc, length-take-le, take-all, drop-drop, drop-at, take-at, take-length, take-add}
+use lib.Seq.{drop-cons, take-suc, set-at, append-snoc, length-take-le, take-all, drop-drop, drop-at, take-at, take-add}
 use lib.Dec.{eqb, leb}
 use borrow.Author.Tests.{eq-eqb, ne-eqb, le-leb, lt-leb, leb-true}
 use Rattle.rules.specs.Sizes.{hashBytes}
@@ -23,8 +23,11 @@ pub over-length : (s d : Bytes) → length s ≤ length d → length (over s d) 
 unfolding over
 over-length s d h = length-append s (drop (length s) d) ∙ omega (arith, length-drop (length s) d)
 
+drop-both : (s t d : Bytes) → drop (length (s ++ t)) d ≡ drop (length t) (drop (length s) d)
+drop-both s t d = ap (λ (m : ℕ). drop m d) (length-append s t) ∙ sym (drop-drop (length t) (length s) d)
+
 -- A second piece t, written into the part of the buffer from the first piece's end on: both pieces are over the buffer.
-pub over-then : (s t d e : Bytes) (n k : ℕ) → n ≡ length s → length s ≤ length d → k ≡ length d - n → e ≡ over t (drop n (over s d))
+over-then : (s t d e : Bytes) (n k : ℕ) → n ≡ length s → length s ≤ length d → k ≡ length d - n → e ≡ over t (drop n (over s d))
     → take n (over s d) ++ (e ++ drop k (drop n (over s d))) ≡ over (s ++ t) d
 unfolding over
 over-then s t d e n k en h ek ee =
@@ -32,9 +35,7 @@ over-then s t d e n k en h ek ee =
     let b : drop n (s ++ drop (length s) d) ≡ drop (length s) d = drop-at s (drop (length s) d) n (sym en) in
     let z : drop k (drop (length s) d) ≡ [] = drop-of-length-le (drop (length s) d) {i = k} (omega (arith, length-drop (length s) d)) in
     let f : e ≡ t ++ drop (length t) (drop (length s) d) = ee ∙ ap (λ (l : Bytes). t ++ drop (length t) l) b in
-    let g : drop (length (s ++ t)) d ≡ drop (length t) (drop (length s) d) =
-    ap (λ (m : ℕ). drop m d) (length-append s t) ∙ sym (drop-drop (length t) (length s) d) in
-    rw (a, b, z, append-nil, f) (sym (append-assoc s t (drop (length (s ++ t)) d) ∙ ap (λ (l : Bytes). s ++ (t ++ l)) g))
+    rw (a, b, z, append-nil, f) (sym (append-assoc s t (drop (length (s ++ t)) d) ∙ ap (λ (l : Bytes). s ++ (t ++ l)) (drop-both s t d)))
 
 -- .. as code lends the part, `&mut x[n..]`: x is the buffer with the first piece, and e what is left in the part
 pub over-next : (s t d x e : Bytes) (n : ℕ) → x ≡ over s d → n ≡ length s → length s ≤ length d → e ≡ over t (take (length x - n) (drop n x))
@@ -98,6 +99,19 @@ known zero (some s) e = cc
 known (suc m) none e = cc
 known (suc m) (some s) e = ap not (ne-eqb (suc m) 0 (λ z. omega arith))
 
+-- The certificates: no arm of the match on the certificate was taken, and certificate 5 has one header under every suite.
+pub not-between : (n : ℕ) → (n ≡ 3 → ⊥) → (n ≡ 4 → ⊥) → (n ≡ 5 → ⊥) → between 3 5 n ≡ false
+not-between n a b c = pick (leb 3 n) (leb n 5) refl refl
+  where
+    pick : (low high : Bool) → leb 3 n ≡ low → leb n 5 ≡ high → (low && high) ≡ false
+    pick false high p q = refl
+    pick true false p q = refl
+    pick true true p q = let l = leb-true 3 n p in let m = leb-true n 5 q in absurd (omega arith)
+
+pub card-header : (s : Option Suite) → present s ≡ true → headerBytes (headerUnder 5 s) ≡ ascii "Card Recovery\0"
+card-header none e = absurd (false≢true e)
+card-header (some s) e = refl
+
 -- A header and so many hashes: the ways out of the writer, by the tests that the code made.
 module _ (header : Bytes) (count : ℕ) (hashes buffer : Bytes) where
   pub headed-wrong : (length hashes ≡ count * hashBytes → ⊥)
@@ -119,7 +133,8 @@ module _ (header : Bytes) (count : ℕ) (hashes buffer : Bytes) where
         rw (eq-eqb _ _ e, le-leb (length (header ++ hashes)) (length buffer) (omega (arith, length-append header hashes)))
         (ap written (sym (length-append header hashes)), q)
 
--- A subject under a known suite is a header and hashes. `k` is the suite that an arm of a match stands for.
+-- A subject under a known suite is a header and hashes: n is the suite's number in the code, and k what the arm of a match says of it. Of
+-- literals, the facts between compute.
 module _ (certificate n k count : ℕ) (header hashes buffer : Bytes) where
   pub subject-under : n ≡ k → between 3 5 certificate ≡ true → isSuite k ≡ true → hashesBytes certificate ≡ count * hashBytes
       → headerBytes (headerText certificate k) ≡ header
@@ -139,17 +154,3 @@ module _ (certificate n : ℕ) (hashes buffer : Bytes) where
       → (unwritten unknownSuite ≡ subjectReply certificate n hashes buffer) × (buffer ≡ subjectBuffer certificate n hashes buffer)
   unfolding subjectReply subjectBuffer subjectFault firstFault
   subject-unknown b s = rw (b, s) (refl, refl)
-
--- no arm of the match on the certificate was taken
-pub not-between : (n : ℕ) → (n ≡ 3 → ⊥) → (n ≡ 4 → ⊥) → (n ≡ 5 → ⊥) → between 3 5 n ≡ false
-not-between n a b c = pick (leb 3 n) (leb n 5) refl refl
-  where
-    pick : (low high : Bool) → leb 3 n ≡ low → leb n 5 ≡ high → (low && high) ≡ false
-    pick false high p q = refl
-    pick true false p q = refl
-    pick true true p q = let l = leb-true 3 n p in let m = leb-true n 5 q in absurd (omega arith)
-
--- certificate 5 has one header under every suite
-pub card-header : (s : Option Suite) → present s ≡ true → headerBytes (headerUnder 5 s) ≡ ascii "Card Recovery\0"
-card-header none e = absurd (false≢true e)
-card-header (some s) e = refl

@@ -1,4 +1,4 @@
-// The subjects of world certificates: a header text by certificate and suite, then the key hashes.
+// The subjects of world certificates, the bytes that the certificates sign: a header text by certificate and suite, then key hashes.
 ghost use mathlib.Core.Path.{_≡_};
 ghost use Prim.Native.Nat.{_≤_, _*_, _%_};
 ghost use lib.ListN.{length};
@@ -14,7 +14,7 @@ pub enum Written {
     Refused(Refusal),
 }
 
-// The number of the recovery mechanism that a suite calls for. No mechanism has number 0, which says that there is no such suite.
+// The number of the recovery mechanism that a suite calls for. No mechanism has number 0: it says that there is no such suite.
 pub fn recovery_mechanism(suite: u64) -> u16
     ensures { λ r. ⌜ mechanismIn r ≡ suiteMechanism suite ⌝ }
 {
@@ -46,7 +46,7 @@ fn copy(bytes: &[u8], buffer: &mut [u8])
     }
 }
 
-// Hashes over the front of the buffer, each straight into its place: the part of the buffer from there on is lent to the copying.
+// Hashes over the front of the buffer, one after the other. Each goes straight into its place: the buffer from there on is lent to `copy`.
 fn write_hashes(hashes: &[u8], buffer: &mut [u8])
     requires { ⌜ (length (now hashes) % hashBytes ≡ 0) × (length (now hashes) ≤ length (now buffer)) ⌝ }
     ensures { λ _. ⌜ now (buffer .exit) ≡ over (now (hashes .entry)) (now (buffer .entry)) ⌝ }
@@ -58,7 +58,8 @@ fn write_hashes(hashes: &[u8], buffer: &mut [u8])
     }
 }
 
-// A subject: the header at the front of the buffer, then so many hashes in the part from the header's end on. A refusal leaves the buffer.
+// A subject: the header at the front of the buffer, then `count` hashes in the part from the header's end on. Both lengths are tested before
+// the first byte is written, so that a refusal leaves the buffer. No subject has over four hashes.
 fn write_headed(header: &[u8], count: usize, hashes: &[u8], buffer: &mut [u8]) -> Written
     requires { ⌜ count ≤ 4 ⌝ }
     ensures reply { λ r. ⌜ replyOf r ≡ headedReply (now (header .entry)) count (now (hashes .entry)) (now (buffer .entry)) ⌝ }
@@ -68,13 +69,13 @@ fn write_headed(header: &[u8], count: usize, hashes: &[u8], buffer: &mut [u8]) -
         return Written::Refused(Refusal::BadLength);
     }
     let end = header.len();
-    let length = end + hashes.len();
-    if buffer.len() < length {
+    let total = end + hashes.len();
+    if buffer.len() < total {
         return Written::Refused(Refusal::ShortBuffer);
     }
     copy(header, buffer);
     write_hashes(hashes, &mut buffer[end..]);
-    Written::Length(length)
+    Written::Length(total)
 }
 
 // Certificate 3: the hashes of KNSO, KM and KMC.
@@ -130,7 +131,7 @@ fn write_module_setup(suite: u64, hashes: &[u8], buffer: &mut [u8]) -> Written
     }
 }
 
-// Certificate 5: the hashes of KNSO, KRE and KRA. Its header is the same under every suite.
+// Certificate 5: the hashes of KNSO, KRE and KRA. Its header is one under every suite, but the suite has to be known.
 fn write_card_recovery(suite: u64, hashes: &[u8], buffer: &mut [u8]) -> Written
     ensures reply { λ r. ⌜ replyOf r ≡ subjectReply 5 suite (now (hashes .entry)) (now (buffer .entry)) ⌝ }
     ensures bytes { λ _. ⌜ now (buffer .exit) ≡ subjectBuffer 5 suite (now (hashes .entry)) (now (buffer .entry)) ⌝ }
@@ -141,8 +142,8 @@ fn write_card_recovery(suite: u64, hashes: &[u8], buffer: &mut [u8]) -> Written
     write_headed(b"Card Recovery\0", 3, hashes, buffer)
 }
 
-// The subject of a world certificate at the front of the buffer, by the certificate's number and the suite's. Every byte past it stays, and
-// a refusal leaves the whole buffer.
+// The subject of a world certificate, at the front of the buffer, for hashes in document 001's order. Every byte past it stays. Refusals 10,
+// 11, 1 and 9 come in this order, the certificate being asked before the suite, and leave the whole buffer.
 pub fn write_subject(certificate: u64, suite: u64, hashes: &[u8], buffer: &mut [u8]) -> Written
     ensures reply { λ r. ⌜ replyOf r ≡ subjectReply certificate suite (now (hashes .entry)) (now (buffer .entry)) ⌝ }
     ensures bytes { λ _. ⌜ now (buffer .exit) ≡ subjectBuffer certificate suite (now (hashes .entry)) (now (buffer .entry)) ⌝ }

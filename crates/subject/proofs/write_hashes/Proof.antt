@@ -50,10 +50,10 @@ loop-less c = search needs
 
 loop-again : tie.Need-loop-again Inv-loop μ-loop
 loop-again c =
-    let copied = c .before .before in
-    let loop = copied .before .before .before .before in
+    let wrote = c .before .before in
+    let loop = wrote .before .before .before .before in
     let h : loop .loop .at + hashBytes ≤ length (now (loop .before .before .before .args .hashes)) = omega arith in
-    (h, (search needs, (search needs, copied-part _ _ _ _ _ hashBytes h (search needs) (loop .loop .inv .1 .1 .1) (copied .copy .ensures))))
+    (h, (search needs, (search needs, copied-part _ _ _ _ _ hashBytes h (search needs) (loop .loop .inv .1 .1 .1) (wrote .copy .ensures))))
 
 same-length : tie.Need-same-length Inv-loop μ-loop
 same-length c = search needs

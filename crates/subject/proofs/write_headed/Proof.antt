@@ -10,8 +10,8 @@ mul-if1 c = search needs
 returns : tie.Need-returns
 returns c = headed-wrong _ _ _ _ (c .if1 .taken)
 
-add-length : tie.Need-add-length
-add-length c = search needs
+add-total : tie.Need-add-total
+add-total c = search needs
 
 returns-2 : tie.Need-returns-2
 returns-2 c = headed-short _ _ _ _ (c .before .if1 .left) (c .if2 .taken)
@@ -48,7 +48,7 @@ write-headed-spec =
     (tie.spec
     mul-if1
     returns
-    add-length
+    add-total
     returns-2
     copy-requires
     sub-write-hashes

@@ -35,28 +35,36 @@ same-length c = search needs
 
 returns : tie.Need-returns
 unfolding suite ascii
-returns c = let done = c .before .before in subject-under 4 _ 1 4 _ _ _ (done .before .before .before .match .keys1) refl refl refl refl _ _ (done .write-headed .ensures)
+returns c =
+    let done = c .before .before in
+    subject-under 4 _ 1 4 _ _ _ (done .before .before .before .match .keys1) refl refl refl refl _ _ (done .write-headed .ensures)
 
 same-length-2 : tie.Need-same-length-2
 same-length-2 c = search needs
 
 returns-2 : tie.Need-returns-2
 unfolding suite ascii
-returns-2 c = let done = c .before .before in subject-under 4 _ 2 4 _ _ _ (done .before .before .before .match .keys2) refl refl refl refl _ _ (done .write-headed2 .ensures)
+returns-2 c =
+    let done = c .before .before in
+    subject-under 4 _ 2 4 _ _ _ (done .before .before .before .match .keys2) refl refl refl refl _ _ (done .write-headed2 .ensures)
 
 same-length-3 : tie.Need-same-length-3
 same-length-3 c = search needs
 
 returns-3 : tie.Need-returns-3
 unfolding suite ascii
-returns-3 c = let done = c .before .before in subject-under 4 _ 3 4 _ _ _ (done .before .before .before .match .keys3) refl refl refl refl _ _ (done .write-headed3 .ensures)
+returns-3 c =
+    let done = c .before .before in
+    subject-under 4 _ 3 4 _ _ _ (done .before .before .before .match .keys3) refl refl refl refl _ _ (done .write-headed3 .ensures)
 
 same-length-4 : tie.Need-same-length-4
 same-length-4 c = search needs
 
 returns-4 : tie.Need-returns-4
 unfolding suite ascii
-returns-4 c = let done = c .before .before in subject-under 4 _ 4 4 _ _ _ (done .before .before .before .match .keys4) refl refl refl refl _ _ (done .write-headed4 .ensures)
+returns-4 c =
+    let done = c .before .before in
+    subject-under 4 _ 4 4 _ _ _ (done .before .before .before .match .keys4) refl refl refl refl _ _ (done .write-headed4 .ensures)
 
 returns-5 : tie.Need-returns-5
 returns-5 c = subject-unknown 4 _ _ _ refl (search (needs, unknown, no-suite))

@@ -16,19 +16,25 @@ same-length : tie.Need-same-length
 same-length c = search needs
 
 returns : tie.Need-returns
-returns c = let done = c .before .before in rw (done .before .before .match .keys1) (done .write-module-keys .ensures)
+returns c =
+    let done = c .before .before in
+    rw (done .before .before .match .keys1) (done .write-module-keys .ensures)
 
 same-length-2 : tie.Need-same-length-2
 same-length-2 c = search needs
 
 returns-2 : tie.Need-returns-2
-returns-2 c = let done = c .before .before in rw (done .before .before .match .keys2) (done .write-module-setup .ensures)
+returns-2 c =
+    let done = c .before .before in
+    rw (done .before .before .match .keys2) (done .write-module-setup .ensures)
 
 same-length-3 : tie.Need-same-length-3
 same-length-3 c = search needs
 
 returns-3 : tie.Need-returns-3
-returns-3 c = let done = c .before .before in rw (done .before .before .match .keys3) (done .write-card-recovery .ensures)
+returns-3 c =
+    let done = c .before .before in
+    rw (done .before .before .match .keys3) (done .write-card-recovery .ensures)
 
 returns-4 : tie.Need-returns-4
 returns-4 c = subject-nowhere _ _ _ _ (search (needs, not-between))
