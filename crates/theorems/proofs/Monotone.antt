@@ -13,7 +13,7 @@ use borrow.Author.Tests.{eqb-true, eq-eqb, leb-true, le-leb, ltb-true}
 use Rattle.rules.specs.Basics.{Bytes, implies, Every, same, bit, within, present, bothSame, matches}
 use Rattle.rules.specs.Acl.{Parameters, BlobRule, ArchiveRule, Action, permissions, makeBlob, makeArchive, Group}
 use Rattle.rules.specs.Request.{Token, WorkingBlob, RecoveryBlob, Wanted, operation, workingBlob, recoveryBlob, Hint}
-use Rattle.rules.specs.Grant.{tighter, meets, nullKey, admitsDirect, admitsToken, admitsKey, admitsUnder, admitsBlob, admitsArchive, admits}
+use Rattle.rules.specs.Grant.{timeAnswers, tighter, meets, nullKey, admitsDirect, admitsToken, admitsKey, admitsUnder, admitsBlob, admitsArchive, admits, admitsUse, admitsWorking, admitsRecovery}
 use Rattle.rules.specs.Narrow.{kept, keptParameters, blobNoWider, archiveNoWider, noWider, noWiderThan, actionsNoWider, groupNarrows, narrowsSource, narrowsFrom}
 use Rattle.rules.proofs.Laws.{never, and-left, and-right, and-both, or-cases, or-left, or-right, implied, implication, every-at, allBelow-at, allBelow-all, same-eq, eq-same, bothSame-eq}
 
@@ -34,10 +34,6 @@ within-trans k a b c p q =
     (λ i h. implication (bit i a) (bit i c) (λ r. within-at k b c i h q (within-at k a b i h p r)))
 
 ruleset conj = (and-left, and-right, and-both)
-
--- a time limit that answers another
-abbrev timeAnswers : ℕ → ℕ → Bool
-timeAnswers new old = eqb old 0 || ltb 0 new && leb new old
 
 time-trans : (p n o : ℕ) → timeAnswers p n ≡ true → timeAnswers n o ≡ true → timeAnswers p o ≡ true
 time-trans p n o d e = pick (or-cases (eqb o 0) (ltb 0 n && leb n o) e) (or-cases (eqb n 0) (ltb 0 p && leb p n) d)
@@ -135,7 +131,7 @@ archive-wider n o w e d =
 
 -- What an action admits, a wider one admits.
 pub admits-wider : (km0 : Bytes) (w : Wanted) (n o : Action) → Known w → noWider n o ≡ true → admits km0 w n ≡ true → admits km0 w o ≡ true
-unfolding admits noWider
+unfolding admits admitsUse admitsWorking admitsRecovery noWider
 admits-wider km0 (operation p) (permissions n) (permissions o) k e d = within-at 16 n o p k e d
 admits-wider km0 (operation p) (permissions n) (makeBlob o) k e d = e
 admits-wider km0 (operation p) (permissions n) (makeArchive o) k e d = e

@@ -9,7 +9,7 @@ use Rattle.rules.specs.Layout.{header, zeroUnless, mechanismAt, tokenParameters
 use Rattle.rules.specs.Acl.{actionOf, limitsOf, actionsOf, groupsOf, among, limitInPlace, actionLaidOut, inPlace, hasRoom, afterRecord, aclRecordFault, aclFault}
 use Rattle.rules.specs.Request.{wantedOf, certificatesOf, requestFrom, requestLaidOut, useOf, certificateRecord, certificateFault, certificatesFault, requestFault, hintRecord, hintFault, hintsFault}
 use Rattle.rules.specs.Ledger.{freshLedger, raisedBy, charge}
-use Rattle.rules.specs.Grant.{admits}
+use Rattle.rules.specs.Grant.{limitLeft, serves, admitsUse, admitsWorking, admitsRecovery, admits}
 use Rattle.rules.specs.Narrow.{noWider, actionsNoWider, narrowsFrom}
 use Rattle.rules.specs.Gate.{Answer, permit, refuse, lowest, judge, request, clear, narrow, expand}
 use Rattle.rules.specs.Suites.{suite}
@@ -60,7 +60,7 @@ start = record { ledger = freshLedger; acl = useful }
 pub witness : (desk bundle useful ≡ accepted (byPolicy grade))
     × (answers start calls ≡ (permit 0 ∷ permit 0 ∷ refuse 8 ∷ permit 0 ∷ permit 0 ∷ refuse 7 ∷ refuse 4 ∷ []))
     × (map (officerSigned (records bundle)) calls ≡ (false ∷ false ∷ false ∷ false ∷ false ∷ false ∷ false ∷ []))
-unfolding outcome after byOfficer any all same numberFrom ascii allBelow within allZero chunks records fits firstFault recordFault eachFault scan header zeroUnless mechanismAt tokenParametersAt tokenParametersIf certifierMechanism counterOfSort groupLaidOut limitLaidOut permissionsLaidOut blobActionLaidOut archiveActionLaidOut useLaidOut blobRequestLaidOut recoveryLaidOut certificateLaidOut factLaidOut signatureLaidOut policyLaidOut hintLaidOut actionOf limitsOf actionsOf groupsOf among limitInPlace actionLaidOut inPlace hasRoom afterRecord aclRecordFault aclFault wantedOf certificatesOf requestFrom requestLaidOut useOf certificateRecord certificateFault certificatesFault requestFault hintRecord hintFault hintsFault admits raisedBy charge noWider actionsNoWider narrowsFrom lowest judge request clear narrow expand suite bundleRecordLaidOut orderOf bundleInPlace bundleHasRoom bundleRecordFault listedAfter bundleEnd bundleFault firstRecord numbered field lists listed signatureOutcome policyRecord policyOf kmVouched kmFipsVouched kreVouched moduleKey recoveryKey classOf policyAdmits actionFailure aclFailure actionProtection smallest keyProtection recoverableKey fullFailure basicFailure deskFault desk
+unfolding outcome after byOfficer any all same numberFrom ascii allBelow within allZero chunks records fits firstFault recordFault eachFault scan header zeroUnless mechanismAt tokenParametersAt tokenParametersIf certifierMechanism counterOfSort groupLaidOut limitLaidOut permissionsLaidOut blobActionLaidOut archiveActionLaidOut useLaidOut blobRequestLaidOut recoveryLaidOut certificateLaidOut factLaidOut signatureLaidOut policyLaidOut hintLaidOut actionOf limitsOf actionsOf groupsOf among limitInPlace actionLaidOut inPlace hasRoom afterRecord aclRecordFault aclFault wantedOf certificatesOf requestFrom requestLaidOut useOf certificateRecord certificateFault certificatesFault requestFault hintRecord hintFault hintsFault limitLeft serves admitsUse admitsWorking admitsRecovery admits raisedBy charge noWider actionsNoWider narrowsFrom lowest judge request clear narrow expand suite bundleRecordLaidOut orderOf bundleInPlace bundleHasRoom bundleRecordFault listedAfter bundleEnd bundleFault firstRecord numbered field lists listed signatureOutcome policyRecord policyOf kmVouched kmFipsVouched kreVouched moduleKey recoveryKey classOf policyAdmits actionFailure aclFailure actionProtection smallest keyProtection recoverableKey fullFailure basicFailure deskFault desk
 witness = (refl, refl, refl)
 
 -- .. and so demand 3 covers what they are permitted.

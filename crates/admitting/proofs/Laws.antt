@@ -1,0 +1,147 @@
+-- What the tests of this crate come to in the definitions' terms.
+use Prim.Native.Nat.{ℕ, suc, _+_, _-_, _*_, _/_, _%_, _^_, _≤_, _<_}
+use native.Mathlib.Omega.{arith}
+use native.Mathlib.Nat.{div-eq-of-lt}
+use mathlib.Core.Path.{_≡_, refl, sym, _∙_, ap}
+use mathlib.Core.List.{List, [], _∷_}
+use mathlib.Core.Option.{Option, none, some}
+use mathlib.Core.Bool.{Bool, true, false, not, _&&_, _||_}
+use borrow.Author.Tests.{eq-eqb, ne-eqb, not-true, not-false}
+use lib.ListN.{length, take, drop, getD}
+use lib.Dec.{eqb}
+use lib.Pow.{pow-mono}
+use Rattle.rules.specs.Basics.{Bytes, any, same, bit, part, number, byte, kind, flag, optional, present, matches, records}
+use Rattle.rules.specs.Acl.{Parameters, parametersOf, blobRuleOf, archiveRuleOf, actionOf, Action, actionsOf}
+use Rattle.rules.specs.Request.{Token, tokenOf, workingBlobOf, Wanted, operation, workingBlob, recoveryBlob, recoveryBlobOf, wantedOf}
+use Rattle.rules.specs.Grant.{tighter, meets, nullKey, admitsDirect, admitsToken, admitsKey, admitsBlob, admitsArchive, admitsUse, admitsWorking, admitsRecovery, admits}
+use Rattle.rules.proofs.Rows.{recordsFrom, rows-lent, rows-end, lentRecord, lent-record, kind-at}
+
+-- a field that a flag announces: absent, or to be compared
+module _ (u : Bool) (h k : Bytes) where
+  pub matches-absent : not u ≡ true → true ≡ matches (optional u h) k
+  matches-absent e = sym (rw (not-true u e))
+
+  pub matches-present : (r : Bool) → not u ≡ false → r ≡ same h k → r ≡ matches (optional u h) k
+  matches-present r e p = p ∙ sym (rw (not-false u e))
+
+module _ (u : Bool) (o p : Parameters) where
+  pub meets-absent : not u ≡ true → true ≡ meets (optional u o) p
+  meets-absent e = sym (rw (not-true u e))
+
+  pub meets-present : (r : Bool) → not u ≡ false → r ≡ tighter p o → r ≡ meets (optional u o) p
+  meets-present r e q = q ∙ sym (rw (not-false u e))
+
+present-optional : {A : Type 0} (t : Bool) (a : A) → present (optional t a) ≡ t
+present-optional true a = refl
+present-optional false a = refl
+
+pub direct-is : (act key : Bytes) (a b c d : Bool) → a ≡ flag 0 act → b ≡ flag 3 act → c ≡ flag 4 act → d ≡ same key nullKey
+    → (a && not b && not c && not d) ≡ admitsDirect (blobRuleOf act) key
+direct-is act key a b c d p q r s =
+    let e = present-optional (flag 3 act) (part 24 20 act) in
+    let f = present-optional (flag 4 act) (parametersOf (part 44 8 act)) in
+    rw (p, q, r, s) (sym (rw (e, f)))
+
+-- a working blob, with its token or direct
+module _ (km0 act rec : Bytes) (f a : Bool) (e : f ≡ flag 0 rec) (p : a ≡ admitsKey km0 (blobRuleOf act) (part 4 20 rec)) where
+  pub blob-token : (b : Bool) → f ≡ true → b ≡ admitsToken (blobRuleOf act) (part 4 20 rec) (tokenOf rec) → (a && b) ≡ admitsBlob km0 (blobRuleOf act) (workingBlobOf rec)
+  blob-token b h q = rw (p, q) (sym (rw (sym e ∙ h)))
+
+  pub blob-direct : (b : Bool) → f ≡ false → b ≡ admitsDirect (blobRuleOf act) (part 4 20 rec) → (a && b) ≡ admitsBlob km0 (blobRuleOf act) (workingBlobOf rec)
+  blob-direct b h q = rw (p, q) (sym (rw (sym e ∙ h)))
+
+-- a token's blob
+pub token-is : (act key rec : Bytes) (f g m n z w : Bool) → f ≡ flag 3 act → m ≡ matches (optional f (part 24 20 act)) (part 24 20 rec) → g ≡ flag 4 act
+    → n ≡ meets (optional g (parametersOf (part 44 8 act))) (parametersOf (part 44 8 rec)) → z ≡ same key nullKey → w ≡ flag 5 act
+    → (m && n && (not z || w)) ≡ admitsToken (blobRuleOf act) key (tokenOf rec)
+token-is act key rec f g m n z w a b c d e h = rw (b, a, d, c, e, h)
+
+-- An action by its kind, against what a request record asks for.
+high-bit : (p n : ℕ) → n < 65536 → 16 ≤ p → bit p n ≡ false
+high-bit p n h k =
+    let b : 2 ^ 16 ≤ 2 ^ p = pow-mono k in
+    let z : n / 2 ^ p ≡ 0 = div-eq-of-lt (omega arith) in
+    rw z
+
+module _ (p : ℕ) (act : Bytes) where
+  pub use-other : (kind act ≡ 3 → ⊥) → false ≡ admitsUse p (actionOf act)
+  unfolding admitsUse actionOf
+  use-other n = pick (eqb (kind act) 4) refl
+    where
+      pick : (b : Bool) → eqb (kind act) 4 ≡ b → false ≡ admitsUse p (actionOf act)
+      pick true e = rw (ne-eqb (kind act) 3 n, e)
+      pick false e = rw (ne-eqb (kind act) 3 n, e)
+
+  pub use-high : (x : ℕ) → kind act ≡ 3 → x ≡ number 4 2 act → 16 ≤ p → x < 65536 → false ≡ admitsUse p (actionOf act)
+  unfolding admitsUse actionOf
+  use-high x e q h k = sym (rw (eq-eqb (kind act) 3 e, ← q) (high-bit p x k h))
+
+  pub use-bit : (x : ℕ) (r : Bool) → kind act ≡ 3 → x ≡ number 4 2 act → r ≡ bit p x → r ≡ admitsUse p (actionOf act)
+  unfolding admitsUse actionOf
+  use-bit x r e q d = d ∙ sym (rw (eq-eqb (kind act) 3 e, ← q))
+
+module _ (km0 rec act : Bytes) where
+  pub working-other : (kind act ≡ 4 → ⊥) → false ≡ admitsWorking km0 (workingBlobOf rec) (actionOf act)
+  unfolding admitsWorking actionOf
+  working-other n = pick (eqb (kind act) 3) refl
+    where
+      pick : (b : Bool) → eqb (kind act) 3 ≡ b → false ≡ admitsWorking km0 (workingBlobOf rec) (actionOf act)
+      pick true e = rw e
+      pick false e = rw (e, ne-eqb (kind act) 4 n)
+
+  pub working-is : (r : Bool) → kind act ≡ 4 → r ≡ admitsBlob km0 (blobRuleOf act) (workingBlobOf rec) → r ≡ admitsWorking km0 (workingBlobOf rec) (actionOf act)
+  unfolding admitsWorking actionOf
+  working-is r e q = q ∙ sym (rw (ne-eqb (kind act) 3 (λ x. omega arith), eq-eqb (kind act) 4 e))
+
+module _ (rec act : Bytes) where
+  pub recovery-use : kind act ≡ 3 → false ≡ admitsRecovery (recoveryBlobOf rec) (actionOf act)
+  unfolding admitsRecovery actionOf
+  recovery-use e = sym (rw (eq-eqb (kind act) 3 e))
+
+  pub recovery-blob : kind act ≡ 4 → false ≡ admitsRecovery (recoveryBlobOf rec) (actionOf act)
+  unfolding admitsRecovery actionOf
+  recovery-blob e = sym (rw (ne-eqb (kind act) 3 (λ x. omega arith), eq-eqb (kind act) 4 e))
+
+  pub recovery-is : (r : Bool) → (kind act ≡ 3 → ⊥) → (kind act ≡ 4 → ⊥) → r ≡ admitsArchive (archiveRuleOf act) (recoveryBlobOf rec)
+      → r ≡ admitsRecovery (recoveryBlobOf rec) (actionOf act)
+  unfolding admitsRecovery actionOf
+  recovery-is r n m q = q ∙ sym (rw (ne-eqb (kind act) 3 n, ne-eqb (kind act) 4 m))
+
+-- what a request record asks for, by its kind
+module _ (km0 rec act : Bytes) where
+  pub asks-use : (r : Bool) → kind rec ≡ 6 → r ≡ admitsUse (byte 4 rec) (actionOf act) → r ≡ admits km0 (wantedOf rec) (actionOf act)
+  unfolding admits wantedOf
+  asks-use r e q = q ∙ sym (rw (eq-eqb (kind rec) 6 e))
+
+  pub asks-working : (r : Bool) → (kind rec ≡ 6 → ⊥) → kind rec ≡ 7 → r ≡ admitsWorking km0 (workingBlobOf rec) (actionOf act) → r ≡ admits km0 (wantedOf rec) (actionOf act)
+  unfolding admits wantedOf
+  asks-working r n e q = q ∙ sym (rw (ne-eqb (kind rec) 6 n, eq-eqb (kind rec) 7 e))
+
+  pub asks-recovery : (r : Bool) → (kind rec ≡ 6 → ⊥) → (kind rec ≡ 7 → ⊥) → r ≡ admitsRecovery (recoveryBlobOf rec) (actionOf act) → r ≡ admits km0 (wantedOf rec) (actionOf act)
+  unfolding admits wantedOf
+  asks-recovery r n m q = q ∙ sym (rw (ne-eqb (kind rec) 6 n, ne-eqb (kind rec) 7 m))
+
+-- A loop over a group's actions, from the place of one to that of the next.
+module _ (p : Action → Bool) (s : Bytes) (at : ℕ) (x : Bool) (inv : any p (actionsOf (recordsFrom s at)) ≡ x) where
+  acts-step : 64 ≤ length s - at → (getD s at 0 ≡ 1 → ⊥) → (getD s at 0 ≡ 2 → ⊥) → actionsOf (recordsFrom s at) ≡ actionOf (lentRecord s at) ∷ actionsOf (recordsFrom s (at + 64))
+  unfolding actionsOf
+  acts-step h n m =
+      ap actionsOf (rows-lent s at h)
+      ∙ rw (lent-record s at, kind-at s at, ne-eqb (getD s at 0) 1 n, ne-eqb (getD s at 0) 2 m)
+
+  pub acts-found : (t : Bool) → 64 ≤ length s - at → (getD s at 0 ≡ 1 → ⊥) → (getD s at 0 ≡ 2 → ⊥) → t ≡ p (actionOf (lentRecord s at)) → t ≡ true → true ≡ x
+  unfolding any
+  acts-found t h n m e y =
+      let q : p (actionOf (lentRecord s at)) ≡ true = sym e ∙ y in
+      sym (ap (any p) (acts-step h n m) ∙ rw q) ∙ inv
+
+  pub acts-next : (t : Bool) (r : ℕ) → 64 ≤ length s - at → (getD s at 0 ≡ 1 → ⊥) → (getD s at 0 ≡ 2 → ⊥) → t ≡ p (actionOf (lentRecord s at)) → t ≡ false
+      → actionsOf (records (drop r s)) ≡ actionsOf (records (drop (at + 64) s)) → any p (actionsOf (recordsFrom s r)) ≡ x
+  unfolding any recordsFrom
+  acts-next t r h n m e y d =
+      let q : p (actionOf (lentRecord s at)) ≡ false = sym e ∙ y in
+      ap (any p) d ∙ sym (ap (any p) (acts-step h n m) ∙ rw q) ∙ inv
+
+  pub acts-none : length s - at < 64 → false ≡ x
+  unfolding any actionsOf
+  acts-none h = sym (ap (λ (l : List Bytes). any p (actionsOf l)) (rows-end s at h)) ∙ inv

@@ -1,0 +1,20 @@
+use Rattle.admitting.proofs.Laws.{working-other, working-is}
+use borrow.Author.Needs.{needs}
+use Rattle.admitting.proofs.admits_working.Statement.{statement}
+use Rattle.admitting.proofs.admits_working.Tie as tie
+
+shared-slice-read-if1 : tie.Need-shared-slice-read-if1
+shared-slice-read-if1 c = search needs
+
+returns : tie.Need-returns
+returns c = search (needs, working-other)
+
+admits-blob-requires : tie.Need-admits-blob-requires
+admits-blob-requires c κs = search needs
+
+returns-2 : tie.Need-returns-2
+returns-2 c = search (needs, working-is)
+
+pub admits-working-spec : {M : Type 1} → statement M
+admits-working-spec =
+    tie.close (tie.spec shared-slice-read-if1 returns admits-blob-requires returns-2)
