@@ -64,7 +64,8 @@ fn admits_key(km0: &[u8], act: &[u8], key: &[u8]) -> bool
     requires { ⌜ length (now act) ≡ recordBytes ⌝ }
     ensures { λ r. ⌜ r ≡ admitsKey (now (km0 .entry)) (blobRuleOf (now (act .entry))) (now (key .entry)) ⌝ }
 {
-    matches_hash(fields::flag_of(2, act), &act[4..24], key) & (fields::flag_of(1, act) | fields::same_bytes(key, km0))
+    matches_hash(fields::flag_of(2, act), &act[4..24], key)
+        & (fields::flag_of(1, act) | fields::same_bytes(key, km0))
 }
 
 // A direct blob: AllowKmOnly, neither kthash nor ktparams, never under the null key.
@@ -72,7 +73,10 @@ fn admits_direct(act: &[u8], key: &[u8]) -> bool
     requires { ⌜ length (now act) ≡ recordBytes ⌝ }
     ensures { λ r. ⌜ r ≡ admitsDirect (blobRuleOf (now (act .entry))) (now (key .entry)) ⌝ }
 {
-    fields::flag_of(0, act) & !fields::flag_of(3, act) & !fields::flag_of(4, act) & !is_null_key(key)
+    fields::flag_of(0, act)
+        & !fields::flag_of(3, act)
+        & !fields::flag_of(4, act)
+        & !is_null_key(key)
 }
 
 // A token's blob: kthash and ktparams if present; under the null key only with AllowNullKmToken.
@@ -102,7 +106,8 @@ fn admits_archive(act: &[u8], rec: &[u8]) -> bool
     requires { ⌜ (length (now act) ≡ recordBytes) × (length (now rec) ≡ recordBytes) ⌝ }
     ensures { λ r. ⌜ r ≡ admitsArchive (archiveRuleOf (now (act .entry))) (recoveryBlobOf (now (rec .entry))) ⌝ }
 {
-    (fields::be16(act, 24) == fields::be16(rec, 24)) & matches_hash(fields::flag_of(0, act), &act[4..24], &rec[4..24])
+    (fields::be16(act, 24) == fields::be16(rec, 24))
+        & matches_hash(fields::flag_of(0, act), &act[4..24], &rec[4..24])
 }
 
 // Whether an action admits a use of permission p: the bit is set. No number has a bit past the sixteenth.

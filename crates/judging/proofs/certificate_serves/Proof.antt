@@ -1,0 +1,57 @@
+use Rattle.judging.proofs.Laws.{serves-is}
+use borrow.Author.Needs.{needs}
+use Rattle.judging.proofs.certificate_serves.Statement.{statement}
+use Rattle.judging.proofs.certificate_serves.Tie as tie
+
+sub-same-bytes : tie.Need-sub-same-bytes
+sub-same-bytes c = search needs
+
+part-same-bytes-start : tie.Need-part-same-bytes-start
+part-same-bytes-start c = search needs
+
+part-same-bytes-end : tie.Need-part-same-bytes-end
+part-same-bytes-end c = search needs
+
+sub-same-bytes-2 : tie.Need-sub-same-bytes-2
+sub-same-bytes-2 c = search needs
+
+part-same-bytes-start-2 : tie.Need-part-same-bytes-start-2
+part-same-bytes-start-2 c = search needs
+
+part-same-bytes-end-2 : tie.Need-part-same-bytes-end-2
+part-same-bytes-end-2 c = search needs
+
+same-bytes-requires : tie.Need-same-bytes-requires
+same-bytes-requires c κs = search needs
+
+flag-of-requires : tie.Need-flag-of-requires
+flag-of-requires c κs = search needs
+
+be16-requires : tie.Need-be16-requires
+be16-requires c κs = search needs
+
+be16-requires-2 : tie.Need-be16-requires-2
+be16-requires-2 c κs = search needs
+
+matches-number-requires : tie.Need-matches-number-requires
+matches-number-requires c κs = search needs
+
+returns : tie.Need-returns
+returns c = search (needs, serves-is)
+
+pub certificate-serves-spec : {M : Type 1} → statement M
+certificate-serves-spec =
+    tie.close
+    (tie.spec
+    sub-same-bytes
+    part-same-bytes-start
+    part-same-bytes-end
+    sub-same-bytes-2
+    part-same-bytes-start-2
+    part-same-bytes-end-2
+    same-bytes-requires
+    flag-of-requires
+    be16-requires
+    be16-requires-2
+    matches-number-requires
+    returns)

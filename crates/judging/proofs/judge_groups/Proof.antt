@@ -1,0 +1,143 @@
+use Prim.Native.Nat.{_≤_, _-_}
+use mathlib.Core.Path.{_≡_, refl}
+use lib.ListN.{length}
+use Rattle.rules.specs.Basics.{records}
+use Rattle.rules.specs.Acl.{groupsOf, aclOf}
+use Rattle.rules.specs.Request.{wantedOf, certificatesOf}
+use Rattle.rules.proofs.Rows.{recordsFrom}
+use Rattle.judging.specs.declared.Near.the-variants.{Nothing}
+use Rattle.judging.specs.Standings.{judgedFrom, standing}
+use Rattle.judging.proofs.Laws.{groups-skip, groups-grant, groups-next, groups-done, standing-at}
+use borrow.Author.Needs.{needs}
+use Rattle.judging.proofs.judge_groups.Statement.{statement}
+use Rattle.judging.proofs.judge_groups.Tie as tie
+
+abbrev Inv-loop : tie.InvT-loop
+Inv-loop counts counters elapsed km0 rec certs acl near₀ place₀ at₀ near place at = (at ≤ length acl) × ((place ≤ at) × (judgedFrom (standing counts counters elapsed km0 (wantedOf rec) (certificatesOf (records certs))) near place (groupsOf (recordsFrom acl at)) ≡ judgedFrom (standing counts counters elapsed km0 (wantedOf rec) (certificatesOf (records certs))) Nothing 0 (aclOf acl)))
+
+abbrev μ-loop : tie.MeasureT-loop
+μ-loop counts counters elapsed km0 rec certs acl near₀ place₀ at₀ near place at = length acl - at
+
+loop-holds : tie.Need-loop-holds Inv-loop μ-loop
+unfolding recordsFrom
+loop-holds c = (search needs, (search needs, refl))
+
+sub-loop : tie.Need-sub-loop Inv-loop μ-loop
+sub-loop c = search needs
+
+shared-slice-read-if1 : tie.Need-shared-slice-read-if1 Inv-loop μ-loop
+shared-slice-read-if1 c = search needs
+
+add-at : tie.Need-add-at Inv-loop μ-loop
+add-at c = search needs
+
+loop-less : tie.Need-loop-less Inv-loop μ-loop
+loop-less c = search needs
+
+loop-again : tie.Need-loop-again Inv-loop μ-loop
+loop-again c = (search needs, (search needs, search (needs, groups-skip)))
+
+count-at-requires : tie.Need-count-at-requires Inv-loop μ-loop
+count-at-requires c κs = search needs
+
+add-group-standing : tie.Need-add-group-standing Inv-loop μ-loop
+add-group-standing c = search needs
+
+sub-group-standing : tie.Need-sub-group-standing Inv-loop μ-loop
+sub-group-standing c = search needs
+
+part-group-standing-start : tie.Need-part-group-standing-start Inv-loop μ-loop
+part-group-standing-start c = search needs
+
+part-group-standing-end : tie.Need-part-group-standing-end Inv-loop μ-loop
+part-group-standing-end c = search needs
+
+add-group-standing-2 : tie.Need-add-group-standing-2 Inv-loop μ-loop
+add-group-standing-2 c = search needs
+
+sub-group-standing-2 : tie.Need-sub-group-standing-2 Inv-loop μ-loop
+sub-group-standing-2 c = search needs
+
+part-group-standing-start-2 : tie.Need-part-group-standing-start-2 Inv-loop μ-loop
+part-group-standing-start-2 c = search needs
+
+part-group-standing-end-2 : tie.Need-part-group-standing-end-2 Inv-loop μ-loop
+part-group-standing-end-2 c = search needs
+
+group-standing-requires : tie.Need-group-standing-requires Inv-loop μ-loop
+group-standing-requires c κs = search needs
+
+grants-requires : tie.Need-grants-requires Inv-loop μ-loop
+grants-requires c κs = search needs
+
+returns : tie.Need-returns Inv-loop μ-loop
+returns c =
+    let s = c .before .before in
+    let o = s .before .before .before in
+    let e = o .before in
+    let l = e .before .before in
+    let a = l .before .before .before .before .before .before .before .before .args in
+    let d = standing-at _ _ _ _ _ _ _ _ (a .acl .now) (l .before .loop .at) _ (o .count-at .ensures) (s .group-standing .ensures) in
+    groups-grant _ _ _ _ _ _ (l .before .loop .inv .1 .1) (l .loop-test .taken) (e .if1 .left) _ d _ (c .before .grants .ensures) (c .if2 .taken)
+
+near-with-requires : tie.Need-near-with-requires Inv-loop μ-loop
+near-with-requires c κs = search needs
+
+add-place : tie.Need-add-place Inv-loop μ-loop
+add-place c = search needs
+
+add-at-2 : tie.Need-add-at-2 Inv-loop μ-loop
+add-at-2 c = search needs
+
+loop-less-2 : tie.Need-loop-less-2 Inv-loop μ-loop
+loop-less-2 c = search needs
+
+loop-again-2 : tie.Need-loop-again-2 Inv-loop μ-loop
+loop-again-2 c =
+    let f = c .before in
+    let s = f .before .before in
+    let o = s .before .before .before in
+    let e = o .before in
+    let l = e .before .before in
+    let a = l .before .before .before .before .before .before .before .before .args in
+    let d = standing-at _ _ _ _ _ _ _ _ (a .acl .now) (l .before .loop .at) _ (o .count-at .ensures) (s .group-standing .ensures) in
+    let n = groups-next _ _ _ _ _ _ (l .before .loop .inv .1 .1) (l .loop-test .taken) (e .if1 .left) _ d _ (f .before .grants .ensures) _ (f .if2 .left) (c .near-with .ensures) in
+    (search needs, (search needs, n))
+
+denial-requires : tie.Need-denial-requires Inv-loop μ-loop
+denial-requires c κs = search needs
+
+returns-2 : tie.Need-returns-2 Inv-loop μ-loop
+returns-2 c = search (needs, groups-done)
+
+pub judge-groups-spec : {M : Type 1} → statement M
+judge-groups-spec =
+    tie.close
+    (tie.spec
+    Inv-loop
+    μ-loop
+    loop-holds
+    sub-loop
+    shared-slice-read-if1
+    add-at
+    loop-less
+    loop-again
+    count-at-requires
+    add-group-standing
+    sub-group-standing
+    part-group-standing-start
+    part-group-standing-end
+    add-group-standing-2
+    sub-group-standing-2
+    part-group-standing-start-2
+    part-group-standing-end-2
+    group-standing-requires
+    grants-requires
+    returns
+    near-with-requires
+    add-place
+    add-at-2
+    loop-less-2
+    loop-again-2
+    denial-requires
+    returns-2)

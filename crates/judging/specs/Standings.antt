@@ -1,0 +1,81 @@
+-- How far groups come, as the code says it, and the judgement of an ACL in one pass over its groups.
+use Prim.Native.Nat.{ℕ, suc}
+use mathlib.Core.List.{List, [], _∷_}
+use mathlib.Core.Bool.{Bool, true, false}
+use lib.ListN.{getD}
+use Rattle.rules.specs.Basics.{if_then_else_, Bytes, any, part, number, flag, optional, records}
+use Rattle.rules.specs.Acl.{Group, groupOf, limitsOf, actionsOf}
+use Rattle.rules.specs.Request.{Wanted, Certificate}
+use Rattle.rules.specs.Ledger.{Ledger}
+use Rattle.rules.specs.Grant.{admits, certifiedBy, unspentWith}
+use Rattle.rules.specs.Gate.{Denial, early, unadmitted, uncertified, exhausted, Judgement, granted, denied}
+use Rattle.judging.specs.declared.Standing.{Standing}
+use Rattle.judging.specs.declared.Standing.the-variants.{Silent, Admitting, Certified, Granting}
+use Rattle.judging.specs.declared.Near.{Near}
+use Rattle.judging.specs.declared.Near.the-variants as near
+use Rattle.judging.specs.declared.Judged.{Judged}
+use Rattle.judging.specs.declared.Judged.the-variants.{Granted, Early, Unadmitted, Uncertified, Exhausted}
+
+-- a group's standing, by whether it admits, is certified and is unspent
+abbrev pub standingOf : Bool → Bool → Bool → Standing
+standingOf admitting certifying left =
+    if admitting then (if certifying then (if left then Granting else Certified) else Admitting) else Silent
+
+-- "group with all three"
+abbrev pub isGranting : Standing → Bool
+isGranting Silent = false
+isGranting Admitting = false
+isGranting Certified = false
+isGranting Granting = true
+
+-- the nearest that came so far, with one group more
+abbrev pub nearer : Near → Standing → ℕ → Near
+nearer n Silent place = n
+nearer near.Nothing Admitting place = near.Admitting place
+nearer (near.Admitting k) Admitting place = near.Admitting k
+nearer (near.Certified k) Admitting place = near.Certified k
+nearer near.Nothing Certified place = near.Certified place
+nearer (near.Admitting k) Certified place = near.Certified place
+nearer (near.Certified k) Certified place = near.Certified k
+nearer n Granting place = n
+
+-- why no group grants, by the nearest
+abbrev pub denialOf : Near → Judged
+denialOf near.Nothing = Unadmitted
+denialOf (near.Admitting k) = Uncertified k
+denialOf (near.Certified k) = Exhausted k
+
+-- the judgement of groups numbered from `place`, after those whose nearest is given
+unfoldable pub judgedFrom : (ℕ → Group → Standing) → Near → ℕ → List Group → Judged
+judgedFrom standing n place [] = denialOf n
+judgedFrom standing n place (g ∷ gs) =
+    if isGranting (standing place g) then Granted place else judgedFrom standing (nearer n (standing place g) place) (suc place) gs
+
+-- a group's standing by the ledger's named counters, its own count, the seconds since load, and what a request asks for and presents
+abbrev pub standingWith : List ℕ → ℕ → ℕ → Bytes → Wanted → List Certificate → Group → Standing
+standingWith counters own elapsed km0 wanted certificates g =
+    standingOf (any (admits km0 wanted) (g .actions)) (certifiedBy (g .certifier) (g .mechanism) certificates)
+    (unspentWith counters own elapsed (g .limits))
+
+-- .. of a group at its place
+unfoldable pub standing : List ℕ → List ℕ → ℕ → Bytes → Wanted → List Certificate → ℕ → Group → Standing
+standing counts counters elapsed km0 wanted certificates place g = standingWith counters (getD counts place 0) elapsed km0 wanted certificates g
+
+-- .. of a group by its first record and those that follow
+unfoldable pub recordStanding : List ℕ → ℕ → ℕ → Bytes → Wanted → List Certificate → Bytes → List Bytes → Standing
+recordStanding counters own elapsed km0 wanted certificates r rest = standingWith counters own elapsed km0 wanted certificates (groupOf r rest)
+
+-- the judgement of the definitions, as the code answers it
+abbrev pub denialAs : Denial → Judged
+denialAs early = Early
+denialAs unadmitted = Unadmitted
+denialAs (uncertified place g) = Uncertified place
+denialAs (exhausted place g) = Exhausted place
+
+abbrev pub judgedAs : Judgement → Judged
+judgedAs (granted place g) = Granted place
+judgedAs (denied d) = denialAs d
+
+-- the ledger's tables and times as a ledger of the definitions
+abbrev pub tablesOf : List ℕ → List ℕ → ℕ → ℕ → Ledger
+tablesOf counts counters loaded last = record { counts = counts; counters = counters; loaded = loaded; last = last }

@@ -1,0 +1,307 @@
+// Judging a request on an ACL: whether a group is certified and unspent, the lowest group that admits and is both, and else how far the groups come.
+// The functions take the ledger's tables and times, not the ledger; they decode whatever bytes stand there.
+ghost use mathlib.Core.Path.{_≡_};
+ghost use mathlib.Core.Bool.{_&&_};
+ghost use Prim.Native.Nat.{_-_, _≤_};
+ghost use lib.ListN.{length, getD};
+ghost use Rattle.rules.specs.Sizes.{recordBytes};
+ghost use Rattle.rules.specs.Basics.{any, all, part, number, flag, optional, matchesNumber, records};
+ghost use Rattle.rules.specs.Acl.{limitOf, limitsOf, aclOf};
+ghost use Rattle.rules.specs.Request.{certificateOf, certificatesOf, requestOf, wantedOf};
+ghost use Rattle.rules.specs.Grant.{serves, certifiedBy, counterLeft, limitLeft, limitsLeft, unspentWith};
+ghost use Rattle.rules.specs.Gate.{judge};
+ghost use Rattle.judging.specs.Standings.{isGranting, standingOf, nearer, denialOf, judgedFrom, standing, recordStanding, judgedAs, tablesOf};
+
+// A full count: one more would not fit.
+const FULL: u32 = 4294967295;
+
+// How far a group comes: it does not admit; it admits; it admits and is certified; it admits, is certified and unspent.
+pub enum Standing {
+    Silent,
+    Admitting,
+    Certified,
+    Granting,
+}
+
+// The nearest that came before: no group; the lowest that admits; the lowest that admits and is certified.
+pub enum Near {
+    Nothing,
+    Admitting(usize),
+    Certified(usize),
+}
+
+// The judgement: the group that grants; or why none does, with the group that came nearest.
+pub enum Judged {
+    Granted(usize),
+    Early,
+    Unadmitted,
+    Uncertified(usize),
+    Exhausted(usize),
+}
+
+// A number against that of a group, if it has one.
+fn matches_number(used: bool, wanted: u16, n: u16) -> bool
+    ensures { λ r. ⌜ r ≡ matchesNumber (optional used wanted) n ⌝ }
+{
+    if !used {
+        return true;
+    }
+    wanted == n
+}
+
+// Whether a certificate has the hash of a group's certifier and, where named, its mechanism.
+fn certificate_serves(group: &[u8], cert: &[u8]) -> bool
+    requires { ⌜ (length (now group) ≡ recordBytes) × (length (now cert) ≡ recordBytes) ⌝ }
+    ensures { λ r. ⌜ r ≡ serves (part 4 20 (now (group .entry))) (optional (flag 1 (now (group .entry))) (number 24 2 (now (group .entry)))) (certificateOf (now (cert .entry))) ⌝ }
+{
+    fields::same_bytes(&cert[4..24], &group[4..24])
+        & matches_number(
+            fields::flag_of(1, group),
+            fields::be16(group, 24),
+            fields::be16(cert, 24),
+        )
+}
+
+// Whether one of the presented certificates does.
+fn some_serves(group: &[u8], certs: &[u8]) -> bool
+    requires { ⌜ length (now group) ≡ recordBytes ⌝ }
+    ensures { λ r. ⌜ r ≡ any (serves (part 4 20 (now (group .entry))) (optional (flag 1 (now (group .entry))) (number 24 2 (now (group .entry))))) (certificatesOf (records (now (certs .entry)))) ⌝ }
+{
+    let mut at = 0;
+    while 64 <= certs.len() - at {
+        if certs[at] != 9 {
+            at += 64;
+            continue;
+        }
+        if certificate_serves(group, &certs[at..at + 64]) {
+            return true;
+        }
+        at += 64;
+    }
+    false
+}
+
+// Whether a group is certified: it has no certifier, or a presented certificate serves.
+pub fn is_certified(group: &[u8], certs: &[u8]) -> bool
+    requires { ⌜ length (now group) ≡ recordBytes ⌝ }
+    ensures { λ r. ⌜ r ≡ certifiedBy (optional (flag 0 (now (group .entry))) (part 4 20 (now (group .entry)))) (optional (flag 1 (now (group .entry))) (number 24 2 (now (group .entry)))) (certificatesOf (records (now (certs .entry)))) ⌝ }
+{
+    if !fields::flag_of(0, group) {
+        return true;
+    }
+    some_serves(group, certs)
+}
+
+// A count of a table; 0 past its end.
+fn count_at(table: &[u32], i: usize) -> u32
+    ensures { λ r. ⌜ r ≡ getD (now (table .entry)) i 0 ⌝ }
+{
+    if table.len() <= i {
+        return 0;
+    }
+    table[i]
+}
+
+// Whether a limit leaves room: of a group's own count, of a named counter that is not full either, or of the seconds since load.
+fn limit_left(counters: &[u32], own: u32, elapsed: u64, limit: &[u8]) -> bool
+    requires { ⌜ length (now limit) ≡ recordBytes ⌝ }
+    ensures { λ r. ⌜ r ≡ limitLeft (now (counters .entry)) own elapsed (limitOf (now (limit .entry))) ⌝ }
+{
+    let sort = limit[4];
+    let maximum = fields::be32(limit, 8);
+    if sort == 1 {
+        return own < maximum;
+    }
+    if sort == 2 {
+        return counter_left(counters, limit[5], maximum);
+    }
+    elapsed < (maximum as u64)
+}
+
+// Whether a named counter is below a maximum and not full.
+fn counter_left(counters: &[u32], counter: u8, maximum: u32) -> bool
+    ensures { λ r. ⌜ r ≡ counterLeft (getD (now (counters .entry)) counter 0) maximum ⌝ }
+{
+    let n = count_at(counters, counter as usize);
+    (n < maximum) & (n < FULL)
+}
+
+// Whether every limit of a group leaves room, of the records that follow the group's first one.
+fn limits_left(counters: &[u32], own: u32, elapsed: u64, body: &[u8]) -> bool
+    ensures { λ r. ⌜ r ≡ limitsLeft (now (counters .entry)) own elapsed (limitsOf (records (now (body .entry)))) ⌝ }
+{
+    let mut at = 0;
+    while 64 <= body.len() - at {
+        if body[at] != 2 {
+            return true;
+        }
+        if !limit_left(counters, own, elapsed, &body[at..at + 64]) {
+            return false;
+        }
+        at += 64;
+    }
+    true
+}
+
+// Whether a group is unspent.
+pub fn is_unspent(counters: &[u32], own: u32, elapsed: u64, body: &[u8]) -> bool
+    ensures { λ r. ⌜ r ≡ unspentWith (now (counters .entry)) own elapsed (limitsOf (records (now (body .entry)))) ⌝ }
+{
+    (own < FULL) & limits_left(counters, own, elapsed, body)
+}
+
+// How far a group comes: its first record, the records that follow it, and its own count.
+fn group_standing(
+    counters: &[u32],
+    own: u32,
+    elapsed: u64,
+    km0: &[u8],
+    rec: &[u8],
+    certs: &[u8],
+    group: &[u8],
+    body: &[u8],
+) -> Standing
+    requires { ⌜ (length (now rec) ≡ recordBytes) × (length (now group) ≡ recordBytes) ⌝ }
+    ensures { λ r. ⌜ r ≡ recordStanding (now (counters .entry)) own elapsed (now (km0 .entry)) (wantedOf (now (rec .entry))) (certificatesOf (records (now (certs .entry)))) (now (group .entry)) (records (now (body .entry))) ⌝ }
+{
+    if !admitting::group_admits(km0, rec, body) {
+        return Standing::Silent;
+    }
+    if !is_certified(group, certs) {
+        return Standing::Admitting;
+    }
+    if !is_unspent(counters, own, elapsed, body) {
+        return Standing::Certified;
+    }
+    Standing::Granting
+}
+
+// Whether a standing grants.
+fn grants(s: Standing) -> bool
+    ensures { λ r. ⌜ r ≡ isGranting s ⌝ }
+{
+    match s {
+        Standing::Silent => false,
+        Standing::Admitting => false,
+        Standing::Certified => false,
+        Standing::Granting => true,
+    }
+}
+
+// The nearest with a group more that admits.
+fn near_admitting(n: Near, place: usize) -> Near
+    ensures { λ r. ⌜ r ≡ nearer n Standing.Admitting place ⌝ }
+{
+    match n {
+        Near::Nothing => Near::Admitting(place),
+        Near::Admitting(k) => Near::Admitting(k),
+        Near::Certified(k) => Near::Certified(k),
+    }
+}
+
+// The nearest with a group more that admits and is certified.
+fn near_certified(n: Near, place: usize) -> Near
+    ensures { λ r. ⌜ r ≡ nearer n Standing.Certified place ⌝ }
+{
+    match n {
+        Near::Nothing => Near::Certified(place),
+        Near::Admitting(_) => Near::Certified(place),
+        Near::Certified(k) => Near::Certified(k),
+    }
+}
+
+// The nearest with a group more.
+fn near_with(n: Near, s: Standing, place: usize) -> Near
+    ensures { λ r. ⌜ r ≡ nearer n s place ⌝ }
+{
+    match s {
+        Standing::Silent => n,
+        Standing::Admitting => near_admitting(n, place),
+        Standing::Certified => near_certified(n, place),
+        Standing::Granting => n,
+    }
+}
+
+// Why no group grants, by the nearest.
+fn denial(n: Near) -> Judged
+    ensures { λ r. ⌜ r ≡ denialOf n ⌝ }
+{
+    match n {
+        Near::Nothing => Judged::Unadmitted,
+        Near::Admitting(k) => Judged::Uncertified(k),
+        Near::Certified(k) => Judged::Exhausted(k),
+    }
+}
+
+// The lowest group that grants, or why none does.
+fn judge_groups(
+    counts: &[u32],
+    counters: &[u32],
+    elapsed: u64,
+    km0: &[u8],
+    rec: &[u8],
+    certs: &[u8],
+    acl: &[u8],
+) -> Judged
+    requires { ⌜ length (now rec) ≡ recordBytes ⌝ }
+    ensures { λ r. ⌜ r ≡ judgedFrom (standing (now (counts .entry)) (now (counters .entry)) elapsed (now (km0 .entry)) (wantedOf (now (rec .entry))) (certificatesOf (records (now (certs .entry))))) Near.Nothing 0 (aclOf (now (acl .entry))) ⌝ }
+{
+    let mut near = Near::Nothing;
+    let mut place = 0;
+    let mut at = 0;
+    while 64 <= acl.len() - at {
+        if acl[at] != 1 {
+            at += 64;
+            continue;
+        }
+        let own = count_at(counts, place);
+        let s = group_standing(
+            counters,
+            own,
+            elapsed,
+            km0,
+            rec,
+            certs,
+            &acl[at..at + 64],
+            &acl[at + 64..],
+        );
+        if grants(s) {
+            return Judged::Granted(place);
+        }
+        near = near_with(near, s, place);
+        place += 1;
+        at += 64;
+    }
+    denial(near)
+}
+
+// The judgement of a request: a time that does not go back, then the groups.
+pub fn judge_request(
+    counts: &[u32],
+    counters: &[u32],
+    loaded: u64,
+    last: u64,
+    km0: &[u8],
+    acl: &[u8],
+    req: &[u8],
+) -> Judged
+    requires { ⌜ 64 ≤ length (now req) ⌝ }
+    ensures { λ r. ⌜ r ≡ judgedAs (judge (tablesOf (now (counts .entry)) (now (counters .entry)) loaded last) (now (km0 .entry)) (aclOf (now (acl .entry))) (requestOf (now (req .entry)))) ⌝ }
+{
+    let time = request::time(req);
+    if time < loaded {
+        return Judged::Early;
+    }
+    if time < last {
+        return Judged::Early;
+    }
+    judge_groups(
+        counts,
+        counters,
+        time - loaded,
+        km0,
+        &req[0..64],
+        request::presented(req),
+        acl,
+    )
+}
