@@ -1,18 +1,18 @@
 -- The turns of the loops of this crate, and what the parts of a group say in the definitions' terms.
 use Prim.Native.Nat.{ℕ, zero, suc, _+_, _-_, _*_, _≤_, _<_, _/_, _%_}
 use native.Mathlib.Omega.{arith}
-use native.Mathlib.Numerals.{add-one}
+use native.Mathlib.Nat.{add-zero}
 use mathlib.Core.Path.{_≡_, refl, sym, _∙_, ap}
 use mathlib.Core.List.{List, [], _∷_, _++_, map, append-assoc, append-nil}
 use mathlib.Core.Bool.{Bool, true, false, not}
 use borrow.Author.Tests.{eq-eqb, ne-eqb, eqb-true}
 use lib.ListN.{length, take, drop, getD, length-drop, length-append, drop-of-length-le}
-use lib.Seq.{take-add, take-all, drop-drop, length-take-le, take-append-le, drop-append-le, drop-nil}
+use lib.Seq.{take-add, take-all, drop-drop, length-take-le, take-append-le, drop-append-le, drop-nil, getD-drop, getD-take}
 use lib.Dec.{eqb}
 use Rattle.rules.specs.Basics.{Bytes, part, kind, chunks, records}
-use Rattle.rules.specs.Acl.{Limit, limitOf, limitsOf, Action, actionOf, actionsOf, Group, groupsOf}
-use Rattle.rules.proofs.Rows.{recordsFrom, rows-at, rows-end, rows-start, rows-rest, kind-at, lentRest, first, no-rows}
-use Rattle.groups.specs.Parts.{leading, inGroup, isLimit, NextAction}
+use Rattle.rules.specs.Acl.{Limit, limitOf, limitsOf, Action, actionOf, actionsOf, Group, groupOf, groupsOf}
+use Rattle.rules.proofs.Rows.{recordsFrom, rows-at, rows-end, rows-start, rows-rest, kind-at, lentRest, lent-rest, first, no-rows}
+use Rattle.groups.specs.Parts.{leading, inGroup, isLimit, NextAction, FromGroup, firstLimits, firstActions}
 
 -- a list of one
 snoc-cons : {A : Type 0} (xs : List A) (x : A) (ys : List A) → (xs ++ (x ∷ [])) ++ ys ≡ xs ++ (x ∷ ys)
@@ -135,7 +135,7 @@ module _ (s : Bytes) (at left : ℕ) (x : List Group) (inv : drop left (groupsOf
   unfolding groupsOf
   from-skip h n = sym (ap (λ (z : List Bytes). drop left (groupsOf z)) (rows-at s at h) ∙ rw (kind-at s at, ne-eqb (getD s at 0) 1 n)) ∙ inv
 
-  pub from-here : left ≡ 0 → groupsOf (records (lentRest s at)) ≡ x
+  from-here : left ≡ 0 → groupsOf (records (lentRest s at)) ≡ x
   from-here e = ap groupsOf (rows-rest s at) ∙ rw e at inv
 
   pub from-next : 64 ≤ length s - at → getD s at 0 ≡ 1 → (left ≡ 0 → ⊥) → drop (left - 1) (groupsOf (recordsFrom s (at + 64))) ≡ x
@@ -143,10 +143,47 @@ module _ (s : Bytes) (at left : ℕ) (x : List Group) (inv : drop left (groupsOf
   from-next h e n =
       sym (ap (λ (z : List Bytes). drop left (groupsOf z)) (rows-at s at h) ∙ rw (kind-at s at, eq-eqb (getD s at 0) 1 e) (drop-more left _ _ n)) ∙ inv
 
-  pub from-none : length s - at < 64 → groupsOf (records []) ≡ x
+  from-none : length s - at < 64 → groupsOf (records []) ≡ x
   unfolding groupsOf
   from-none h =
       ap groupsOf (no-rows [] (omega arith)) ∙ sym (drop-nil left) ∙ sym (ap (λ (z : List Bytes). drop left (groupsOf z)) (rows-end s at h)) ∙ inv
+
+-- what was found
+module _ (s : Bytes) (g at left : ℕ) (inv : drop left (groupsOf (recordsFrom s at)) ≡ drop g (groupsOf (records s))) where
+  pub found-here : 64 ≤ length s - at → getD s at 0 ≡ 1 → left ≡ 0 → FromGroup s g (lentRest s at)
+  found-here h k e =
+      record {
+        same = from-here s at left (drop g (groupsOf (records s))) inv e;
+        head = λ l. ap (λ (r : Bytes). getD r 0 0) (lent-rest s at) ∙ getD-drop at s 0 0 ∙ ap (λ (n : ℕ). getD s n 0) (add-zero at) ∙ k;
+      }
+
+  pub found-none : length s - at < 64 → FromGroup s g []
+  found-none h =
+      record {
+        same = from-none s at left (drop g (groupsOf (records s))) inv h;
+        head = λ l. absurd (omega arith);
+      }
+
+-- The records after a group's first one.
+module _ (acl : Bytes) (g : ℕ) (r : Bytes) (e : FromGroup acl g r) where
+  abbrev Body : Bytes → Type 0
+  Body b = (limitsOf (records b) ≡ firstLimits (drop g (groupsOf (records acl)))) × (actionsOf (records b) ≡ firstActions (drop g (groupsOf (records acl))))
+
+  pub body-none : length r < 64 → Body []
+  unfolding groupsOf limitsOf actionsOf
+  body-none h =
+      let n : records [] ≡ [] = no-rows [] (omega arith) in
+      let z : drop g (groupsOf (records acl)) ≡ [] = sym (e .same) ∙ ap groupsOf (no-rows r h) in
+      (rw (n, z), rw (n, z))
+
+  pub body-some : 64 ≤ length r → Body (take (length r - 64) (drop 64 r))
+  unfolding groupsOf
+  body-some h =
+      let b : records (take (length r - 64) (drop 64 r)) ≡ recordsFrom r 64 = rows-rest r 64 in
+      let k : eqb (kind (take 64 r)) 1 ≡ true = eq-eqb (kind (take 64 r)) 1 (getD-take 64 r 0 0 (omega arith) ∙ e .head h) in
+      let f : records r ≡ take 64 r ∷ recordsFrom r 64 = sym (rows-start r) ∙ rows-at r 0 (omega arith) in
+      let z : drop g (groupsOf (records acl)) ≡ groupOf (take 64 r) (recordsFrom r 64) ∷ groupsOf (recordsFrom r 64) = sym (e .same) ∙ ap groupsOf f ∙ rw k in
+      (rw (b, z), rw (b, z))
 
 -- What the parts say: the limits of a group are those of its leading limit records, and its own records have all its limits and actions.
 pub limits-of-part : (rs : List Bytes) → limitsOf rs ≡ map limitOf (leading isLimit rs)

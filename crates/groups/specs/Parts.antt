@@ -6,7 +6,7 @@ use mathlib.Core.Bool.{Bool, not}
 use lib.ListN.{length, getD, drop}
 use lib.Dec.{eqb}
 use Rattle.rules.specs.Basics.{if_then_else_, Bytes, kind, records}
-use Rattle.rules.specs.Acl.{actionsOf}
+use Rattle.rules.specs.Acl.{Limit, Action, actionsOf, Group, groupsOf}
 
 -- the records before the first that fails a test
 unfoldable pub leading : (Bytes → Bool) → List Bytes → List Bytes
@@ -36,3 +36,17 @@ pub record NextAction (s : Bytes) (at r : ℕ) : Type 0 where
   pub inside : r ≤ length s
   pub no-group : 64 ≤ length s - r → getD s r 0 ≡ 1 → ⊥
   pub no-limit : 64 ≤ length s - r → getD s r 0 ≡ 2 → ⊥
+
+-- An ACL from one of its groups on: the same groups are left, and the first record is that group's.
+pub record FromGroup (acl : Bytes) (g : ℕ) (r : Bytes) : Type 0 where
+  pub same : groupsOf (records r) ≡ drop g (groupsOf (records acl))
+  pub head : 64 ≤ length r → getD r 0 0 ≡ 1
+
+-- the limits and the actions of the first of some groups; none where there is no group
+abbrev pub firstLimits : List Group → List Limit
+firstLimits [] = []
+firstLimits (g ∷ gs) = g .limits
+
+abbrev pub firstActions : List Group → List Action
+firstActions [] = []
+firstActions (g ∷ gs) = g .actions

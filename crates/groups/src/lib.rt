@@ -4,12 +4,12 @@ ghost use mathlib.Core.Path.{_≡_};
 ghost use Prim.Native.Nat.{_≤_};
 ghost use lib.ListN.{length, drop};
 ghost use Rattle.rules.specs.Basics.{records};
-ghost use Rattle.rules.specs.Acl.{groupsOf};
-ghost use Rattle.groups.specs.Parts.{NextAction, limitRecords, groupRecords};
+ghost use Rattle.rules.specs.Acl.{limitsOf, actionsOf, aclOf};
+ghost use Rattle.groups.specs.Parts.{NextAction, FromGroup, firstLimits, firstActions, limitRecords, groupRecords};
 
 // The ACL from its group g on; empty where there is none.
 pub fn from_group(acl: &[u8], g: usize) -> &[u8]
-    ensures { λ r. ⌜ groupsOf (records (now r)) ≡ drop g (groupsOf (records (now (acl .entry)))) ⌝ }
+    ensures { λ r. ⌜ FromGroup (now (acl .entry)) g (now r) ⌝ }
 {
     let mut left = g;
     let mut at = 0;
@@ -25,6 +25,17 @@ pub fn from_group(acl: &[u8], g: usize) -> &[u8]
         at += 64;
     }
     &acl[0..0]
+}
+
+// The records that follow the first one of group g; empty where there is no such group.
+pub fn group_body(acl: &[u8], g: usize) -> &[u8]
+    ensures { λ r. ⌜ (limitsOf (records (now r)) ≡ firstLimits (drop g (aclOf (now (acl .entry))))) × (actionsOf (records (now r)) ≡ firstActions (drop g (aclOf (now (acl .entry))))) ⌝ }
+{
+    let rest = from_group(acl, g);
+    if rest.len() < 64 {
+        return &rest[0..0];
+    }
+    &rest[64..]
 }
 
 // The records of a group, its first one left out, of the records that follow that one: those before the next group.

@@ -5,7 +5,7 @@ use lib.ListN.{length, take, drop}
 use Rattle.rules.specs.Basics.{records}
 use Rattle.rules.proofs.Rows.{recordsFrom}
 use Rattle.rules.specs.Acl.{groupsOf}
-use Rattle.groups.proofs.Laws.{from-skip, from-here, from-next, from-none}
+use Rattle.groups.proofs.Laws.{from-skip, from-next, found-here, found-none}
 use borrow.Author.Needs.{needs}
 use Rattle.groups.proofs.from_group.Statement.{statement}
 use Rattle.groups.proofs.from_group.Tie as tie
@@ -45,7 +45,7 @@ part-result-end : tie.Need-part-result-end Inv-loop μ-loop
 part-result-end c = search needs
 
 returns : tie.Need-returns Inv-loop μ-loop
-returns c = search (needs, from-here)
+returns c = search (needs, found-here)
 
 sub-left : tie.Need-sub-left Inv-loop μ-loop
 sub-left c = search needs
@@ -69,7 +69,7 @@ part-result-end-2 : tie.Need-part-result-end-2 Inv-loop μ-loop
 part-result-end-2 c = search needs
 
 returns-2 : tie.Need-returns-2 Inv-loop μ-loop
-returns-2 c = search (needs, from-none)
+returns-2 c = search (needs, found-none)
 
 pub from-group-spec : {M : Type 1} → statement M
 from-group-spec =

@@ -1,0 +1,187 @@
+// The gate: the ledger, and the steps that take it whole and hand it back.
+ghost use mathlib.Core.Path.{_≡_};
+ghost use mathlib.Core.Bool.{true};
+ghost use mathlib.Core.Option.{none};
+ghost use Prim.Native.Nat.{_≤_, _<_};
+ghost use lib.ListN.{length, getD, drop};
+ghost use Rattle.rules.specs.Sizes.{fullCount};
+ghost use Rattle.rules.specs.Basics.{all, records};
+ghost use Rattle.rules.specs.Acl.{limitsOf, aclOf};
+ghost use Rattle.rules.specs.Request.{requestOf};
+ghost use Rattle.rules.specs.Ledger.{freshLedger, raised, raisedBy};
+ghost use Rattle.rules.specs.Gate.{load, clear, request, requestFiles, refused, permitted, settle, judge};
+ghost use Rattle.files.specs.Refusals.{refusalNumber, faultOf};
+ghost use Rattle.groups.specs.Parts.{firstLimits};
+ghost use Rattle.gate.specs.Outcomes.{ledgerOf, outcomeOf, hasRoom, limitHasRoom, raisedOnce, chargedWith};
+use files::Checked;
+use files::Refusal;
+use judging::Judged;
+
+// What was used: a count for each group, the named counters, the load time and the last time, in seconds.
+pub struct Ledger {
+    pub counts: [u32; Ledger::GROUPS],
+    pub counters: [u32; Ledger::COUNTERS],
+    pub loaded: u64,
+    pub last: u64,
+}
+
+// What the gate answers: a load or a clear is done, a group permits, or a refusal.
+pub enum Reply {
+    Done,
+    Permit(usize),
+    Refuse(Refusal),
+}
+
+// The ledger handed back, with the reply.
+pub struct Outcome {
+    pub ledger: Ledger,
+    pub reply: Reply,
+}
+
+// The named counters before a charge, and as it raises them.
+struct Raising {
+    before: [u32; Ledger::COUNTERS],
+    table: [u32; Ledger::COUNTERS],
+}
+
+impl Raising {
+    fn start(counters: [u32; Ledger::COUNTERS]) -> Self
+        ensures { λ r. ⌜ (r .before ≡ counters) × (r .table ≡ counters) ⌝ }
+    {
+        Self {
+            before: counters,
+            table: counters,
+        }
+    }
+
+    // A limit of sort 2 raises its counter to 1 more than it was before the charge. Another limit, or a number past the table, raises nothing.
+    fn raise(mut self, sort: u8, counter: u8) -> Self
+        requires { ⌜ hasRoom (self .before) sort counter ≡ true ⌝ }
+        ensures { λ r. ⌜ (r .before ≡ self .before) × (r .table ≡ raisedOnce (self .before) (self .table) sort counter) ⌝ }
+    {
+        if sort != 2 {
+            return self;
+        }
+        let i = counter as usize;
+        if Ledger::COUNTERS <= i {
+            return self;
+        }
+        let n = self.before[i];
+        self.table[i] = n + 1;
+        self
+    }
+
+    // Each counter that the limits of a group name, of the records that follow the group's first one, is raised.
+    fn raise_all(self, body: &[u8]) -> Self
+        requires { ⌜ all (limitHasRoom (self .before)) (limitsOf (records (now body))) ≡ true ⌝ }
+        ensures { λ r. ⌜ r .table ≡ raisedBy (self .before) (limitsOf (records (now (body .entry)))) (self .table) ⌝ }
+    {
+        let mut now = self;
+        let mut at = 0;
+        while 64 <= body.len() - at {
+            if body[at] != 2 {
+                return now;
+            }
+            let sort = body[at + 4];
+            let counter = body[at + 5];
+            now = now.raise(sort, counter);
+            at += 64;
+        }
+        now
+    }
+}
+
+// The group counts after a charge.
+fn raise_count(mut counts: [u32; 16], place: usize) -> [u32; 16]
+    requires { ⌜ getD counts place 0 < fullCount ⌝ }
+    ensures { λ r. ⌜ r ≡ raised counts place counts ⌝ }
+{
+    if Ledger::GROUPS <= place {
+        return counts;
+    }
+    counts[place] = counts[place] + 1;
+    counts
+}
+
+impl Ledger {
+    // Record length and table sizes.
+    pub const RECORD: usize = sizes::RECORD;
+
+    pub const GROUPS: usize = sizes::GROUPS;
+
+    pub const LIMITS: usize = sizes::LIMITS;
+
+    pub const ACTIONS: usize = sizes::ACTIONS;
+
+    pub const COUNTERS: usize = sizes::COUNTERS;
+
+    // The fresh ledger: all zero.
+    pub fn fresh() -> Self
+        ensures { λ r. ⌜ ledgerOf r ≡ freshLedger ⌝ }
+    {
+        Self {
+            counts: [0u32; Ledger::GROUPS],
+            counters: [0u32; Ledger::COUNTERS],
+            loaded: 0,
+            last: 0,
+        }
+    }
+
+    // A load, at any time: group counts zero, both times set to it.
+    pub fn load(mut self, time: u64) -> Outcome
+        ensures { λ r. ⌜ outcomeOf r ≡ load (ledgerOf self) time ⌝ }
+    {
+        self.counts = [0u32; Ledger::GROUPS];
+        self.loaded = time;
+        self.last = time;
+        Outcome {
+            ledger: self,
+            reply: Reply::Done,
+        }
+    }
+
+    // A clear of one named counter.
+    pub fn clear(mut self, counter: usize) -> Outcome
+        ensures { λ r. ⌜ outcomeOf r ≡ clear (ledgerOf self) counter ⌝ }
+    {
+        if Ledger::COUNTERS <= counter {
+            return self.refuse(Refusal::OutOfRange);
+        }
+        self.counters[counter] = 0;
+        Outcome {
+            ledger: self,
+            reply: Reply::Done,
+        }
+    }
+
+    // A refusal: the ledger stands.
+    fn refuse(self, why: Refusal) -> Outcome
+        ensures { λ r. ⌜ outcomeOf r ≡ refused (ledgerOf self) (refusalNumber why) ⌝ }
+    {
+        Outcome {
+            ledger: self,
+            reply: Reply::Refuse(why),
+        }
+    }
+
+    // A charge of the group at a place, whose limits are in `body`: own count and each named counter plus 1, last time set. The group is unspent, so
+    // that neither is full.
+    fn charge(self, place: usize, time: u64, body: &[u8]) -> Outcome
+        requires { ⌜ (getD (self .counts) place 0 < fullCount) × (all (limitHasRoom (self .counters)) (limitsOf (records (now body))) ≡ true) ⌝ }
+        ensures { λ r. ⌜ outcomeOf r ≡ permitted place (chargedWith (ledgerOf self) place (limitsOf (records (now (body .entry)))) time) ⌝ }
+    {
+        let counts = self.counts;
+        let counters = self.counters;
+        let raised = raise_count(counts, place);
+        let named = Raising::start(counters).raise_all(body).table;
+        Outcome {
+            ledger: Ledger {
+                counts: raised,
+                counters: named,
+                loaded: self.loaded,
+                last: time,
+            },
+            reply: Reply::Permit(place),
+        }
+    }
+}
