@@ -9,7 +9,7 @@ ghost use Rattle.rules.specs.Basics.{all, records};
 ghost use Rattle.rules.specs.Acl.{limitsOf, aclOf};
 ghost use Rattle.rules.specs.Request.{requestOf};
 ghost use Rattle.rules.specs.Ledger.{freshLedger, raised, raisedBy};
-ghost use Rattle.rules.specs.Gate.{load, clear, request, requestFiles, refused, permitted, settle, judge};
+ghost use Rattle.rules.specs.Gate.{load, clear, request, lengthsFit, requestFiles, refused, permitted, settle, judge};
 ghost use Rattle.files.specs.Refusals.{refusalNumber, faultOf};
 ghost use Rattle.groups.specs.Parts.{firstLimits};
 ghost use Rattle.gate.specs.Outcomes.{ledgerOf, outcomeOf, hasRoom, limitHasRoom, raisedOnce, chargedWith};
@@ -182,6 +182,67 @@ impl Ledger {
                 last: time,
             },
             reply: Reply::Permit(place),
+        }
+    }
+}
+
+// Whether KM0, the ACL and the request file have lengths that they may have.
+fn lengths_fit(km0: &[u8], acl: &[u8], req: &[u8]) -> bool
+    ensures { λ r. ⌜ r ≡ lengthsFit (now (km0 .entry)) (now (acl .entry)) (now (req .entry)) ⌝ }
+{
+    (km0.len() == sizes::HASH)
+        & files::whole(sizes::ACL_RECORDS, acl)
+        & files::whole(sizes::REQUEST_RECORDS, req)
+}
+
+// The first fault of a request's files.
+fn request_files(km0: &[u8], acl: &[u8], req: &[u8]) -> Checked
+    ensures { λ r. ⌜ faultOf r ≡ requestFiles (now (km0 .entry)) (now (acl .entry)) (now (req .entry)) ⌝ }
+{
+    if !lengths_fit(km0, acl, req) {
+        return Checked::Refused(Refusal::BadLength);
+    }
+    let first = acl::acl_records(acl);
+    match first {
+        Checked::Refused(r) => Checked::Refused(r),
+        Checked::Sound => request::request_records(req),
+    }
+}
+
+impl Ledger {
+    // What becomes of a request whose files are sound: the lowest group that grants is charged, or the refusal says how far the groups came.
+    fn settle(self, km0: &[u8], acl: &[u8], req: &[u8]) -> Outcome
+        requires { ⌜ 64 ≤ length (now req) ⌝ }
+        ensures { λ r. ⌜ outcomeOf r ≡ settle (ledgerOf self) (requestOf (now (req .entry)) .time) permitted (judge (ledgerOf self) (now (km0 .entry)) (aclOf (now (acl .entry))) (requestOf (now (req .entry)))) ⌝ }
+    {
+        let counts = self.counts;
+        let counters = self.counters;
+        let judged = judging::judge_request(
+            &counts,
+            &counters,
+            self.loaded,
+            self.last,
+            km0,
+            acl,
+            req,
+        );
+        match judged {
+            Judged::Granted(k) => self.charge(k, request::time(req), groups::group_body(acl, k)),
+            Judged::Early => self.refuse(Refusal::ClockBack),
+            Judged::Unadmitted => self.refuse(Refusal::NotAdmitted),
+            Judged::Uncertified(_) => self.refuse(Refusal::NotCertified),
+            Judged::Exhausted(_) => self.refuse(Refusal::Spent),
+        }
+    }
+
+    // A request for a use or a blob: KM0, the ACL, the request with its certificates. Any bytes get a reply; a refusal hands the ledger back as it was.
+    pub fn request(self, km0: &[u8], acl: &[u8], req: &[u8]) -> Outcome
+        ensures { λ r. ⌜ outcomeOf r ≡ request (ledgerOf self) (now (km0 .entry)) (now (acl .entry)) (now (req .entry)) ⌝ }
+    {
+        let fault = request_files(km0, acl, req);
+        match fault {
+            Checked::Refused(r) => self.refuse(r),
+            Checked::Sound => self.settle(km0, acl, req),
         }
     }
 }

@@ -1,0 +1,48 @@
+use mathlib.Core.Path.{sym, _∙_, ap}
+use Rattle.rules.specs.Gate.{request}
+use Rattle.files.specs.Refusals.{faultOf}
+use Rattle.gate.proofs.Settling.{refused-by, not-refused, files-sound}
+use borrow.Author.Needs.{needs}
+use Rattle.gate.proofs.Ledger.request.Statement.{statement}
+use Rattle.gate.proofs.Ledger.request.Tie as tie
+
+request-files-requires : tie.Need-request-files-requires
+request-files-requires c κs = search needs
+
+enum-known-fault : tie.Need-enum-known-fault
+enum-known-fault c = search needs
+
+refuse-requires : tie.Need-refuse-requires
+refuse-requires c κs = search needs
+
+enum-told : tie.Need-enum-told
+enum-told c = search needs
+
+settle-requires : tie.Need-settle-requires
+settle-requires c κs =
+    let a = c .before .before .before .before .before .before .args in
+    files-sound (a .km0 .now) (a .acl .now) (a .req .now) (sym (c .before .before .request-files .ensures) ∙ ap faultOf (c .enum-told .given .1))
+
+returns : tie.Need-returns
+unfolding request
+returns c =
+    let f = c .before .before in
+    refused-by _ _ _ _ _ (sym (f .before .before .request-files .ensures) ∙ ap faultOf (f .fault .given .1)) (c .refuse .ensures)
+
+returns-2 : tie.Need-returns-2
+unfolding request
+returns-2 c =
+    let t = c .before in
+    not-refused _ _ _ _ (sym (t .before .before .request-files .ensures) ∙ ap faultOf (t .enum-told .given .1)) (c .settle .ensures)
+
+pub request-spec : {M : Type 1} → statement M
+request-spec =
+    tie.close
+    (tie.spec
+    request-files-requires
+    enum-known-fault
+    refuse-requires
+    enum-told
+    settle-requires
+    returns
+    returns-2)

@@ -1,0 +1,180 @@
+-- From a judgement to the outcome: the group that grants stands at its place, is not full, and is charged; a denial keeps the ledger.
+use Prim.Native.Nat.{ℕ, zero, suc, _+_, _-_, _≤_, _<_}
+use native.Mathlib.Omega.{arith}
+use native.Mathlib.Nat.{zero-add}
+use mathlib.Core.Path.{_≡_, refl, sym, _∙_, ap}
+use mathlib.Core.List.{List, [], _∷_}
+use mathlib.Core.Option.{Option, none, some}
+use mathlib.Core.Bool.{Bool, true, false, _&&_, false≢true}
+use borrow.Author.Tests.{eq-eqb, ne-eqb, eqb-true, ltb-true, ltb-false}
+use lib.ListN.{length, take, drop, getD}
+use lib.Dec.{eqb, ltb}
+use Rattle.rules.specs.Sizes.{fullCount}
+use Rattle.rules.specs.Numbers.{malformed, clockBack, notAdmitted, notCertified, spent}
+use Rattle.rules.specs.Basics.{if_then_else_, Bytes, implies, all, records, unless, orNext, firstFault}
+use Rattle.rules.specs.Acl.{Limit, limitsOf, Group, aclOf, aclFault}
+use Rattle.rules.specs.Request.{Request, requestOf, requestLaidOut, requestFault}
+use Rattle.rules.specs.Ledger.{Ledger, charge}
+use Rattle.rules.specs.Grant.{limitLeft, limitsLeft, groupAdmits, certified, unspent}
+use Rattle.rules.specs.Gate.{Outcome, Lowest, nobody, group, lowest, Denial, early, unadmitted, uncertified, exhausted, numberOf, Judgement, granted, denied, grants, tooEarly, whyNot, judgedBy, judge, refused, permitted, settle, unlessFault, requestFiles}
+use Rattle.rules.proofs.Laws.{never, and-left, and-right, and-both, implication, fault-none-every}
+use Rattle.rules.proofs.Rows.{no-rows}
+use Rattle.groups.specs.Parts.{firstLimits}
+use Rattle.judging.specs.declared.Judged.{Judged}
+use Rattle.judging.specs.declared.Judged.the-variants.{Granted, Early, Unadmitted, Uncertified, Exhausted}
+use Rattle.judging.specs.Standings.{denialAs, judgedAs}
+use Rattle.gate.specs.Outcomes.{hasRoom, limitHasRoom, chargedWith}
+
+-- the lowest group stands at its place, counted from `place`, and passes
+lowest-at : (test : ℕ → Group → Bool) (place : ℕ) (gs : List Group) (k : ℕ) (g : Group) → lowest test place gs ≡ group k g
+    → (i : ℕ) × (k ≡ place + i) × (firstLimits (drop i gs) ≡ g .limits) × (test k g ≡ true)
+unfolding lowest
+lowest-at test place [] k g e = absurd (never (cc))
+lowest-at test place (x ∷ xs) k g e = pick (test place x) refl (lowest-at test (suc place) xs k g)
+  where
+    pick : (b : Bool) → test place x ≡ b
+        → (lowest test (suc place) xs ≡ group k g → (i : ℕ) × (k ≡ suc place + i) × (firstLimits (drop i xs) ≡ g .limits) × (test k g ≡ true))
+        → (i : ℕ) × (k ≡ place + i) × (firstLimits (drop i (x ∷ xs)) ≡ g .limits) × (test k g ≡ true)
+    pick true q f =
+        let d : group place x ≡ group k g = rw q at e in
+        let a : place ≡ k = cc in
+        let b : x ≡ g = cc in
+        (0, omega arith, ap (λ (z : Group). z .limits) b, rw (← a, ← b) q)
+    pick false q f =
+        let r = f (rw q at e) in
+        (suc (r .0), omega (arith, r .1), r .2, r .3)
+
+module _ (l : Ledger) (km0 : Bytes) (gs : List Group) (q : Request) where
+  judge-found : (k : ℕ) (g : Group) → judge l km0 gs q ≡ granted k g → lowest (grants l km0 q) 0 gs ≡ group k g
+  unfolding judge
+  judge-found k g e = pick (tooEarly l q) refl
+    where
+      low : (r : Lowest) → judgedBy (whyNot km0 gs q) r ≡ granted k g → r ≡ group k g
+      low nobody f = absurd (never (cc))
+      low (group j x) f = let a : j ≡ k = cc in let b : x ≡ g = cc in rw (a, b)
+
+      pick : (b : Bool) → tooEarly l q ≡ b → lowest (grants l km0 q) 0 gs ≡ group k g
+      pick true d = let c : denied early ≡ granted k g = rw d at e in absurd (never (cc))
+      pick false d = low (lowest (grants l km0 q) 0 gs) (rw d at e)
+
+  -- what the code's answer says
+  granted-as : (k : ℕ) → Granted k ≡ judgedAs (judge l km0 gs q) → (g : Group) × (judge l km0 gs q ≡ granted k g)
+  granted-as k e = pick (judge l km0 gs q) refl
+    where
+      none-granted : (d : Denial) → Granted k ≡ denialAs d → ⊥
+      none-granted early f = never (cc)
+      none-granted unadmitted f = never (cc)
+      none-granted (uncertified p g) f = never (cc)
+      none-granted (exhausted p g) f = never (cc)
+
+      pick : (j : Judgement) → judge l km0 gs q ≡ j → (g : Group) × (j ≡ granted k g)
+      pick (granted p g) d = let c : Granted k ≡ Granted p = e ∙ ap judgedAs d in let n : p ≡ k = cc in (g, ap (λ (z : ℕ). granted z g) n)
+      pick (denied x) d = absurd (none-granted x (e ∙ ap judgedAs d))
+
+  -- the group that grants has the limits that stand at its place
+  pub granted-limits : (k : ℕ) → Granted k ≡ judgedAs (judge l km0 gs q) → (g : Group) × (judge l km0 gs q ≡ granted k g) × (firstLimits (drop k gs) ≡ g .limits) × (grants l km0 q k g ≡ true)
+  granted-limits k e =
+      let j = granted-as k e in
+      let r = lowest-at (grants l km0 q) 0 gs k (j .0) (judge-found k (j .0) (j .1)) in
+      let i : r .0 ≡ k = omega (arith, r .1) in
+      (j .0, j .1, rw i at (r .2), r .3)
+
+  pub settle-granted : (k time : ℕ) (o : Outcome) (ms : List Limit) → Granted k ≡ judgedAs (judge l km0 gs q) → ms ≡ firstLimits (drop k gs) → time ≡ q .time
+      → o ≡ permitted k (chargedWith l k ms time) → o ≡ settle l (q .time) permitted (judge l km0 gs q)
+  unfolding charge
+  settle-granted k time o ms e m t p =
+      let r = granted-limits k e in
+      p ∙ rw (m ∙ r .2, t, r .1)
+
+  -- its own count and its named counters are not full
+  count-room : (k : ℕ) (g : Group) → grants l km0 q k g ≡ true → getD (l .counts) k 0 < fullCount
+  count-room k g e =
+      let u : unspent l k q g ≡ true = and-right (groupAdmits km0 q g && certified q g) (unspent l k q g) e in
+      let own = getD (l .counts) k 0 in
+      ltb-true own fullCount (and-left (ltb own fullCount) (limitsLeft (l .counters) own (q .time - l .loaded) (g .limits)) u)
+
+  limits-room : (own elapsed : ℕ) (ms : List Limit) → limitsLeft (l .counters) own elapsed ms ≡ true → all (limitHasRoom (l .counters)) ms ≡ true
+  unfolding all limitLeft limitHasRoom
+  limits-room own elapsed [] e = refl
+  limits-room own elapsed (m ∷ ms) e =
+      and-both (limitHasRoom (l .counters) m) (all (limitHasRoom (l .counters)) ms)
+      (implication (eqb (m .sort) 2) (ltb (getD (l .counters) (m .counter) 0) fullCount) one)
+      (limits-room own elapsed ms (and-right (limitLeft (l .counters) own elapsed m) (all (limitLeft (l .counters) own elapsed) ms) e))
+    where
+      one : eqb (m .sort) 2 ≡ true → ltb (getD (l .counters) (m .counter) 0) fullCount ≡ true
+      one s =
+          let q2 = eqb-true (m .sort) 2 s in
+          let n = getD (l .counters) (m .counter) 0 in
+          let d : limitLeft (l .counters) own elapsed m ≡ true = and-left (limitLeft (l .counters) own elapsed m) (all (limitLeft (l .counters) own elapsed) ms) e in
+          let f : (ltb n (m .maximum) && ltb n fullCount) ≡ true = rw q2 at d in
+          and-right (ltb n (m .maximum)) (ltb n fullCount) f
+
+  pub charge-room : (k : ℕ) (ms : List Limit) → Granted k ≡ judgedAs (judge l km0 gs q) → ms ≡ firstLimits (drop k gs)
+      → (getD (l .counts) k 0 < fullCount) × (all (limitHasRoom (l .counters)) ms ≡ true)
+  charge-room k ms e m =
+      let r = granted-limits k e in
+      let g = r .0 in
+      let own = getD (l .counts) k 0 in
+      let u : unspent l k q g ≡ true = and-right (groupAdmits km0 q g && certified q g) (unspent l k q g) (r .3) in
+      let x = and-right (ltb own fullCount) (limitsLeft (l .counters) own (q .time - l .loaded) (g .limits)) u in
+      (count-room k g (r .3), rw (m ∙ r .2) (limits-room own (q .time - l .loaded) (g .limits) x))
+
+-- A denial keeps the ledger: its number, by the code's answer.
+abbrev pub numberAs : Judged → Option ℕ
+numberAs (Granted k) = none
+numberAs Early = some clockBack
+numberAs Unadmitted = some notAdmitted
+numberAs (Uncertified k) = some notCertified
+numberAs (Exhausted k) = some spent
+
+number-same : (d : Denial) → numberAs (denialAs d) ≡ some (numberOf d)
+number-same early = refl
+number-same unadmitted = refl
+number-same (uncertified k g) = refl
+number-same (exhausted k g) = refl
+
+denied-kept : (l : Ledger) (time : ℕ) (onPermit : ℕ → Ledger → Outcome) (j : Judgement) (r : Judged) (n : ℕ) (o : Outcome)
+    → r ≡ judgedAs j → numberAs r ≡ some n → o ≡ refused l n → o ≡ settle l time onPermit j
+denied-kept l time onPermit (granted k g) r n o e d p = let c : none ≡ some n = sym (ap numberAs e) ∙ d in absurd (never (cc))
+denied-kept l time onPermit (denied x) r n o e d p =
+    let c : some (numberOf x) ≡ some n = sym (number-same x) ∙ sym (ap numberAs e) ∙ d in
+    let q : n ≡ numberOf x = cc in
+    p ∙ ap (refused l) q
+
+pub settle-denied : (l : Ledger) (km0 : Bytes) (gs : List Group) (q : Request) (onPermit : ℕ → Ledger → Outcome) (r : Judged) (n : ℕ) (o : Outcome)
+    → r ≡ judgedAs (judge l km0 gs q) → numberAs r ≡ some n → o ≡ refused l n → o ≡ settle l (q .time) onPermit (judge l km0 gs q)
+settle-denied l km0 gs q onPermit r n o e d p = denied-kept l (q .time) onPermit (judge l km0 gs q) r n o e d p
+
+-- A request file without fault has a record.
+pub sound-request : (first : Bytes → Bool) (s : Bytes) → requestFault first (records s) ≡ none → 64 ≤ length s
+unfolding requestFault
+sound-request first s e = pick (ltb (length s) 64) refl
+  where
+    pick : (b : Bool) → ltb (length s) 64 ≡ b → 64 ≤ length s
+    pick true d =
+        let n : records s ≡ [] = no-rows s (ltb-true (length s) 64 d) in
+        let c : some malformed ≡ none = rw n at e in
+        absurd (never (cc))
+    pick false d = ltb-false (length s) 64 d
+
+-- A list of faults, where a reader found one, and where it found none.
+module _ (o x : Option ℕ) (ts : List (Option ℕ)) where
+  pub fault-found : (f : ℕ) → x ≡ o → x ≡ some f → x ≡ firstFault (o ∷ ts)
+  unfolding firstFault
+  fault-found f e d = d ∙ sym (rw (sym e ∙ d))
+
+  pub fault-passed : o ≡ none → x ≡ firstFault ts → x ≡ firstFault (o ∷ ts)
+  unfolding firstFault
+  fault-passed e p = p ∙ sym (rw e)
+
+-- A call whose files have a fault is refused with it; else it comes to what is made of the judgement.
+module _ (l : Ledger) (fault : Option ℕ) (o s : Outcome) where
+  pub refused-by : (n : ℕ) → fault ≡ some n → o ≡ refused l n → o ≡ unlessFault l fault s
+  refused-by n e p = p ∙ sym (rw e)
+
+  pub not-refused : fault ≡ none → o ≡ s → o ≡ unlessFault l fault s
+  not-refused e p = p ∙ sym (rw e)
+
+-- the request's records are sound where a request's files are
+pub files-sound : (km0 acl req : Bytes) → requestFiles km0 acl req ≡ none → 64 ≤ length req
+files-sound km0 acl req e = let h = fault-none-every _ e in sound-request requestLaidOut req (h .1 .1 .0)
