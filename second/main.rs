@@ -1,0 +1,73 @@
+//! A second program for the permission gate, the attestation desk and the subject writer, written
+//! from document 01 alone, so that its answers can be compared with those of the proved program.
+//! See README.md.
+
+mod acl;
+mod answer;
+mod damage;
+mod desk;
+mod edge_files;
+mod encode;
+mod gate;
+mod generate;
+mod make_acl;
+mod make_desk;
+mod make_narrowing;
+mod make_request;
+mod make_subject;
+mod random;
+mod record;
+mod replace;
+mod request;
+mod script;
+mod subject;
+
+use std::io::{self, BufReader, BufWriter};
+use std::process::ExitCode;
+
+use script::ALL_KINDS;
+
+const USAGE: &str = "usage: second answer [KINDS] < SCRIPT\n\
+                     \u{20}      second tally [KINDS] < SCRIPT\n\
+                     \u{20}      second generate SEED CALLS [KINDS] > SCRIPT";
+
+fn main() -> ExitCode {
+    let arguments: Vec<String> = std::env::args().skip(1).collect();
+    let words: Vec<&str> = arguments.iter().map(String::as_str).collect();
+    match run(&words) {
+        Ok(()) => ExitCode::SUCCESS,
+        Err(message) => {
+            eprintln!("{message}");
+            ExitCode::FAILURE
+        }
+    }
+}
+
+fn run(words: &[&str]) -> Result<(), String> {
+    let (command, numbers, kinds) = match words {
+        [command @ ("answer" | "tally")] => (*command, None, ALL_KINDS),
+        [command @ ("answer" | "tally"), kinds] => (*command, None, *kinds),
+        ["generate", seed, calls] => ("generate", Some((*seed, *calls)), ALL_KINDS),
+        ["generate", seed, calls, kinds] => ("generate", Some((*seed, *calls)), *kinds),
+        _ => return Err(USAGE.to_string()),
+    };
+    if kinds.is_empty() || !kinds.chars().all(|letter| ALL_KINDS.contains(letter)) {
+        return Err(format!(
+            "KINDS is some of the letters {ALL_KINDS}, not {kinds:?}"
+        ));
+    }
+    let mut input = BufReader::with_capacity(1 << 16, io::stdin().lock());
+    let mut output = BufWriter::with_capacity(1 << 16, io::stdout().lock());
+    let outcome = match numbers {
+        Some((seed, calls)) => {
+            generate::generate(&mut output, number(seed)?, number(calls)?, kinds)
+        }
+        None if command == "answer" => answer::answer_script(&mut input, &mut output, kinds),
+        None => answer::tally_script(&mut input, &mut output, kinds),
+    };
+    outcome.map_err(|error| format!("{command}: {error}"))
+}
+
+fn number(word: &str) -> Result<u64, String> {
+    word.parse().map_err(|_| format!("not a number: {word}"))
+}

@@ -1,0 +1,375 @@
+//! Makes ACLs near the edges of the rules, out of a small stock of hashes so that things often
+//! match.
+
+use crate::acl::{
+    Acl, Action, Group, Limit, MakeBlob, Sort, TokenParameters, LAST_COUNTER, MOST_ACTIONS,
+    MOST_GROUPS, MOST_LIMITS,
+};
+use crate::gate::{Ledger, NULL_MODULE_KEY};
+use crate::random::Random;
+use crate::record::Hash;
+
+/// Makes the files of calls. It knows the ledger as it stands, so that maxima and times fall near
+/// it.
+pub struct Maker {
+    pub random: Random,
+    pub ledger: Ledger,
+    /// The KM0 of the call being made.
+    pub km0: Hash,
+    /// Whether the script may load or start afresh; without that, a far time would block every
+    /// later request.
+    pub may_load: bool,
+}
+
+pub const ZERO_HASH: Hash = [0; 20];
+
+/// One hash of the stock: by its family and its number in it.
+pub fn stock(family: u8, number: u8) -> Hash {
+    let mut hash = [family; 20];
+    hash[0] = number;
+    hash[19] = number.wrapping_mul(17);
+    hash
+}
+
+/// Whether some action of the group has that permission's bit.
+pub fn allows(group: &Group, permission: u8) -> bool {
+    group.actions.iter().any(|action| match action {
+        Action::OpPermissions(bits) => bits >> permission & 1 == 1,
+        _ => false,
+    })
+}
+
+impl Maker {
+    pub fn new(seed: u64, may_load: bool) -> Maker {
+        Maker {
+            random: Random::new(seed),
+            ledger: Ledger::fresh(),
+            km0: stock(b'm', 0),
+            may_load,
+        }
+    }
+
+    /// The same hash but for one bit.
+    pub fn near(&mut self, hash: Hash) -> Hash {
+        let mut other = hash;
+        other[self.random.place(20)] ^= 1 << self.random.below(8);
+        other
+    }
+
+    /// A KM0 for a call of its own.
+    pub fn some_km0(&mut self) -> Hash {
+        let choices = [
+            (80, stock(b'm', 0)),
+            (8, stock(b'm', 1)),
+            (9, NULL_MODULE_KEY),
+            (3, ZERO_HASH),
+        ];
+        self.random.pick_weighted(&choices)
+    }
+
+    pub fn module_key(&mut self) -> Hash {
+        let near = self.near(self.km0);
+        let choices = [
+            (62, self.km0),
+            (12, stock(b'm', 1)),
+            (6, stock(b'm', 2)),
+            (14, NULL_MODULE_KEY),
+            (3, ZERO_HASH),
+            (3, near),
+        ];
+        self.random.pick_weighted(&choices)
+    }
+
+    pub fn token_hash(&mut self) -> Hash {
+        self.random.pick(&[
+            stock(b't', 0),
+            stock(b't', 0),
+            stock(b't', 1),
+            stock(b't', 2),
+            ZERO_HASH,
+        ])
+    }
+
+    pub fn recovery_key(&mut self) -> Hash {
+        self.random
+            .pick(&[stock(b'r', 0), stock(b'r', 0), stock(b'r', 1), ZERO_HASH])
+    }
+
+    pub fn certifier(&mut self) -> Hash {
+        self.random.pick(&[
+            stock(b'c', 0),
+            stock(b'c', 0),
+            stock(b'c', 1),
+            stock(b'c', 2),
+            ZERO_HASH,
+        ])
+    }
+
+    pub fn mechanism(&mut self) -> u16 {
+        self.random
+            .pick(&[1, 1, 2, 2, 3, 3, 4, 256, 257, 512, 65535])
+    }
+
+    /// Well-formed token parameters, often at an edge.
+    pub fn token_parameters(&mut self) -> TokenParameters {
+        let total = self.random.pick(&[1, 2, 3, 5, 5, 8, 63, 64]);
+        let needed = match self.random.below(4) {
+            0 => 1,
+            1 => total,
+            _ => self.random.between(1, u64::from(total)) as u8,
+        };
+        TokenParameters {
+            flags: self.random.below(2) as u16,
+            needed,
+            total,
+            time_limit: self.time_limit(),
+        }
+    }
+
+    pub fn time_limit(&mut self) -> u32 {
+        self.random
+            .pick(&[0, 0, 0, 1, 2, 60, 60, 3600, 0x0100_0000, u32::MAX])
+    }
+
+    /// Permission bits; ReduceACL, Sign and ExpandACL are set more often than others.
+    fn permissions(&mut self) -> u16 {
+        let any = self.random.next() as u16;
+        let some = any & self.random.next() as u16;
+        match self.random.weighted(&[45, 20, 15, 6, 3, 11]) {
+            0 => {
+                some | self
+                    .random
+                    .pick(&[1 << 2, 1 << 4, 1 << 12, 1 << 2 | 1 << 12])
+            }
+            1 => 1 << self.random.below(16),
+            2 => any,
+            3 => u16::MAX,
+            4 => 0,
+            _ => 1 << 2 | 1 << 4,
+        }
+    }
+
+    /// Every combination of the six flags; AllowKmOnly, and nothing about a token, more often.
+    pub fn make_blob(&mut self) -> MakeBlob {
+        let flags = self.random.next();
+        let optional = |bit: u32| flags >> bit & 1 == 1;
+        let about_token = !self.random.chance(25);
+        MakeBlob {
+            allow_km_only: optional(0) || optional(6),
+            allow_non_km0: optional(1),
+            allow_null_km_token: optional(2),
+            kmhash: optional(3).then(|| self.module_key()),
+            kthash: (about_token && optional(4)).then(|| self.token_hash()),
+            ktparams: (about_token && optional(5)).then(|| self.token_parameters()),
+        }
+    }
+
+    pub fn archive_action(&mut self) -> Action {
+        let kahash = self.random.chance(60).then(|| self.recovery_key());
+        Action::MakeArchiveBlob {
+            kahash,
+            mechanism: self.mechanism(),
+        }
+    }
+
+    pub fn action(&mut self) -> Action {
+        match self.random.weighted(&[50, 32, 18]) {
+            0 => Action::OpPermissions(self.permissions()),
+            1 => Action::MakeBlob(self.make_blob()),
+            _ => self.archive_action(),
+        }
+    }
+
+    /// Where the thing that a limit counts stands now.
+    fn standing(&self, place: usize, sort: Sort) -> u64 {
+        match sort {
+            Sort::UsesPerLoad => u64::from(self.ledger.group_counts[place.min(MOST_GROUPS - 1)]),
+            Sort::Counter(counter) => u64::from(self.ledger.counters[usize::from(counter)]),
+            Sort::SecondsSinceLoad => self.ledger.last_time - self.ledger.load_time,
+        }
+    }
+
+    /// A maximum near where the counted thing stands now, mostly above it.
+    pub fn maximum(&mut self, place: usize, sort: Sort) -> u32 {
+        let standing = self.standing(place, sort);
+        let ahead = self.random.between(1, 8);
+        let maximum = match self.random.weighted(&[56, 16, 8, 3, 4, 3, 4, 6]) {
+            0 => standing.saturating_add(ahead),
+            1 => u64::from(u32::MAX),
+            2 => standing,
+            3 => standing.saturating_sub(1),
+            4 => 0,
+            5 => 1,
+            6 => 2,
+            _ => self.random.next() >> 32,
+        };
+        maximum.min(u64::from(u32::MAX)) as u32
+    }
+
+    /// A few counters are named far more often than the rest, so that they fill up.
+    pub fn counter(&mut self) -> u8 {
+        match self.random.below(8) {
+            0 => LAST_COUNTER,
+            1 => LAST_COUNTER - 1,
+            2 => 0,
+            3 => self.random.between(0, u64::from(LAST_COUNTER)) as u8,
+            _ => self.random.between(1, 5) as u8,
+        }
+    }
+
+    pub fn sort(&mut self) -> Sort {
+        match self.random.below(5) {
+            0 | 1 => Sort::UsesPerLoad,
+            2 | 3 => Sort::Counter(self.counter()),
+            _ => Sort::SecondsSinceLoad,
+        }
+    }
+
+    /// Adds a limit of a sort that the group does not have yet, if the draw gives one.
+    pub fn add_limit(&mut self, group: &mut Group, place: usize) {
+        let sort = self.sort();
+        if group.limits.len() < MOST_LIMITS && group.limits.iter().all(|limit| limit.sort != sort) {
+            let maximum = self.maximum(place, sort);
+            group.limits.push(Limit { sort, maximum });
+        }
+    }
+
+    /// A group for that place of an ACL.
+    pub fn group(&mut self, place: usize) -> Group {
+        let mut group = Group::default();
+        if self.random.chance(28) {
+            group.certifier = Some(self.certifier());
+            group.mechanism = self.random.chance(50).then(|| self.mechanism());
+        }
+        for _ in 0..self
+            .random
+            .pick_weighted(&[(50, 0), (28, 1), (13, 2), (6, 3), (3, 5)])
+        {
+            self.add_limit(&mut group, place);
+        }
+        let actions =
+            self.random
+                .pick_weighted(&[(3, 0), (46, 1), (28, 2), (13, 3), (7, 5), (3, 8)]);
+        group.actions = (0..actions).map(|_| self.action()).collect();
+        group
+    }
+
+    pub fn acl(&mut self) -> Acl {
+        if self.random.once_in(400) {
+            return self.full_acl();
+        }
+        if self.random.once_in(60) {
+            return self.tall_acl();
+        }
+        let few = self.random.between(2, 4) as usize;
+        let many = self.random.between(5, 16) as usize;
+        let groups = self
+            .random
+            .pick_weighted(&[(3, 0), (32, 1), (55, few), (10, many)]);
+        Acl {
+            groups: (0..groups).map(|place| self.group(place)).collect(),
+        }
+    }
+
+    /// Sixteen groups with one permission each, so that the last ones are reached too.
+    fn tall_acl(&mut self) -> Acl {
+        let mut acl = Acl::default();
+        for place in 0..MOST_GROUPS {
+            let mut group = self.group(place);
+            group.actions = vec![Action::OpPermissions(1 << place)];
+            acl.groups.push(group);
+        }
+        acl
+    }
+
+    /// Sixteen groups of four limits and eight actions: the longest file.
+    pub fn full_acl(&mut self) -> Acl {
+        Acl {
+            groups: (0..MOST_GROUPS)
+                .map(|place| self.full_group(place))
+                .collect(),
+        }
+    }
+
+    fn full_group(&mut self, place: usize) -> Group {
+        let mut group = self.group(place);
+        while group.limits.len() < MOST_LIMITS {
+            self.add_limit(&mut group, place);
+        }
+        while group.actions.len() < MOST_ACTIONS {
+            let action = self.action();
+            group.actions.push(action);
+        }
+        group
+    }
+
+    /// A group with a certifier, a mechanism, limits and all three kinds of action: something to
+    /// break everywhere.
+    pub fn rich_group(&mut self, place: usize) -> Group {
+        let mut group = Group {
+            certifier: Some(self.certifier()),
+            ..Group::default()
+        };
+        group.mechanism = self.random.chance(75).then(|| self.mechanism());
+        for _ in 0..3 {
+            self.add_limit(&mut group, place);
+        }
+        let blob = MakeBlob {
+            kmhash: Some(self.module_key()),
+            kthash: Some(self.token_hash()),
+            ktparams: Some(self.token_parameters()),
+            ..self.make_blob()
+        };
+        group.actions = vec![
+            Action::OpPermissions(self.permissions()),
+            Action::MakeBlob(blob),
+            Action::MakeBlob(self.make_blob()),
+            Action::MakeArchiveBlob {
+                kahash: Some(self.recovery_key()),
+                mechanism: self.mechanism(),
+            },
+        ];
+        self.random.shuffle(&mut group.actions);
+        group
+    }
+
+    /// Sees to it that some group allows that permission.
+    pub fn allow(&mut self, acl: &mut Acl, permission: u8) {
+        if acl.groups.iter().any(|group| allows(group, permission)) {
+            return;
+        }
+        let bit = 1 << permission;
+        if acl.groups.is_empty() {
+            acl.groups.push(Group::default());
+        }
+        let place = self.random.place(acl.groups.len());
+        let actions = &mut acl.groups[place].actions;
+        for action in actions.iter_mut() {
+            if let Action::OpPermissions(bits) = action {
+                *bits |= bit;
+                return;
+            }
+        }
+        actions.truncate(MOST_ACTIONS - 1);
+        actions.push(Action::OpPermissions(bit));
+    }
+}
+
+#[cfg(test)]
+mod tests {
+    use super::*;
+    use crate::acl::read_acl;
+    use crate::encode;
+
+    #[test]
+    fn made_acls_are_well_formed() {
+        let mut maker = Maker::new(1, true);
+        for _ in 0..300 {
+            let acl = maker.acl();
+            assert_eq!(read_acl(&encode::acl(&acl)), Ok(acl));
+        }
+        let full = maker.full_acl();
+        assert_eq!(encode::acl(&full).len(), 13_312);
+        assert_eq!(read_acl(&encode::acl(&full)), Ok(full));
+    }
+}

@@ -1,0 +1,167 @@
+//! Records of 64 bytes: how a file is cut into them and how their parts are read.
+
+/// "Files are records of 64 bytes, no header."
+pub const RECORD_LENGTH: usize = 64;
+
+/// Every hash has twenty bytes.
+pub type Hash = [u8; 20];
+
+/// The refusal numbers of document 01.
+#[derive(Clone, Copy, Debug, PartialEq, Eq)]
+pub enum Refusal {
+    Length = 1,
+    Malformed = 2,
+    TooMany = 3,
+    TooEarly = 4,
+    NotAdmitted = 5,
+    NotCertified = 6,
+    Spent = 7,
+    NotNarrower = 8,
+    ShortBuffer = 9,
+    NoSuchNumber = 10,
+    NoSuchSuite = 11,
+}
+
+impl Refusal {
+    pub fn number(self) -> u8 {
+        self as u8
+    }
+}
+
+/// The first and the last byte of a part of a record, both counted in, as the document writes
+/// "4-23".
+pub type Part = (usize, usize);
+
+/// A part that holds no byte.
+const NO_PART: Part = (1, 0);
+
+/// An optional part: listed only where its flag is set, so that an absent one must be zero.
+pub fn part_if(present: bool, part: Part) -> Part {
+    if present {
+        part
+    } else {
+        NO_PART
+    }
+}
+
+/// One record of a file.
+#[derive(Clone, Copy)]
+pub struct Record<'a>(&'a [u8]);
+
+impl Record<'_> {
+    pub fn byte(self, place: usize) -> u8 {
+        self.0[place]
+    }
+
+    pub fn kind(self) -> u8 {
+        self.byte(0)
+    }
+
+    /// "Numbers are big-endian."
+    fn number(self, place: usize, length: usize) -> u64 {
+        self.0[place..place + length]
+            .iter()
+            .fold(0, |sum, &byte| sum * 256 + u64::from(byte))
+    }
+
+    pub fn number16(self, place: usize) -> u16 {
+        self.number(place, 2) as u16
+    }
+
+    pub fn number32(self, place: usize) -> u32 {
+        self.number(place, 4) as u32
+    }
+
+    pub fn number64(self, place: usize) -> u64 {
+        self.number(place, 8)
+    }
+
+    pub fn hash(self, place: usize) -> Hash {
+        let mut hash = [0; 20];
+        hash.copy_from_slice(&self.0[place..place + 20]);
+        hash
+    }
+
+    /// "Bytes 2-3 flags": flag f is bit f of that number.
+    pub fn flag(self, number: u32) -> bool {
+        self.number16(2) >> number & 1 == 1
+    }
+
+    /// A hash that is there only if its flag is set.
+    pub fn hash_if(self, flag: u32, place: usize) -> Option<Hash> {
+        self.flag(flag).then(|| self.hash(place))
+    }
+
+    /// "Byte 1 zero [...] Unlisted bytes, unlisted flag bits and absent optional fields are zero."
+    pub fn check_zeros(self, listed_flags: u16, listed: &[Part]) -> Result<(), Refusal> {
+        let is_listed = |place: usize| {
+            listed
+                .iter()
+                .any(|&(first, last)| first <= place && place <= last)
+        };
+        let flags_good = self.number16(2) & !listed_flags == 0;
+        let bytes_good = (4..RECORD_LENGTH).all(|place| is_listed(place) || self.byte(place) == 0);
+        malformed_unless(self.byte(1) == 0 && flags_good && bytes_good)
+    }
+}
+
+/// Refusal 2 where a rule about a record does not hold.
+pub fn malformed_unless(good: bool) -> Result<(), Refusal> {
+    if good {
+        Ok(())
+    } else {
+        Err(Refusal::Malformed)
+    }
+}
+
+/// Refusal 1: "a file not whole records or over its greatest length".
+pub fn check_length(file: &[u8], most_records: usize) -> Result<(), Refusal> {
+    if file.len() % RECORD_LENGTH == 0 && file.len() <= most_records * RECORD_LENGTH {
+        Ok(())
+    } else {
+        Err(Refusal::Length)
+    }
+}
+
+/// The records of a file whose length has been checked.
+pub fn records(file: &[u8]) -> impl Iterator<Item = Record<'_>> {
+    file.chunks_exact(RECORD_LENGTH).map(Record)
+}
+
+#[cfg(test)]
+mod tests {
+    use super::*;
+
+    #[test]
+    fn numbers_and_flags_are_big_endian() {
+        let mut bytes = [0; 64];
+        bytes[2..4].copy_from_slice(&[0x80, 0x02]);
+        bytes[8..12].copy_from_slice(&[1, 2, 3, 4]);
+        let record = Record(&bytes);
+        assert!(record.flag(15) && record.flag(1));
+        assert!(!record.flag(0) && !record.flag(9));
+        assert_eq!(record.number32(8), 0x0102_0304);
+    }
+
+    #[test]
+    fn a_byte_outside_the_listed_parts_is_refused() {
+        for place in 1..RECORD_LENGTH {
+            let mut bytes = [0; 64];
+            bytes[place] = 1;
+            let good = Record(&bytes).check_zeros(0, &[(4, 23), (30, 30)]).is_ok();
+            assert_eq!(
+                good,
+                (4..24).contains(&place) || place == 30,
+                "byte {place}"
+            );
+        }
+    }
+
+    #[test]
+    fn lengths() {
+        assert!(check_length(&[], 0).is_ok());
+        assert!(check_length(&[0; 128], 2).is_ok());
+        assert!(check_length(&[0; 128], 1).is_err());
+        assert!(check_length(&[0; 127], 2).is_err());
+    }
+}
