@@ -14,7 +14,8 @@ use Rattle.rules.specs.Basics.{Bytes, any, same, bit, part, number, byte, kind,
 use Rattle.rules.specs.Acl.{Parameters, parametersOf, blobRuleOf, archiveRuleOf, actionOf, Action, actionsOf}
 use Rattle.rules.specs.Request.{Token, tokenOf, workingBlobOf, Wanted, operation, workingBlob, recoveryBlob, recoveryBlobOf, wantedOf}
 use Rattle.rules.specs.Grant.{tighter, meets, nullKey, admitsDirect, admitsToken, admitsKey, admitsBlob, admitsArchive, admitsUse, admitsWorking, admitsRecovery, admits}
-use Rattle.rules.proofs.Rows.{recordsFrom, rows-lent, rows-end, lentRecord, lent-record, kind-at}
+use Rattle.rules.proofs.Rows.{recordsFrom, lentRecord}
+use Rattle.groups.proofs.Laws.{acts-step, acts-end}
 
 -- a field that a flag announces: absent, or to be compared
 module _ (u : Bool) (h k : Bytes) where
@@ -123,25 +124,19 @@ module _ (km0 rec act : Bytes) where
 
 -- A loop over a group's actions, from the place of one to that of the next.
 module _ (p : Action → Bool) (s : Bytes) (at : ℕ) (x : Bool) (inv : any p (actionsOf (recordsFrom s at)) ≡ x) where
-  acts-step : 64 ≤ length s - at → (getD s at 0 ≡ 1 → ⊥) → (getD s at 0 ≡ 2 → ⊥) → actionsOf (recordsFrom s at) ≡ actionOf (lentRecord s at) ∷ actionsOf (recordsFrom s (at + 64))
-  unfolding actionsOf
-  acts-step h n m =
-      ap actionsOf (rows-lent s at h)
-      ∙ rw (lent-record s at, kind-at s at, ne-eqb (getD s at 0) 1 n, ne-eqb (getD s at 0) 2 m)
-
   pub acts-found : (t : Bool) → 64 ≤ length s - at → (getD s at 0 ≡ 1 → ⊥) → (getD s at 0 ≡ 2 → ⊥) → t ≡ p (actionOf (lentRecord s at)) → t ≡ true → true ≡ x
   unfolding any
   acts-found t h n m e y =
       let q : p (actionOf (lentRecord s at)) ≡ true = sym e ∙ y in
-      sym (ap (any p) (acts-step h n m) ∙ rw q) ∙ inv
+      sym (ap (any p) (acts-step s at h n m) ∙ rw q) ∙ inv
 
   pub acts-next : (t : Bool) (r : ℕ) → 64 ≤ length s - at → (getD s at 0 ≡ 1 → ⊥) → (getD s at 0 ≡ 2 → ⊥) → t ≡ p (actionOf (lentRecord s at)) → t ≡ false
       → actionsOf (records (drop r s)) ≡ actionsOf (records (drop (at + 64) s)) → any p (actionsOf (recordsFrom s r)) ≡ x
   unfolding any recordsFrom
   acts-next t r h n m e y d =
       let q : p (actionOf (lentRecord s at)) ≡ false = sym e ∙ y in
-      ap (any p) d ∙ sym (ap (any p) (acts-step h n m) ∙ rw q) ∙ inv
+      ap (any p) d ∙ sym (ap (any p) (acts-step s at h n m) ∙ rw q) ∙ inv
 
   pub acts-none : length s - at < 64 → false ≡ x
-  unfolding any actionsOf
-  acts-none h = sym (ap (λ (l : List Bytes). any p (actionsOf l)) (rows-end s at h)) ∙ inv
+  unfolding any
+  acts-none h = sym (ap (any p) (acts-end s at h)) ∙ inv

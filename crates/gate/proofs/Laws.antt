@@ -14,7 +14,8 @@ use Rattle.rules.specs.Basics.{Bytes, all, part, byte, records}
 use Rattle.rules.specs.Acl.{Limit, limitOf, limitsOf}
 use Rattle.rules.specs.Ledger.{raised, raisedBy}
 use Rattle.rules.proofs.Laws.{and-left, and-right}
-use Rattle.rules.proofs.Rows.{recordsFrom, rows-at, rows-end, kind-at}
+use Rattle.rules.proofs.Rows.{recordsFrom, lent-record}
+use Rattle.groups.proofs.Laws.{limits-step, limits-stop, limits-end}
 use Rattle.gate.specs.Outcomes.{hasRoom, limitHasRoom, raisedOnce}
 
 -- a place past the table changes nothing
@@ -41,8 +42,7 @@ byte-at s at k h = getD-take 64 (drop at s) k 0 h ∙ getD-drop at s k 0
 -- A loop over the limits of a group.
 module _ (before : List ℕ) (s : Bytes) (at : ℕ) (h : 64 ≤ length s - at) (k : getD s at 0 ≡ 2) where
   limits-at : limitsOf (recordsFrom s at) ≡ limitOf (part at 64 s) ∷ limitsOf (recordsFrom s (at + 64))
-  unfolding limitsOf
-  limits-at = ap limitsOf (rows-at s at h) ∙ rw (kind-at s at, eq-eqb (getD s at 0) 2 k)
+  limits-at = limits-step s at h k ∙ ap (λ (r : Bytes). limitOf r ∷ limitsOf (recordsFrom s (at + 64))) (lent-record s at)
 
   pub room-here : all (limitHasRoom before) (limitsOf (recordsFrom s at)) ≡ true → hasRoom before (getD s (at + 4) 0) (getD s (at + 5) 0) ≡ true
   unfolding all limitHasRoom
@@ -68,10 +68,9 @@ module _ (before : List ℕ) (s : Bytes) (at : ℕ) (h : 64 ≤ length s - at) (
 
 module _ (before : List ℕ) (s : Bytes) (at : ℕ) (table x : List ℕ) (inv : raisedBy before (limitsOf (recordsFrom s at)) table ≡ x) where
   pub raised-stop : 64 ≤ length s - at → (getD s at 0 ≡ 2 → ⊥) → table ≡ x
-  unfolding raisedBy limitsOf
-  raised-stop h n =
-      sym (ap (λ (l : List Bytes). raisedBy before (limitsOf l) table) (rows-at s at h) ∙ rw (kind-at s at, ne-eqb (getD s at 0) 2 n)) ∙ inv
+  unfolding raisedBy
+  raised-stop h n = sym (ap (λ (l : List Limit). raisedBy before l table) (limits-stop s at h n)) ∙ inv
 
   pub raised-done : length s - at < 64 → table ≡ x
-  unfolding raisedBy limitsOf
-  raised-done h = sym (ap (λ (l : List Bytes). raisedBy before (limitsOf l) table) (rows-end s at h)) ∙ inv
+  unfolding raisedBy
+  raised-done h = sym (ap (λ (l : List Limit). raisedBy before l table) (limits-end s at h)) ∙ inv

@@ -157,16 +157,6 @@ sound-request first s e = pick (ltb (length s) 64) refl
         absurd (never (cc))
     pick false d = ltb-false (length s) 64 d
 
--- A list of faults, where a reader found one, and where it found none.
-module _ (o x : Option ℕ) (ts : List (Option ℕ)) where
-  pub fault-found : (f : ℕ) → x ≡ o → x ≡ some f → x ≡ firstFault (o ∷ ts)
-  unfolding firstFault
-  fault-found f e d = d ∙ sym (rw (sym e ∙ d))
-
-  pub fault-passed : o ≡ none → x ≡ firstFault ts → x ≡ firstFault (o ∷ ts)
-  unfolding firstFault
-  fault-passed e p = p ∙ sym (rw e)
-
 -- A call whose files have a fault is refused with it; else it comes to what is made of the judgement.
 module _ (l : Ledger) (fault : Option ℕ) (o s : Outcome) where
   pub refused-by : (n : ℕ) → fault ≡ some n → o ≡ refused l n → o ≡ unlessFault l fault s

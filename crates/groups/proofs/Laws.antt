@@ -5,13 +5,13 @@ use native.Mathlib.Nat.{add-zero}
 use mathlib.Core.Path.{_≡_, refl, sym, _∙_, ap}
 use mathlib.Core.List.{List, [], _∷_, _++_, map, append-assoc, append-nil}
 use mathlib.Core.Bool.{Bool, true, false, not}
-use borrow.Author.Tests.{eq-eqb, ne-eqb, eqb-true}
+use borrow.Author.Tests.{eq-eqb, ne-eqb, eqb-true, not-true, not-false}
 use lib.ListN.{length, take, drop, getD, length-drop, length-append, drop-of-length-le}
 use lib.Seq.{take-add, take-all, drop-drop, length-take-le, take-append-le, drop-append-le, drop-nil, getD-drop, getD-take}
 use lib.Dec.{eqb}
-use Rattle.rules.specs.Basics.{Bytes, part, kind, chunks, records}
+use Rattle.rules.specs.Basics.{Bytes, all, part, kind, records}
 use Rattle.rules.specs.Acl.{Limit, limitOf, limitsOf, Action, actionOf, actionsOf, Group, groupOf, groupsOf}
-use Rattle.rules.proofs.Rows.{recordsFrom, rows-at, rows-end, rows-start, rows-rest, kind-at, lentRest, lent-rest, first, no-rows}
+use Rattle.rules.proofs.Rows.{recordsFrom, rows-at, rows-end, rows-start, rows-rest, rows-lent, kind-at, lentRecord, lent-record, lentRest, lent-rest, first, no-rows}
 use Rattle.groups.specs.Parts.{leading, inGroup, isLimit, NextAction, FromGroup, firstLimits, firstActions}
 
 -- a list of one
@@ -214,3 +214,49 @@ actions-in-group (r ∷ rs) = pick (eqb (kind r) 1) refl (eqb (kind r) 2) refl (
     pick true q d e f = rw q
     pick false q true e f = rw (q, q, e) f
     pick false q false e f = rw (q, q, e) (ap (λ (z : List Action). actionOf r ∷ z) f)
+
+-- What stands at a place of a group: an action, a limit, or the end of either.
+module _ (s : Bytes) (at : ℕ) where
+  pub acts-step : 64 ≤ length s - at → (getD s at 0 ≡ 1 → ⊥) → (getD s at 0 ≡ 2 → ⊥) → actionsOf (recordsFrom s at) ≡ actionOf (lentRecord s at) ∷ actionsOf (recordsFrom s (at + 64))
+  unfolding actionsOf
+  acts-step h n m =
+      ap actionsOf (rows-lent s at h)
+      ∙ rw (lent-record s at, kind-at s at, ne-eqb (getD s at 0) 1 n, ne-eqb (getD s at 0) 2 m)
+
+  pub acts-end : length s - at < 64 → actionsOf (recordsFrom s at) ≡ []
+  unfolding actionsOf
+  acts-end h = ap actionsOf (rows-end s at h)
+
+  pub limits-step : 64 ≤ length s - at → getD s at 0 ≡ 2 → limitsOf (recordsFrom s at) ≡ limitOf (lentRecord s at) ∷ limitsOf (recordsFrom s (at + 64))
+  unfolding limitsOf
+  limits-step h e = ap limitsOf (rows-lent s at h) ∙ rw (lent-record s at, kind-at s at, eq-eqb (getD s at 0) 2 e)
+
+  pub limits-stop : 64 ≤ length s - at → (getD s at 0 ≡ 2 → ⊥) → limitsOf (recordsFrom s at) ≡ []
+  unfolding limitsOf
+  limits-stop h n = ap limitsOf (rows-lent s at h) ∙ rw (lent-record s at, kind-at s at, ne-eqb (getD s at 0) 2 n)
+
+  pub limits-end : length s - at < 64 → limitsOf (recordsFrom s at) ≡ []
+  unfolding limitsOf
+  limits-end h = ap limitsOf (rows-end s at h)
+
+-- A loop over limits, each of which has to pass.
+module _ (p : Limit → Bool) (s : Bytes) (at : ℕ) (x : Bool) (inv : all p (limitsOf (recordsFrom s at)) ≡ x) where
+  pub all-stop : 64 ≤ length s - at → (getD s at 0 ≡ 2 → ⊥) → true ≡ x
+  unfolding all
+  all-stop h n = sym (ap (all p) (limits-stop s at h n)) ∙ inv
+
+  pub all-failed : (t : Bool) → 64 ≤ length s - at → getD s at 0 ≡ 2 → t ≡ p (limitOf (lentRecord s at)) → not t ≡ true → false ≡ x
+  unfolding all
+  all-failed t h e d y =
+      let q : p (limitOf (lentRecord s at)) ≡ false = sym d ∙ not-true t y in
+      sym (ap (all p) (limits-step s at h e) ∙ rw q) ∙ inv
+
+  pub all-next : (t : Bool) → 64 ≤ length s - at → getD s at 0 ≡ 2 → t ≡ p (limitOf (lentRecord s at)) → not t ≡ false → all p (limitsOf (recordsFrom s (at + 64))) ≡ x
+  unfolding all
+  all-next t h e d y =
+      let q : p (limitOf (lentRecord s at)) ≡ true = sym d ∙ not-false t y in
+      sym (ap (all p) (limits-step s at h e) ∙ rw q) ∙ inv
+
+  pub all-done : length s - at < 64 → true ≡ x
+  unfolding all
+  all-done h = sym (ap (all p) (limits-end s at h)) ∙ inv

@@ -67,33 +67,6 @@ module _ (p : Certificate → Bool) (s : Bytes) (at : ℕ) (x : Bool) (inv : any
   unfolding any certificatesOf
   certs-none h = sym (ap (λ (l : List Bytes). any p (certificatesOf l)) (rows-end s at h)) ∙ inv
 
--- A loop over limits.
-module _ (p : Limit → Bool) (s : Bytes) (at : ℕ) (x : Bool) (inv : all p (limitsOf (recordsFrom s at)) ≡ x) where
-  limits-step : 64 ≤ length s - at → getD s at 0 ≡ 2 → limitsOf (recordsFrom s at) ≡ limitOf (lentRecord s at) ∷ limitsOf (recordsFrom s (at + 64))
-  unfolding limitsOf
-  limits-step h e = ap limitsOf (rows-lent s at h) ∙ rw (lent-record s at, kind-at s at, eq-eqb (getD s at 0) 2 e)
-
-  pub limits-stop : 64 ≤ length s - at → (getD s at 0 ≡ 2 → ⊥) → true ≡ x
-  unfolding limitsOf all
-  limits-stop h n =
-      sym (ap (λ (l : List Bytes). all p (limitsOf l)) (rows-lent s at h) ∙ rw (lent-record s at, kind-at s at, ne-eqb (getD s at 0) 2 n)) ∙ inv
-
-  pub limits-spent : (t : Bool) → 64 ≤ length s - at → getD s at 0 ≡ 2 → t ≡ p (limitOf (lentRecord s at)) → not t ≡ true → false ≡ x
-  unfolding all
-  limits-spent t h e d y =
-      let q : p (limitOf (lentRecord s at)) ≡ false = sym d ∙ not-true t y in
-      sym (ap (all p) (limits-step h e) ∙ rw q) ∙ inv
-
-  pub limits-next : (t : Bool) → 64 ≤ length s - at → getD s at 0 ≡ 2 → t ≡ p (limitOf (lentRecord s at)) → not t ≡ false → all p (limitsOf (recordsFrom s (at + 64))) ≡ x
-  unfolding all
-  limits-next t h e d y =
-      let q : p (limitOf (lentRecord s at)) ≡ true = sym d ∙ not-false t y in
-      sym (ap (all p) (limits-step h e) ∙ rw q) ∙ inv
-
-  pub limits-done : length s - at < 64 → true ≡ x
-  unfolding all limitsOf
-  limits-done h = sym (ap (λ (l : List Bytes). all p (limitsOf l)) (rows-end s at h)) ∙ inv
-
 -- a count past a table
 pub past-table : (t : List ℕ) (i : ℕ) → length t ≤ i → 0 ≡ getD t i 0
 past-table t i h = sym (List·getD-eq-default t 0 {n = i} h)

@@ -13,7 +13,7 @@ use Rattle.rules.specs.Acl.{actionOf, limitsOf, actionsOf, groupsOf, amo
 use Rattle.rules.specs.Request.{wantedOf, certificatesOf, requestFrom, requestLaidOut, useOf, certificateRecord, certificateFault, certificatesFault, requestFault, hintRecord, hintFault, hintsFault}
 use Rattle.rules.specs.Ledger.{Ledger, freshLedger, raisedBy, charge}
 use Rattle.rules.specs.Grant.{limitLeft, serves, admitsUse, admitsWorking, admitsRecovery, admits}
-use Rattle.rules.specs.Narrow.{noWider, actionsNoWider, narrowsFrom}
+use Rattle.rules.specs.Narrow.{noWider, actionsNoWider, answers, isAnswered, narrowsFrom}
 use Rattle.rules.specs.Gate.{Answer, done, permit, refuse, Outcome, lowest, judge, request, load, clear, narrow, expand}
 use Rattle.rules.specs.Suites.{suite}
 use Rattle.rules.specs.Bundle.{bundleRecordLaidOut, orderOf, bundleInPlace, bundleHasRoom, bundleRecordFault, listedAfter, bundleEnd, bundleFault, firstRecord, numbered, field, lists, listed, signatureOutcome, policyRecord, policyOf}
@@ -125,5 +125,5 @@ Hold rows = map (λ e. e .computed) rows ≡ map (λ e. e .expected) rows
 
 -- Both tables hold: the starred one, and the one that guards the definitions.
 pub examples-hold : Hold starred × Hold guards
-unfolding starred guards any all allZero same numberFrom ascii allBelow within chunks records fits firstFault recordFault eachFault scan header zeroUnless mechanismAt tokenParametersAt tokenParametersIf certifierMechanism counterOfSort groupLaidOut limitLaidOut permissionsLaidOut blobActionLaidOut archiveActionLaidOut useLaidOut blobRequestLaidOut recoveryLaidOut certificateLaidOut factLaidOut signatureLaidOut policyLaidOut hintLaidOut actionOf limitsOf actionsOf groupsOf among limitInPlace actionLaidOut inPlace hasRoom afterRecord aclRecordFault aclFault wantedOf certificatesOf requestFrom requestLaidOut useOf certificateRecord certificateFault certificatesFault requestFault hintRecord hintFault hintsFault limitLeft serves admitsUse admitsWorking admitsRecovery admits raisedBy charge noWider actionsNoWider narrowsFrom lowest judge request clear narrow expand suite bundleRecordLaidOut orderOf bundleInPlace bundleHasRoom bundleRecordFault listedAfter bundleEnd bundleFault firstRecord numbered field lists listed signatureOutcome policyRecord policyOf kmVouched kmFipsVouched kreVouched moduleKey recoveryKey classOf policyAdmits actionFailure aclFailure actionProtection smallest keyProtection recoverableKey fullFailure basicFailure deskFault desk subject subjectFault subjectReply subjectBuffer
+unfolding starred guards any all allZero same numberFrom ascii allBelow within chunks records fits firstFault recordFault eachFault scan header zeroUnless mechanismAt tokenParametersAt tokenParametersIf certifierMechanism counterOfSort groupLaidOut limitLaidOut permissionsLaidOut blobActionLaidOut archiveActionLaidOut useLaidOut blobRequestLaidOut recoveryLaidOut certificateLaidOut factLaidOut signatureLaidOut policyLaidOut hintLaidOut actionOf limitsOf actionsOf groupsOf among limitInPlace actionLaidOut inPlace hasRoom afterRecord aclRecordFault aclFault wantedOf certificatesOf requestFrom requestLaidOut useOf certificateRecord certificateFault certificatesFault requestFault hintRecord hintFault hintsFault limitLeft serves admitsUse admitsWorking admitsRecovery admits raisedBy charge noWider actionsNoWider answers isAnswered narrowsFrom lowest judge request clear narrow expand suite bundleRecordLaidOut orderOf bundleInPlace bundleHasRoom bundleRecordFault listedAfter bundleEnd bundleFault firstRecord numbered field lists listed signatureOutcome policyRecord policyOf kmVouched kmFipsVouched kreVouched moduleKey recoveryKey classOf policyAdmits actionFailure aclFailure actionProtection smallest keyProtection recoverableKey fullFailure basicFailure deskFault desk subject subjectFault subjectReply subjectBuffer
 examples-hold = (refl, refl)

@@ -17,8 +17,17 @@ module _ {F : Type 0} (f : F) (ts : List (Option F)) (x : Option F) (r t : Bool)
   unfolding firstFault
   fault-later h p = p ∙ rw (sym e ∙ not-false r h)
 
--- what a call found, as the last of the list, or one among others
-module _ {F : Type 0} (o : Option F) (x : Option F) where
+-- what a call found: a fault, none, or what is the last of the list
+module _ {F : Type 0} (o x : Option F) (ts : List (Option F)) where
+  pub fault-found : (f : F) → x ≡ o → x ≡ some f → x ≡ firstFault (o ∷ ts)
+  unfolding firstFault
+  fault-found f e d = d ∙ sym (rw (sym e ∙ d))
+
+  pub fault-passed : o ≡ none → x ≡ firstFault ts → x ≡ firstFault (o ∷ ts)
+  unfolding firstFault
+  fault-passed e p = p ∙ sym (rw e)
+
+module _ {F : Type 0} (o x : Option F) where
   pub fault-last : x ≡ o → x ≡ firstFault (o ∷ [])
   unfolding firstFault
   fault-last p = p ∙ sym (last o)

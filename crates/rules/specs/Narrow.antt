@@ -10,23 +10,23 @@ use Rattle.rules.specs.Acl.{Parameters, BlobRule, ArchiveRule, Action, p
 use Rattle.rules.specs.Request.{Hint}
 use Rattle.rules.specs.Grant.{tighter}
 
+-- what was there is kept, by a test of the new against the old; what was not may be added
+abbrev pub keptBy : {A : Type 0} → (A → A → Bool) → Option A → Option A → Bool
+keptBy test new none = true
+keptBy test none (some o) = false
+keptBy test (some n) (some o) = test n o
+
 -- "restrictions kept equal or added"
 abbrev pub kept : Option Bytes → Option Bytes → Bool
-kept new none = true
-kept none (some o) = false
-kept (some n) (some o) = same n o
+kept new old = keptBy same new old
 
 -- .. of a mechanism
 abbrev pub keptNumber : Option ℕ → Option ℕ → Bool
-keptNumber new none = true
-keptNumber none (some o) = false
-keptNumber (some n) (some o) = eqb n o
+keptNumber new old = keptBy eqb new old
 
 -- "ktparams kept or tighter"
 abbrev pub keptParameters : Option Parameters → Option Parameters → Bool
-keptParameters new none = true
-keptParameters none (some o) = false
-keptParameters (some n) (some o) = tighter n o
+keptParameters new old = keptBy tighter new old
 
 -- "allowing flags a subset; restrictions kept equal or added, ktparams kept or tighter"
 abbrev pub blobNoWider : BlobRule → BlobRule → Bool
@@ -66,15 +66,19 @@ actionsNoWider (a ∷ rest) [] old = false
 actionsNoWider (a ∷ rest) (h ∷ hs) old = noWiderThan a (getElem? old h) && actionsNoWider rest hs old
 
 -- "answers each old limit by one of the same sort and counter with a maximum no larger"
-abbrev pub answers : Limit → Limit → Bool
+unfoldable pub answers : Limit → Limit → Bool
 answers o n = eqb (n .sort) (o .sort) && eqb (n .counter) (o .counter) && leb (n .maximum) (o .maximum)
+
+-- .. an old limit is isAnswered by one of the new
+unfoldable pub isAnswered : List Limit → Limit → Bool
+isAnswered new o = any (answers o) new
 
 -- "Against its source a new group keeps any certifier and mechanism (it may add them)"
 abbrev pub groupNarrows : Group → List ℕ → Group → Bool
 groupNarrows n hints o =
     kept (n .certifier) (o .certifier)
     && keptNumber (n .mechanism) (o .mechanism)
-    && all (λ m. any (answers m) (n .limits)) (o .limits)
+    && all (isAnswered (n .limits)) (o .limits)
     && actionsNoWider (n .actions) hints (o .actions)
 
 -- a new group against the source that its hint names; "one naming nothing gives 8"

@@ -15,7 +15,7 @@ use Rattle.rules.specs.Basics.{Bytes, implies, any, all, allZero, Every, bit, w
 use Rattle.rules.specs.Acl.{Parameters, BlobRule, ArchiveRule, Action, permissions, makeBlob, makeArchive, Limit, Group}
 use Rattle.rules.specs.Request.{Hint}
 use Rattle.rules.specs.Grant.{tighter}
-use Rattle.rules.specs.Narrow.{kept, keptNumber, keptParameters, blobNoWider, archiveNoWider, noWider, noWiderThan, actionsNoWider, answers, groupNarrows, narrowsSource, narrowsFrom, narrows}
+use Rattle.rules.specs.Narrow.{kept, keptNumber, keptParameters, blobNoWider, archiveNoWider, noWider, noWiderThan, actionsNoWider, answers, isAnswered, groupNarrows, narrowsSource, narrowsFrom, narrows}
 use Rattle.rules.proofs.Laws.{and-left, and-right, and-both, or-right, implication, allBelow-all, same-refl, every-at, any-here}
 
 ruleset conj = (and-left, and-right, and-both)
@@ -99,6 +99,7 @@ action-self (makeBlob b) = blob-self b
 action-self (makeArchive a) = archive-self a
 
 limit-self : (m : Limit) → answers m m ≡ true
+unfolding answers
 limit-self m =
     let x = eq-eqb (m .sort) (m .sort) refl in
     let y = eq-eqb (m .counter) (m .counter) refl in
@@ -151,10 +152,11 @@ own-actions old place pad (a ∷ rest) f =
     and-both (noWiderThan a (getElem? old place)) (actionsNoWider rest (places (suc place) rest ++ replicate pad 0) old) e
     (own-actions old (suc place) pad rest (stands-next old place a rest f))
 
-limits-self : (ms : List Limit) → all (λ m. any (answers m) ms) ms ≡ true
+limits-self : (ms : List Limit) → all (isAnswered ms) ms ≡ true
+unfolding isAnswered
 limits-self ms =
-    every-all (λ m. any (answers m) ms) ms
-    (every-index ms (λ m. any (answers m) ms ≡ true) ms
+    every-all (isAnswered ms) ms
+    (every-index ms (λ m. isAnswered ms m ≡ true) ms
     (λ i m e. every-at (λ x. answers m x ≡ true → any (answers m) ms ≡ true) ms i m (any-here (answers m) ms) e (limit-self m)))
 
 group-self : (g : Group) → groupNarrows g (ownActions (g .actions)) g ≡ true

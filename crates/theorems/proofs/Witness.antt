@@ -10,7 +10,7 @@ use Rattle.rules.specs.Acl.{actionOf, limitsOf, actionsOf, groupsOf, among, lim
 use Rattle.rules.specs.Request.{wantedOf, certificatesOf, requestFrom, requestLaidOut, useOf, certificateRecord, certificateFault, certificatesFault, requestFault, hintRecord, hintFault, hintsFault}
 use Rattle.rules.specs.Ledger.{freshLedger, raisedBy, charge}
 use Rattle.rules.specs.Grant.{limitLeft, serves, admitsUse, admitsWorking, admitsRecovery, admits}
-use Rattle.rules.specs.Narrow.{noWider, actionsNoWider, narrowsFrom}
+use Rattle.rules.specs.Narrow.{noWider, actionsNoWider, answers, isAnswered, narrowsFrom}
 use Rattle.rules.specs.Gate.{Answer, permit, refuse, lowest, judge, request, clear, narrow, expand}
 use Rattle.rules.specs.Suites.{suite}
 use Rattle.rules.specs.Bundle.{bundleRecordLaidOut, orderOf, bundleInPlace, bundleHasRoom, bundleRecordFault, listedAfter, bundleEnd, bundleFault, firstRecord, numbered, field, lists, listed, signatureOutcome, policyRecord, policyOf}
@@ -20,9 +20,9 @@ use Rattle.theorems.specs.Demands.{Call, requesting, narrowing, State, o
 use Rattle.theorems.proofs.Demand3.{demand-3}
 
 -- what the gate answers to each call of a sequence
-abbrev pub answers : State → List Call → List Answer
-answers s [] = []
-answers s (c ∷ cs) = outcome s c .answer ∷ answers (after s c) cs
+abbrev pub replies : State → List Call → List Answer
+replies s [] = []
+replies s (c ∷ cs) = outcome s c .answer ∷ replies (after s c) cs
 
 -- at most 5 uses per load; Sign and ReduceACL; a cardset of 1 of 2 under hkm; a recovery action
 abbrev pub useful : Bytes
@@ -58,9 +58,9 @@ start = record { ledger = freshLedger; acl = useful }
 
 -- the bundle and the ACL are accepted; the calls are answered so; none of them presents the officer's certificate
 pub witness : (desk bundle useful ≡ accepted (byPolicy grade))
-    × (answers start calls ≡ (permit 0 ∷ permit 0 ∷ refuse 8 ∷ permit 0 ∷ permit 0 ∷ refuse 7 ∷ refuse 4 ∷ []))
+    × (replies start calls ≡ (permit 0 ∷ permit 0 ∷ refuse 8 ∷ permit 0 ∷ permit 0 ∷ refuse 7 ∷ refuse 4 ∷ []))
     × (map (officerSigned (records bundle)) calls ≡ (false ∷ false ∷ false ∷ false ∷ false ∷ false ∷ false ∷ []))
-unfolding outcome after byOfficer any all same numberFrom ascii allBelow within allZero chunks records fits firstFault recordFault eachFault scan header zeroUnless mechanismAt tokenParametersAt tokenParametersIf certifierMechanism counterOfSort groupLaidOut limitLaidOut permissionsLaidOut blobActionLaidOut archiveActionLaidOut useLaidOut blobRequestLaidOut recoveryLaidOut certificateLaidOut factLaidOut signatureLaidOut policyLaidOut hintLaidOut actionOf limitsOf actionsOf groupsOf among limitInPlace actionLaidOut inPlace hasRoom afterRecord aclRecordFault aclFault wantedOf certificatesOf requestFrom requestLaidOut useOf certificateRecord certificateFault certificatesFault requestFault hintRecord hintFault hintsFault limitLeft serves admitsUse admitsWorking admitsRecovery admits raisedBy charge noWider actionsNoWider narrowsFrom lowest judge request clear narrow expand suite bundleRecordLaidOut orderOf bundleInPlace bundleHasRoom bundleRecordFault listedAfter bundleEnd bundleFault firstRecord numbered field lists listed signatureOutcome policyRecord policyOf kmVouched kmFipsVouched kreVouched moduleKey recoveryKey classOf policyAdmits actionFailure aclFailure actionProtection smallest keyProtection recoverableKey fullFailure basicFailure deskFault desk
+unfolding outcome after byOfficer any all same numberFrom ascii allBelow within allZero chunks records fits firstFault recordFault eachFault scan header zeroUnless mechanismAt tokenParametersAt tokenParametersIf certifierMechanism counterOfSort groupLaidOut limitLaidOut permissionsLaidOut blobActionLaidOut archiveActionLaidOut useLaidOut blobRequestLaidOut recoveryLaidOut certificateLaidOut factLaidOut signatureLaidOut policyLaidOut hintLaidOut actionOf limitsOf actionsOf groupsOf among limitInPlace actionLaidOut inPlace hasRoom afterRecord aclRecordFault aclFault wantedOf certificatesOf requestFrom requestLaidOut useOf certificateRecord certificateFault certificatesFault requestFault hintRecord hintFault hintsFault limitLeft serves admitsUse admitsWorking admitsRecovery admits raisedBy charge noWider actionsNoWider answers isAnswered narrowsFrom lowest judge request clear narrow expand suite bundleRecordLaidOut orderOf bundleInPlace bundleHasRoom bundleRecordFault listedAfter bundleEnd bundleFault firstRecord numbered field lists listed signatureOutcome policyRecord policyOf kmVouched kmFipsVouched kreVouched moduleKey recoveryKey classOf policyAdmits actionFailure aclFailure actionProtection smallest keyProtection recoverableKey fullFailure basicFailure deskFault desk
 witness = (refl, refl, refl)
 
 -- .. and so demand 3 covers what they are permitted.

@@ -1,7 +1,6 @@
 use mathlib.Core.Path.{refl, sym, _∙_, ap}
 use Rattle.files.specs.Refusals.{faultOf}
-use Rattle.rules.proofs.Faults.{fault-here, fault-later, fault-last}
-use Rattle.gate.proofs.Settling.{fault-found, fault-passed}
+use Rattle.rules.proofs.Faults.{fault-here, fault-later, fault-last, fault-found, fault-passed}
 use borrow.Author.Needs.{needs}
 use Rattle.gate.proofs.request_files.Statement.{statement}
 use Rattle.gate.proofs.request_files.Tie as tie

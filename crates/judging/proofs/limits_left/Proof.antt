@@ -5,7 +5,7 @@ use Rattle.rules.proofs.Rows.{recordsFrom}
 use Rattle.rules.specs.Basics.{all, records}
 use Rattle.rules.specs.Acl.{limitsOf}
 use Rattle.rules.specs.Grant.{limitLeft}
-use Rattle.judging.proofs.Laws.{limits-stop, limits-spent, limits-next, limits-done}
+use Rattle.groups.proofs.Laws.{all-stop, all-failed, all-next, all-done}
 use borrow.Author.Needs.{needs}
 use Rattle.judging.proofs.limits_left.Statement.{statement}
 use Rattle.judging.proofs.limits_left.Tie as tie
@@ -27,7 +27,7 @@ shared-slice-read-if1 : tie.Need-shared-slice-read-if1 Inv-loop μ-loop
 shared-slice-read-if1 c = search needs
 
 returns : tie.Need-returns Inv-loop μ-loop
-returns c = search (needs, limits-stop)
+returns c = search (needs, all-stop)
 
 add-limit-left : tie.Need-add-limit-left Inv-loop μ-loop
 add-limit-left c = search needs
@@ -45,7 +45,7 @@ limit-left-requires : tie.Need-limit-left-requires Inv-loop μ-loop
 limit-left-requires c κs = search needs
 
 returns-2 : tie.Need-returns-2 Inv-loop μ-loop
-returns-2 c = search (needs, limits-spent)
+returns-2 c = search (needs, all-failed)
 
 add-at : tie.Need-add-at Inv-loop μ-loop
 add-at c = search needs
@@ -57,10 +57,10 @@ loop-again : tie.Need-loop-again Inv-loop μ-loop
 loop-again c =
     let e = c .before .before .before in
     let l = e .before .before in
-    (search needs, limits-next _ _ _ _ (l .before .loop .inv .1) _ (l .loop-test .taken) (e .if1 .left) (c .before .limit-left .ensures) (c .if2 .left))
+    (search needs, all-next _ _ _ _ (l .before .loop .inv .1) _ (l .loop-test .taken) (e .if1 .left) (c .before .limit-left .ensures) (c .if2 .left))
 
 returns-3 : tie.Need-returns-3 Inv-loop μ-loop
-returns-3 c = search (needs, limits-done)
+returns-3 c = search (needs, all-done)
 
 pub limits-left-spec : {M : Type 1} → statement M
 limits-left-spec =

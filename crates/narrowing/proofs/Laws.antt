@@ -1,0 +1,199 @@
+-- What the tests of this crate come to in the definitions' terms, and the turns of its loops.
+use Prim.Native.Nat.{ℕ, zero, suc, _+_, _-_, _≤_, _<_}
+use native.Mathlib.Omega.{arith}
+use native.Mathlib.Numerals.{add-one}
+use mathlib.Core.Path.{_≡_, refl, sym, _∙_, ap}
+use mathlib.Core.List.{List, [], _∷_, map}
+use mathlib.Core.Option.{Option, none, some}
+use mathlib.Core.Bool.{Bool, true, false, not, _&&_, _||_}
+use borrow.Author.Tests.{eq-eqb, ne-eqb, eqb-true, not-true, not-false}
+use lib.ListN.{length, take, drop, getD, getElem?, length-take, length-drop, drop-of-length-le}
+use lib.Seq.{drop-cons, length-take-le, take-all}
+use lib.Dec.{eqb, leb}
+use Rattle.rules.specs.Basics.{Bytes, any, all, allZero, same, within, part, number, byte, kind, flag, optional, records}
+use Rattle.rules.specs.Acl.{Parameters, parametersOf, BlobRule, blobRuleOf, archiveRuleOf, Action, permissions, makeBlob, makeArchive, actionOf, actionsOf, Limit, limitOf, limitsOf, Group, groupOf, groupsOf}
+use Rattle.rules.specs.Narrow.{keptBy, kept, keptNumber, blobNoWider, archiveNoWider, noWider, noWiderThan, actionsNoWider, answers, isAnswered, groupNarrows}
+use Rattle.rules.proofs.Rows.{recordsFrom, lentRecord, lent-record}
+use Rattle.fields.proofs.Laws.{lent}
+use Rattle.groups.proofs.Laws.{acts-step, acts-end, limits-step, limits-stop, limits-end}
+use Rattle.narrowing.specs.Groups.{actionKind, actionIn, certifierKept, recordsNarrow}
+
+-- "kept or added", by what the flags say
+module _ {A : Type 0} (test : A → A → Bool) (has had : Bool) (n o : A) where
+  pub kept-free : not had ≡ true → true ≡ keptBy test (optional has n) (optional had o)
+  kept-free e = sym (rw (not-true had e))
+
+  pub kept-dropped : not had ≡ false → not has ≡ true → false ≡ keptBy test (optional has n) (optional had o)
+  kept-dropped e d = sym (rw (not-false had e, not-true has d))
+
+  pub kept-compared : (r : Bool) → not had ≡ false → not has ≡ false → r ≡ test n o → r ≡ keptBy test (optional has n) (optional had o)
+  kept-compared r e d p = p ∙ sym (rw (not-false had e, not-false has d))
+
+-- An action by its kind.
+module _ (n o : Bytes) where
+  action-3 : (r : Bytes) → actionKind (kind r) ≡ 3 → actionOf r ≡ permissions (number 4 2 r)
+  unfolding actionOf
+  action-3 r e = pick (eqb (kind r) 3) refl (eqb (kind r) 4) refl
+    where
+      pick : (b : Bool) → eqb (kind r) 3 ≡ b → (c : Bool) → eqb (kind r) 4 ≡ c → actionOf r ≡ permissions (number 4 2 r)
+      pick true p c q = rw p
+      pick false p true q = let x : _≡_ {A = ℕ} 4 3 = rw (p, q) at e in absurd (omega arith)
+      pick false p false q = let x : _≡_ {A = ℕ} 5 3 = rw (p, q) at e in absurd (omega arith)
+
+  action-4 : (r : Bytes) → actionKind (kind r) ≡ 4 → actionOf r ≡ makeBlob (blobRuleOf r)
+  unfolding actionOf
+  action-4 r e = pick (eqb (kind r) 3) refl (eqb (kind r) 4) refl
+    where
+      pick : (b : Bool) → eqb (kind r) 3 ≡ b → (c : Bool) → eqb (kind r) 4 ≡ c → actionOf r ≡ makeBlob (blobRuleOf r)
+      pick true p c q = let x : _≡_ {A = ℕ} 3 4 = rw p at e in absurd (omega arith)
+      pick false p true q = rw (p, q)
+      pick false p false q = let x : _≡_ {A = ℕ} 5 4 = rw (p, q) at e in absurd (omega arith)
+
+  action-5 : (r : Bytes) → (actionKind (kind r) ≡ 3 → ⊥) → (actionKind (kind r) ≡ 4 → ⊥) → actionOf r ≡ makeArchive (archiveRuleOf r)
+  unfolding actionOf
+  action-5 r f g = pick (eqb (kind r) 3) refl (eqb (kind r) 4) refl
+    where
+      pick : (b : Bool) → eqb (kind r) 3 ≡ b → (c : Bool) → eqb (kind r) 4 ≡ c → actionOf r ≡ makeArchive (archiveRuleOf r)
+      pick true p c q = absurd (f (rw p))
+      pick false p true q = absurd (g (rw (p, q)))
+      pick false p false q = rw (p, q)
+
+  pub kinds-differ : (a b : ℕ) → a ≡ actionKind (kind n) → b ≡ actionKind (kind o) → (a ≡ b → ⊥) → false ≡ noWider (actionOf n) (actionOf o)
+  unfolding noWider actionOf
+  kinds-differ a b p q f = pick (eqb (kind n) 3) refl (eqb (kind n) 4) refl (eqb (kind o) 3) refl (eqb (kind o) 4) refl
+    where
+      clash : actionKind (kind n) ≡ actionKind (kind o) → ⊥
+      clash e = f (p ∙ e ∙ sym q)
+
+      pick : (w : Bool) → eqb (kind n) 3 ≡ w → (x : Bool) → eqb (kind n) 4 ≡ x → (y : Bool) → eqb (kind o) 3 ≡ y → (z : Bool) → eqb (kind o) 4 ≡ z → false ≡ noWider (actionOf n) (actionOf o)
+      pick true s x t true u z v = absurd (clash (rw (s, u)))
+      pick true s x t false u true v = rw (s, u, v)
+      pick true s x t false u false v = rw (s, u, v)
+      pick false s true t true u z v = rw (s, t, u)
+      pick false s true t false u true v = absurd (clash (rw (s, t, u, v)))
+      pick false s true t false u false v = rw (s, t, u, v)
+      pick false s false t true u z v = rw (s, t, u)
+      pick false s false t false u true v = rw (s, t, u, v)
+      pick false s false t false u false v = absurd (clash (rw (s, t, u, v)))
+
+  module _ (a b : ℕ) (p : a ≡ actionKind (kind n)) (q : b ≡ actionKind (kind o)) (s : a ≡ b) where
+    pub bits-compared : (x y : ℕ) (r : Bool) → a ≡ 3 → x ≡ number 4 2 n → y ≡ number 4 2 o → r ≡ within 16 x y → r ≡ noWider (actionOf n) (actionOf o)
+    unfolding noWider
+    bits-compared x y r e c d f = f ∙ rw (c, d) (sym (rw (action-3 n (sym p ∙ e), action-3 o (sym q ∙ sym s ∙ e))))
+
+    pub blobs-compared : (r : Bool) → a ≡ 4 → r ≡ blobNoWider (blobRuleOf n) (blobRuleOf o) → r ≡ noWider (actionOf n) (actionOf o)
+    unfolding noWider
+    blobs-compared r e f = f ∙ sym (rw (action-4 n (sym p ∙ e), action-4 o (sym q ∙ sym s ∙ e)))
+
+    pub archives-compared : (r : Bool) → (a ≡ 3 → ⊥) → (a ≡ 4 → ⊥) → r ≡ archiveNoWider (archiveRuleOf n) (archiveRuleOf o) → r ≡ noWider (actionOf n) (actionOf o)
+    unfolding noWider
+    archives-compared r e g f =
+        f ∙ sym (rw (action-5 n (λ x. e (p ∙ x)) (λ x. g (p ∙ x)), action-5 o (λ x. e (s ∙ q ∙ x)) (λ x. g (s ∙ q ∙ x))))
+
+-- The action at a place, by counting down.
+in-action : (r : Bytes) → 0 < length r → actionIn r ≡ some (actionOf r)
+in-action [] h = absurd (omega arith)
+in-action (b ∷ bs) h = refl
+
+get-more : {A : Type 0} (x : A) (xs : List A) (n : ℕ) → (n ≡ 0 → ⊥) → getElem? (x ∷ xs) n ≡ getElem? xs (n - 1)
+get-more x xs zero h = absurd (h refl)
+get-more x xs (suc n) h = let e : n ≡ suc n - 1 = omega arith in ap (getElem? xs) e
+
+module _ (s : Bytes) (at left : ℕ) (x : Option Action) (inv : getElem? (actionsOf (recordsFrom s at)) left ≡ x) where
+  pub at-found : 64 ≤ length s - at → (getD s at 0 ≡ 1 → ⊥) → (getD s at 0 ≡ 2 → ⊥) → left ≡ 0 → actionIn (lentRecord s at) ≡ x
+  at-found h n m e =
+      let l : length (lentRecord s at) ≡ 64 = ap length (lent-record s at) ∙ length-take-le 64 (drop at s) (omega (arith, length-drop at s)) in
+      in-action (lentRecord s at) (omega arith) ∙ sym (ap (λ (z : List Action). getElem? z left) (acts-step s at h n m) ∙ rw e) ∙ inv
+
+  pub at-next : (r : ℕ) → 64 ≤ length s - at → (getD s at 0 ≡ 1 → ⊥) → (getD s at 0 ≡ 2 → ⊥) → (left ≡ 0 → ⊥)
+      → actionsOf (records (drop r s)) ≡ actionsOf (records (drop (at + 64) s)) → getElem? (actionsOf (recordsFrom s r)) (left - 1) ≡ x
+  unfolding recordsFrom
+  at-next r h n m e d =
+      ap (λ (z : List Action). getElem? z (left - 1)) d
+      ∙ sym (ap (λ (z : List Action). getElem? z left) (acts-step s at h n m) ∙ get-more (actionOf (lentRecord s at)) (actionsOf (recordsFrom s (at + 64))) left e)
+      ∙ inv
+
+  pub at-none : length s - at < 64 → actionIn [] ≡ x
+  at-none h = sym (ap (λ (z : List Action). getElem? z left) (acts-end s at h)) ∙ inv
+
+-- the length of a record as code lends it
+pub lent-length : (s : Bytes) (at : ℕ) → 64 ≤ length s - at → length (lentRecord s at) ≡ 64
+lent-length s at h = ap length (lent-record s at) ∙ length-take-le 64 (drop at s) (omega (arith, length-drop at s))
+
+-- .. compared with the action that a hint names
+module _ (n : Action) (old : Bytes) (x : Option Action) (e : actionIn old ≡ x) where
+  pub hint-nothing : length old ≡ 0 → false ≡ noWiderThan n x
+  hint-nothing h = pick old h e
+    where
+      pick : (r : Bytes) → length r ≡ 0 → actionIn r ≡ x → false ≡ noWiderThan n x
+      pick [] h e = ap (noWiderThan n) e
+      pick (b ∷ bs) h e = absurd (omega arith)
+
+  pub hint-compared : (r : Bool) → (length old ≡ 0 → ⊥) → r ≡ noWider n (actionOf old) → r ≡ noWiderThan n x
+  hint-compared r h p = p ∙ ap (noWiderThan n) (sym (in-action old (omega arith)) ∙ e)
+
+-- A loop over the actions of a new group and the bytes of its hint.
+module _ (s hints : Bytes) (olds : List Action) (at i : ℕ) (x : Bool) (inv : actionsNoWider (actionsOf (recordsFrom s at)) (drop i hints) olds ≡ x) where
+  module _ (h : 64 ≤ length s - at) (n : getD s at 0 ≡ 1 → ⊥) (m : getD s at 0 ≡ 2 → ⊥) where
+    pub hints-short : length hints ≤ i → false ≡ x
+    unfolding actionsNoWider
+    hints-short l =
+        sym (ap (λ (z : List Action). actionsNoWider z (drop i hints) olds) (acts-step s at h n m) ∙ rw (drop-of-length-le hints {i = i} l)) ∙ inv
+
+    module _ (l : i < length hints) (t : Bool) (e : t ≡ noWiderThan (actionOf (lentRecord s at)) (getElem? olds (getD hints i 0))) where
+      step : (noWiderThan (actionOf (lentRecord s at)) (getElem? olds (getD hints i 0)) && actionsNoWider (actionsOf (recordsFrom s (at + 64))) (drop (i + 1) hints) olds) ≡ x
+      unfolding actionsNoWider
+      step = sym (ap (λ (z : List Action). actionsNoWider z (drop i hints) olds) (acts-step s at h n m) ∙ rw (drop-cons hints i 0 l, ← (add-one i))) ∙ inv
+
+      pub action-wider : not t ≡ true → false ≡ x
+      action-wider y = let q : noWiderThan (actionOf (lentRecord s at)) (getElem? olds (getD hints i 0)) ≡ false = sym e ∙ not-true t y in rw q at step
+
+      pub action-kept : (r : ℕ) → not t ≡ false → actionsOf (records (drop r s)) ≡ actionsOf (records (drop (at + 64) s))
+          → actionsNoWider (actionsOf (recordsFrom s r)) (drop (i + 1) hints) olds ≡ x
+      unfolding recordsFrom
+      action-kept r y d =
+          let q : noWiderThan (actionOf (lentRecord s at)) (getElem? olds (getD hints i 0)) ≡ true = sym e ∙ not-false t y in
+          ap (λ (z : List Action). actionsNoWider z (drop (i + 1) hints) olds) d ∙ rw q at step
+
+  pub hints-over : (r : Bool) → length s - at < 64 → r ≡ allZero (take (length hints - i) (drop i hints)) → r ≡ x
+  unfolding actionsNoWider
+  hints-over r h e =
+      e
+      ∙ ap allZero (take-all (length hints - i) (drop i hints) (omega (arith, length-drop i hints)))
+      ∙ sym (ap (λ (z : List Action). actionsNoWider z (drop i hints) olds) (acts-end s at h))
+      ∙ inv
+
+-- A loop over new limits for one that answers.
+module _ (p : Limit → Bool) (s : Bytes) (at : ℕ) (x : Bool) (inv : any p (limitsOf (recordsFrom s at)) ≡ x) where
+  pub any-stop : 64 ≤ length s - at → (getD s at 0 ≡ 2 → ⊥) → false ≡ x
+  unfolding any
+  any-stop h n = sym (ap (any p) (limits-stop s at h n)) ∙ inv
+
+  pub any-found : (t : Bool) → 64 ≤ length s - at → getD s at 0 ≡ 2 → t ≡ p (limitOf (lentRecord s at)) → t ≡ true → true ≡ x
+  unfolding any
+  any-found t h e d y = let q : p (limitOf (lentRecord s at)) ≡ true = sym d ∙ y in sym (ap (any p) (limits-step s at h e) ∙ rw q) ∙ inv
+
+  pub any-next : (t : Bool) → 64 ≤ length s - at → getD s at 0 ≡ 2 → t ≡ p (limitOf (lentRecord s at)) → t ≡ false → any p (limitsOf (recordsFrom s (at + 64))) ≡ x
+  unfolding any
+  any-next t h e d y = let q : p (limitOf (lentRecord s at)) ≡ false = sym d ∙ y in sym (ap (any p) (limits-step s at h e) ∙ rw q) ∙ inv
+
+  pub any-done : length s - at < 64 → false ≡ x
+  unfolding any
+  any-done h = sym (ap (any p) (limits-end s at h)) ∙ inv
+
+-- A group by its records.
+pub certifier-is : (n o : Bytes) (a b f g : Bool) (x y : ℕ) → a ≡ kept (optional (flag 0 n) (part 4 20 n)) (optional (flag 0 o) (part 4 20 o)) → f ≡ flag 1 n → x ≡ number 24 2 n → g ≡ flag 1 o
+    → y ≡ number 24 2 o → b ≡ keptNumber (optional f x) (optional g y) → (a && b) ≡ certifierKept n o
+unfolding certifierKept
+certifier-is n o a b f g x y p q r s t u = rw (p, u, q, r, s, t)
+
+pub group-is : (n : Bytes) (ns : List Bytes) (hints : Bytes) (o : Bytes) (os : List Bytes) (a b c : Bool) → a ≡ certifierKept n o → b ≡ all (isAnswered (limitsOf ns)) (limitsOf os)
+    → c ≡ actionsNoWider (actionsOf ns) hints (actionsOf os) → (a && b && c) ≡ recordsNarrow n ns hints o os
+unfolding certifierKept recordsNarrow
+group-is n ns hints o os a b c p q r = rw (p, q, r)
+
+-- a hash at an offset, as code lends it
+pub hash-is : (f at : ℕ) (n o : Bytes) (a b r : Bool) → a ≡ flag f n → b ≡ flag f o
+    → r ≡ kept (optional a (take (at + 20 - at) (drop at n))) (optional b (take (at + 20 - at) (drop at o)))
+    → r ≡ kept (optional (flag f n) (part at 20 n)) (optional (flag f o) (part at 20 o))
+hash-is f at n o a b r p q e = e ∙ rw (lent n at 20, lent o at 20, p, q)

@@ -1,0 +1,36 @@
+use borrow.Author.Needs.{needs}
+use Rattle.narrowing.proofs.blob_no_wider.Statement.{statement}
+use Rattle.narrowing.proofs.blob_no_wider.Tie as tie
+
+not-added-requires : tie.Need-not-added-requires
+not-added-requires c κs = search needs
+
+not-added-requires-2 : tie.Need-not-added-requires-2
+not-added-requires-2 c κs = search needs
+
+not-added-requires-3 : tie.Need-not-added-requires-3
+not-added-requires-3 c κs = search needs
+
+hash-kept-requires : tie.Need-hash-kept-requires
+hash-kept-requires c κs = search needs
+
+hash-kept-requires-2 : tie.Need-hash-kept-requires-2
+hash-kept-requires-2 c κs = search needs
+
+parameters-kept-requires : tie.Need-parameters-kept-requires
+parameters-kept-requires c κs = search needs
+
+returns : tie.Need-returns
+returns c = cc
+
+pub blob-no-wider-spec : {M : Type 1} → statement M
+blob-no-wider-spec =
+    tie.close
+    (tie.spec
+    not-added-requires
+    not-added-requires-2
+    not-added-requires-3
+    hash-kept-requires
+    hash-kept-requires-2
+    parameters-kept-requires
+    returns)

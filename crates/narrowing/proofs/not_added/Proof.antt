@@ -1,0 +1,15 @@
+use borrow.Author.Needs.{needs}
+use Rattle.narrowing.proofs.not_added.Statement.{statement}
+use Rattle.narrowing.proofs.not_added.Tie as tie
+
+flag-of-requires : tie.Need-flag-of-requires
+flag-of-requires c κs = search needs
+
+flag-of-requires-2 : tie.Need-flag-of-requires-2
+flag-of-requires-2 c κs = search needs
+
+returns : tie.Need-returns
+returns c = cc
+
+pub not-added-spec : {M : Type 1} → statement M
+not-added-spec = tie.close (tie.spec flag-of-requires flag-of-requires-2 returns)

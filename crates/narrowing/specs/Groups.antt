@@ -1,0 +1,28 @@
+-- Actions and groups by their records, as the code compares them.
+use Prim.Native.Nat.{ℕ}
+use mathlib.Core.List.{List, [], _∷_}
+use mathlib.Core.Option.{Option, none, some}
+use mathlib.Core.Bool.{Bool, _&&_}
+use lib.Dec.{eqb}
+use Rattle.rules.specs.Basics.{if_then_else_, Bytes, part, number, flag, optional}
+use Rattle.rules.specs.Acl.{Action, actionOf, groupOf}
+use Rattle.rules.specs.Narrow.{kept, keptNumber, groupNarrows}
+
+-- the kind of an action as it is decoded
+abbrev pub actionKind : ℕ → ℕ
+actionKind k = if eqb k 3 then 3 else if eqb k 4 then 4 else 5
+
+-- an action's record; none where the part is empty
+abbrev pub actionIn : Bytes → Option Action
+actionIn [] = none
+actionIn (b ∷ bs) = some (actionOf (b ∷ bs))
+
+-- "a new group keeps any certifier and mechanism", by the groups' first records
+unfoldable pub certifierKept : Bytes → Bytes → Bool
+certifierKept n o =
+    kept (optional (flag 0 n) (part 4 20 n)) (optional (flag 0 o) (part 4 20 o))
+    && keptNumber (optional (flag 1 n) (number 24 2 n)) (optional (flag 1 o) (number 24 2 o))
+
+-- a new group against its source, by their records
+unfoldable pub recordsNarrow : Bytes → List Bytes → Bytes → Bytes → List Bytes → Bool
+recordsNarrow n ns hints o os = groupNarrows (groupOf n ns) hints (groupOf o os)

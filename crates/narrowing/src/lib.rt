@@ -1,0 +1,250 @@
+// Whether hints show that a new ACL is a narrowing of an old one. Each function decodes whatever bytes stand there.
+ghost use mathlib.Core.Path.{_≡_};
+ghost use Prim.Native.Nat.{_+_, _-_, _≤_, _<_};
+ghost use lib.ListN.{length, getElem?};
+ghost use Rattle.rules.specs.Sizes.{recordBytes};
+ghost use Rattle.rules.specs.Basics.{any, all, within, implies, part, number, flag, optional, records};
+ghost use Rattle.rules.specs.Acl.{parametersOf, blobRuleOf, archiveRuleOf, limitOf, limitsOf, actionOf, actionsOf, groupOf, aclOf};
+ghost use Rattle.rules.specs.Request.{hintsOf};
+ghost use Rattle.narrowing.specs.Groups.{actionKind, actionIn, certifierKept, recordsNarrow};
+ghost use Rattle.rules.specs.Narrow.{kept, keptNumber, keptParameters, blobNoWider, archiveNoWider, noWider, noWiderThan, actionsNoWider, answers, isAnswered, groupNarrows, narrowsSource, narrows};
+
+// A hash against the old one: kept equal or added.
+fn kept_hash(has: bool, new: &[u8], had: bool, old: &[u8]) -> bool
+    ensures { λ r. ⌜ r ≡ kept (optional has (now (new .entry))) (optional had (now (old .entry))) ⌝ }
+{
+    if !had {
+        return true;
+    }
+    if !has {
+        return false;
+    }
+    fields::same_bytes(new, old)
+}
+
+// A mechanism against the old one.
+fn kept_number(has: bool, new: u16, had: bool, old: u16) -> bool
+    ensures { λ r. ⌜ r ≡ keptNumber (optional has new) (optional had old) ⌝ }
+{
+    if !had {
+        return true;
+    }
+    if !has {
+        return false;
+    }
+    new == old
+}
+
+// Token parameters against the old ones: kept, tightened or added.
+fn kept_parameters(has: bool, new: &[u8], had: bool, old: &[u8]) -> bool
+    requires { ⌜ (length (now new) ≡ 8) × (length (now old) ≡ 8) ⌝ }
+    ensures { λ r. ⌜ r ≡ keptParameters (optional has (parametersOf (now (new .entry)))) (optional had (parametersOf (now (old .entry)))) ⌝ }
+{
+    if !had {
+        return true;
+    }
+    if !has {
+        return false;
+    }
+    admitting::is_tighter(new, old)
+}
+
+// An allowing flag may be dropped and never added.
+fn not_added(f: u16, new: &[u8], old: &[u8]) -> bool
+    requires { ⌜ (f < 16) × (length (now new) ≡ recordBytes) × (length (now old) ≡ recordBytes) ⌝ }
+    ensures { λ r. ⌜ r ≡ implies (flag f (now (new .entry))) (flag f (now (old .entry))) ⌝ }
+{
+    !fields::flag_of(f, new) | fields::flag_of(f, old)
+}
+
+// The hash that flag f of a MakeBlob action announces, at an offset.
+fn hash_kept(f: u16, at: usize, new: &[u8], old: &[u8]) -> bool
+    requires { ⌜ (f < 16) × (at + 20 ≤ 64) × (length (now new) ≡ recordBytes) × (length (now old) ≡ recordBytes) ⌝ }
+    ensures { λ r. ⌜ r ≡ kept (optional (flag f (now (new .entry))) (part at 20 (now (new .entry)))) (optional (flag f (now (old .entry))) (part at 20 (now (old .entry)))) ⌝ }
+{
+    kept_hash(
+        fields::flag_of(f, new),
+        &new[at..at + 20],
+        fields::flag_of(f, old),
+        &old[at..at + 20],
+    )
+}
+
+// The token parameters of a MakeBlob action.
+fn parameters_kept(new: &[u8], old: &[u8]) -> bool
+    requires { ⌜ (length (now new) ≡ recordBytes) × (length (now old) ≡ recordBytes) ⌝ }
+    ensures { λ r. ⌜ r ≡ keptParameters (optional (flag 4 (now (new .entry))) (parametersOf (part 44 8 (now (new .entry))))) (optional (flag 4 (now (old .entry))) (parametersOf (part 44 8 (now (old .entry))))) ⌝ }
+{
+    kept_parameters(
+        fields::flag_of(4, new),
+        &new[44..52],
+        fields::flag_of(4, old),
+        &old[44..52],
+    )
+}
+
+// A MakeBlob action against another.
+fn blob_no_wider(new: &[u8], old: &[u8]) -> bool
+    requires { ⌜ (length (now new) ≡ recordBytes) × (length (now old) ≡ recordBytes) ⌝ }
+    ensures { λ r. ⌜ r ≡ blobNoWider (blobRuleOf (now (new .entry))) (blobRuleOf (now (old .entry))) ⌝ }
+{
+    not_added(0, new, old)
+        & not_added(1, new, old)
+        & not_added(5, new, old)
+        & hash_kept(2, 4, new, old)
+        & hash_kept(3, 24, new, old)
+        & parameters_kept(new, old)
+}
+
+// A MakeArchiveBlob action against another.
+fn archive_no_wider(new: &[u8], old: &[u8]) -> bool
+    requires { ⌜ (length (now new) ≡ recordBytes) × (length (now old) ≡ recordBytes) ⌝ }
+    ensures { λ r. ⌜ r ≡ archiveNoWider (archiveRuleOf (now (new .entry))) (archiveRuleOf (now (old .entry))) ⌝ }
+{
+    (fields::be16(new, 24) == fields::be16(old, 24)) & hash_kept(0, 4, new, old)
+}
+
+// An action against another: of the same kind and no wider.
+fn action_no_wider(new: &[u8], old: &[u8]) -> bool
+    requires { ⌜ (length (now new) ≡ recordBytes) × (length (now old) ≡ recordBytes) ⌝ }
+    ensures { λ r. ⌜ r ≡ noWider (actionOf (now (new .entry))) (actionOf (now (old .entry))) ⌝ }
+{
+    let kind = action_kind(new[0]);
+    if kind != action_kind(old[0]) {
+        return false;
+    }
+    if kind == 3 {
+        return fields::subset16(fields::be16(new, 4), fields::be16(old, 4));
+    }
+    if kind == 4 {
+        return blob_no_wider(new, old);
+    }
+    archive_no_wider(new, old)
+}
+
+// The kind of an action as it is decoded: what is neither 3 nor 4 counts as 5.
+fn action_kind(kind: u8) -> u8
+    ensures { λ r. ⌜ r ≡ actionKind kind ⌝ }
+{
+    if kind == 3 {
+        return 3;
+    }
+    if kind == 4 {
+        return 4;
+    }
+    5
+}
+
+// Action h of a group, of the records that follow the group's first one; empty where there is none.
+fn action_at(body: &[u8], h: u8) -> &[u8]
+    ensures { λ r. ⌜ (actionIn (now r) ≡ getElem? (actionsOf (records (now (body .entry)))) h) × ((length (now r) ≡ 0 → ⊥) → length (now r) ≡ recordBytes) ⌝ }
+{
+    let mut left = h;
+    let mut at = groups::next_action(body, 0);
+    while 64 <= body.len() - at {
+        if left == 0 {
+            return &body[at..at + 64];
+        }
+        left -= 1;
+        at = groups::next_action(body, at + 64);
+    }
+    &body[0..0]
+}
+
+// A new action against the old one that its hint names.
+fn hinted_no_wider(new: &[u8], body: &[u8], h: u8) -> bool
+    requires { ⌜ length (now new) ≡ recordBytes ⌝ }
+    ensures { λ r. ⌜ r ≡ noWiderThan (actionOf (now (new .entry))) (getElem? (actionsOf (records (now (body .entry)))) h) ⌝ }
+{
+    let old = action_at(body, h);
+    if old.len() == 0 {
+        return false;
+    }
+    action_no_wider(new, old)
+}
+
+// The actions of a new group against those of its source, by the hint's bytes; those that are not used are zero.
+fn actions_no_wider(new: &[u8], hints: &[u8], old: &[u8]) -> bool
+    ensures { λ r. ⌜ r ≡ actionsNoWider (actionsOf (records (now (new .entry)))) (now (hints .entry)) (actionsOf (records (now (old .entry)))) ⌝ }
+{
+    let mut i = 0;
+    let mut at = groups::next_action(new, 0);
+    while 64 <= new.len() - at {
+        if hints.len() <= i {
+            return false;
+        }
+        if !hinted_no_wider(&new[at..at + 64], old, hints[i]) {
+            return false;
+        }
+        i += 1;
+        at = groups::next_action(new, at + 64);
+    }
+    fields::all_zero(&hints[i..])
+}
+
+// A new limit against an old one: same sort and counter, maximum no larger.
+fn limit_answers(old: &[u8], new: &[u8]) -> bool
+    requires { ⌜ (length (now old) ≡ recordBytes) × (length (now new) ≡ recordBytes) ⌝ }
+    ensures { λ r. ⌜ r ≡ answers (limitOf (now (old .entry))) (limitOf (now (new .entry))) ⌝ }
+{
+    (new[4] == old[4]) & (new[5] == old[5]) & (fields::be32(new, 8) <= fields::be32(old, 8))
+}
+
+// Whether one of the new limits answers an old one.
+fn limit_answered(new: &[u8], old: &[u8]) -> bool
+    requires { ⌜ length (now old) ≡ recordBytes ⌝ }
+    ensures { λ r. ⌜ r ≡ isAnswered (limitsOf (records (now (new .entry)))) (limitOf (now (old .entry))) ⌝ }
+{
+    let mut at = 0;
+    while 64 <= new.len() - at {
+        if new[at] != 2 {
+            return false;
+        }
+        if limit_answers(old, &new[at..at + 64]) {
+            return true;
+        }
+        at += 64;
+    }
+    false
+}
+
+// Whether each limit of the source is answered.
+fn limits_answered(new: &[u8], old: &[u8]) -> bool
+    ensures { λ r. ⌜ r ≡ all (isAnswered (limitsOf (records (now (new .entry))))) (limitsOf (records (now (old .entry)))) ⌝ }
+{
+    let mut at = 0;
+    while 64 <= old.len() - at {
+        if old[at] != 2 {
+            return true;
+        }
+        if !limit_answered(new, &old[at..at + 64]) {
+            return false;
+        }
+        at += 64;
+    }
+    true
+}
+
+// A group's certifier and mechanism against its source's.
+fn certifier_kept(new: &[u8], old: &[u8]) -> bool
+    requires { ⌜ (length (now new) ≡ recordBytes) × (length (now old) ≡ recordBytes) ⌝ }
+    ensures { λ r. ⌜ r ≡ certifierKept (now (new .entry)) (now (old .entry)) ⌝ }
+{
+    hash_kept(0, 4, new, old)
+        & kept_number(
+            fields::flag_of(1, new),
+            fields::be16(new, 24),
+            fields::flag_of(1, old),
+            fields::be16(old, 24),
+        )
+}
+
+// A new group against its source: first records, and the records that follow them.
+fn group_narrows(new: &[u8], new_body: &[u8], hints: &[u8], old: &[u8], old_body: &[u8]) -> bool
+    requires { ⌜ (length (now new) ≡ recordBytes) × (length (now old) ≡ recordBytes) ⌝ }
+    ensures { λ r. ⌜ r ≡ recordsNarrow (now (new .entry)) (records (now («new_body» .entry))) (now (hints .entry)) (now (old .entry)) (records (now («old_body» .entry))) ⌝ }
+{
+    certifier_kept(new, old)
+        & limits_answered(new_body, old_body)
+        & actions_no_wider(new_body, hints, old_body)
+}
