@@ -248,3 +248,58 @@ fn group_narrows(new: &[u8], new_body: &[u8], hints: &[u8], old: &[u8], old_body
         & limits_answered(new_body, old_body)
         & actions_no_wider(new_body, hints, old_body)
 }
+
+// A new group against the source that its hint names.
+fn source_narrows(new: &[u8], body: &[u8], hints: &[u8], old: &[u8], source: u8) -> bool
+    requires { ⌜ length (now new) ≡ recordBytes ⌝ }
+    ensures { λ r. ⌜ r ≡ narrowsSource (groupOf (now (new .entry)) (records (now (body .entry)))) (now (hints .entry)) (getElem? (aclOf (now (old .entry))) source) ⌝ }
+{
+    let rest = groups::from_group(old, source as usize);
+    if rest.len() < 64 {
+        return false;
+    }
+    group_narrows(new, body, hints, &rest[0..64], &rest[64..])
+}
+
+// Whether hints show that the new ACL is a narrowing of the old: one for each new group and no more, with sources that rise strictly.
+pub fn shows_narrowing(old: &[u8], new: &[u8], hints: &[u8]) -> bool
+    ensures { λ r. ⌜ r ≡ narrows (aclOf (now (old .entry))) (aclOf (now (new .entry))) (hintsOf (now (hints .entry))) ⌝ }
+{
+    let mut low: u16 = 0;
+    let mut h = 0;
+    let mut at = 0;
+    while 64 <= new.len() - at {
+        if new[at] != 1 {
+            at += 64;
+            continue;
+        }
+        if hints.len() - h < 64 {
+            return false;
+        }
+        let hint = &hints[h..h + 64];
+        let source = hint[4];
+        if wide(source) < low {
+            return false;
+        }
+        if !source_narrows(
+            &new[at..at + 64],
+            &new[at + 64..],
+            &hint[8..16],
+            old,
+            source,
+        ) {
+            return false;
+        }
+        low = wide(source) + 1;
+        h += 64;
+        at += 64;
+    }
+    hints.len() - h < 64
+}
+
+// A byte as a wider number.
+fn wide(b: u8) -> u16
+    ensures { λ r. ⌜ (r ≡ b) × (r < 256) ⌝ }
+{
+    b as u16
+}

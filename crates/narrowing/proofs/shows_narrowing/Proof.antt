@@ -1,0 +1,195 @@
+use Prim.Native.Nat.{_+_, _≤_, _-_}
+use mathlib.Core.Path.{_≡_, refl, ap}
+use lib.ListN.{length}
+use Rattle.rules.specs.Acl.{groupsOf, aclOf}
+use Rattle.rules.specs.Request.{hintsOf}
+use Rattle.rules.specs.Narrow.{narrowsFrom, narrows}
+use Rattle.rules.proofs.Rows.{recordsFrom}
+use Rattle.narrowing.proofs.Sources.{hintsFrom, hints-start, groups-skip, hint-lacking, source-falls, source-wider, source-kept, hints-spent}
+use borrow.Author.Needs.{needs}
+use Rattle.narrowing.proofs.shows_narrowing.Statement.{statement}
+use Rattle.narrowing.proofs.shows_narrowing.Tie as tie
+
+abbrev Inv-loop : tie.InvT-loop
+Inv-loop old new hints low₀ h₀ at₀ low h at = (at ≤ length new) × ((h ≤ length hints) × (narrowsFrom (aclOf old) low (groupsOf (recordsFrom new at)) (hintsFrom hints h) ≡ narrows (aclOf old) (aclOf new) (hintsOf hints)))
+
+abbrev μ-loop : tie.MeasureT-loop
+μ-loop old new hints low₀ h₀ at₀ low h at = length new - at
+
+loop-holds : tie.Need-loop-holds Inv-loop μ-loop
+unfolding recordsFrom
+loop-holds c =
+    let a = c .before .before .before .args in
+    (search needs, (search needs, ap (narrowsFrom (aclOf (a .old .now)) 0 (aclOf (a .new .now))) (hints-start (a .hints .now))))
+
+sub-loop : tie.Need-sub-loop Inv-loop μ-loop
+sub-loop c = search needs
+
+shared-slice-read-if1 : tie.Need-shared-slice-read-if1 Inv-loop μ-loop
+shared-slice-read-if1 c = search needs
+
+add-at : tie.Need-add-at Inv-loop μ-loop
+add-at c = search needs
+
+loop-less : tie.Need-loop-less Inv-loop μ-loop
+loop-less c = search needs
+
+loop-again : tie.Need-loop-again Inv-loop μ-loop
+loop-again c = (search needs, (search needs, search (needs, groups-skip)))
+
+sub-if2 : tie.Need-sub-if2 Inv-loop μ-loop
+sub-if2 c = search needs
+
+returns : tie.Need-returns Inv-loop μ-loop
+returns c =
+    let e = c .before in
+    let l = e .before .before in
+    hint-lacking _ _ _ _ _ _ _ (l .before .loop .inv .1 .1) (l .loop-test .taken) (e .if1 .left) (c .if2 .taken)
+
+add-hint : tie.Need-add-hint Inv-loop μ-loop
+add-hint c = search needs
+
+sub-hint : tie.Need-sub-hint Inv-loop μ-loop
+sub-hint c = search needs
+
+part-hint-start : tie.Need-part-hint-start Inv-loop μ-loop
+part-hint-start c = search needs
+
+part-hint-end : tie.Need-part-hint-end Inv-loop μ-loop
+part-hint-end c = search needs
+
+shared-slice-read-source : tie.Need-shared-slice-read-source Inv-loop μ-loop
+shared-slice-read-source c = search needs
+
+wide-requires : tie.Need-wide-requires Inv-loop μ-loop
+wide-requires c κs = search needs
+
+returns-2 : tie.Need-returns-2 Inv-loop μ-loop
+returns-2 c =
+    let w = c .before in
+    let g = w .before .before .before in
+    let e = g .before in
+    let l = e .before .before in
+    source-falls _ _ _ _ _ _ _ (l .before .loop .inv .1 .1) (l .loop-test .taken) (e .if1 .left) (g .if2 .left) _ (w .wide .ensures .0) (c .if3 .taken)
+
+add-source-narrows : tie.Need-add-source-narrows Inv-loop μ-loop
+add-source-narrows c = search needs
+
+sub-source-narrows : tie.Need-sub-source-narrows Inv-loop μ-loop
+sub-source-narrows c = search needs
+
+part-source-narrows-start : tie.Need-part-source-narrows-start Inv-loop μ-loop
+part-source-narrows-start c = search needs
+
+part-source-narrows-end : tie.Need-part-source-narrows-end Inv-loop μ-loop
+part-source-narrows-end c = search needs
+
+add-source-narrows-2 : tie.Need-add-source-narrows-2 Inv-loop μ-loop
+add-source-narrows-2 c = search needs
+
+sub-source-narrows-2 : tie.Need-sub-source-narrows-2 Inv-loop μ-loop
+sub-source-narrows-2 c = search needs
+
+part-source-narrows-start-2 : tie.Need-part-source-narrows-start-2 Inv-loop μ-loop
+part-source-narrows-start-2 c = search needs
+
+part-source-narrows-end-2 : tie.Need-part-source-narrows-end-2 Inv-loop μ-loop
+part-source-narrows-end-2 c = search needs
+
+sub-source-narrows-3 : tie.Need-sub-source-narrows-3 Inv-loop μ-loop
+sub-source-narrows-3 c = search needs
+
+part-source-narrows-start-3 : tie.Need-part-source-narrows-start-3 Inv-loop μ-loop
+part-source-narrows-start-3 c = search needs
+
+part-source-narrows-end-3 : tie.Need-part-source-narrows-end-3 Inv-loop μ-loop
+part-source-narrows-end-3 c = search needs
+
+source-narrows-requires : tie.Need-source-narrows-requires Inv-loop μ-loop
+source-narrows-requires c κs = search needs
+
+returns-3 : tie.Need-returns-3 Inv-loop μ-loop
+returns-3 c =
+    let s = c .before in
+    let f = s .before .before .before .before in
+    let w = f .before in
+    let g = w .before .before .before in
+    let e = g .before in
+    let l = e .before .before in
+    source-wider _ _ _ _ _ _ _ (l .before .loop .inv .1 .1) (l .loop-test .taken) (e .if1 .left) (g .if2 .left) _ (w .wide .ensures .0) (f .if3 .left) _ (s .source-narrows .ensures) (c .if4 .taken)
+
+wide-requires-2 : tie.Need-wide-requires-2 Inv-loop μ-loop
+wide-requires-2 c κs = search needs
+
+add-low : tie.Need-add-low Inv-loop μ-loop
+add-low c = search needs
+
+add-h : tie.Need-add-h Inv-loop μ-loop
+add-h c = search needs
+
+add-at-2 : tie.Need-add-at-2 Inv-loop μ-loop
+add-at-2 c = search needs
+
+loop-less-2 : tie.Need-loop-less-2 Inv-loop μ-loop
+loop-less-2 c = search needs
+
+loop-again-2 : tie.Need-loop-again-2 Inv-loop μ-loop
+loop-again-2 c =
+    let k = c .before in
+    let s = k .before in
+    let f = s .before .before .before .before in
+    let w = f .before in
+    let g = w .before .before .before in
+    let e = g .before in
+    let l = e .before .before in
+    let n = source-kept _ _ _ _ _ _ _ (l .before .loop .inv .1 .1) (l .loop-test .taken) (e .if1 .left) (g .if2 .left) _ (w .wide .ensures .0) (f .if3 .left) _ (s .source-narrows .ensures) _ (ap (λ z. z + 1) (c .wide2 .ensures .0)) (k .if4 .left) in
+    (search needs, (search needs, n))
+
+sub-result : tie.Need-sub-result Inv-loop μ-loop
+sub-result c = search needs
+
+returns-4 : tie.Need-returns-4 Inv-loop μ-loop
+returns-4 c = hints-spent _ _ _ _ _ _ _ (c .before .loop .inv .1 .1) (c .loop-test .left)
+
+pub shows-narrowing-spec : {M : Type 1} → statement M
+shows-narrowing-spec =
+    tie.close
+    (tie.spec
+    Inv-loop
+    μ-loop
+    loop-holds
+    sub-loop
+    shared-slice-read-if1
+    add-at
+    loop-less
+    loop-again
+    sub-if2
+    returns
+    add-hint
+    sub-hint
+    part-hint-start
+    part-hint-end
+    shared-slice-read-source
+    wide-requires
+    returns-2
+    add-source-narrows
+    sub-source-narrows
+    part-source-narrows-start
+    part-source-narrows-end
+    add-source-narrows-2
+    sub-source-narrows-2
+    part-source-narrows-start-2
+    part-source-narrows-end-2
+    sub-source-narrows-3
+    part-source-narrows-start-3
+    part-source-narrows-end-3
+    source-narrows-requires
+    returns-3
+    wide-requires-2
+    add-low
+    add-h
+    add-at-2
+    loop-less-2
+    loop-again-2
+    sub-result
+    returns-4)
