@@ -10,7 +10,7 @@ use borrow.Author.Tests.{eq-eqb, ne-eqb, eqb-true, ltb-true, ltb-false}
 use lib.ListN.{length, take, drop, getD}
 use lib.Dec.{eqb, ltb}
 use Rattle.rules.specs.Sizes.{fullCount}
-use Rattle.rules.specs.Numbers.{malformed, clockBack, notAdmitted, notCertified, spent}
+use Rattle.rules.specs.Numbers.{malformed}
 use Rattle.rules.specs.Basics.{if_then_else_, Bytes, implies, all, records, unless, orNext, firstFault}
 use Rattle.rules.specs.Acl.{Limit, limitsOf, Group, aclOf, aclFault}
 use Rattle.rules.specs.Request.{Request, requestOf, requestLaidOut, requestFault}
@@ -23,7 +23,7 @@ use Rattle.groups.specs.Parts.{firstLimits}
 use Rattle.judging.specs.declared.Judged.{Judged}
 use Rattle.judging.specs.declared.Judged.the-variants.{Granted, Early, Unadmitted, Uncertified, Exhausted}
 use Rattle.judging.specs.Standings.{denialAs, judgedAs}
-use Rattle.gate.specs.Outcomes.{hasRoom, limitHasRoom, chargedWith}
+use Rattle.gate.specs.Outcomes.{hasRoom, limitHasRoom, chargedWith, numberAs}
 
 -- the lowest group stands at its place, counted from `place`, and passes
 lowest-at : (test : ℕ → Group → Bool) (place : ℕ) (gs : List Group) (k : ℕ) (g : Group) → lowest test place gs ≡ group k g
@@ -79,10 +79,10 @@ module _ (l : Ledger) (km0 : Bytes) (gs : List Group) (q : Request) where
       let i : r .0 ≡ k = omega (arith, r .1) in
       (j .0, j .1, rw i at (r .2), r .3)
 
-  pub settle-granted : (k time : ℕ) (o : Outcome) (ms : List Limit) → Granted k ≡ judgedAs (judge l km0 gs q) → ms ≡ firstLimits (drop k gs) → time ≡ q .time
-      → o ≡ permitted k (chargedWith l k ms time) → o ≡ settle l (q .time) permitted (judge l km0 gs q)
+  pub settle-granted : (onPermit : ℕ → Ledger → Outcome) (k time : ℕ) (o : Outcome) (ms : List Limit) → Granted k ≡ judgedAs (judge l km0 gs q) → ms ≡ firstLimits (drop k gs) → time ≡ q .time
+      → o ≡ onPermit k (chargedWith l k ms time) → o ≡ settle l (q .time) onPermit (judge l km0 gs q)
   unfolding charge
-  settle-granted k time o ms e m t p =
+  settle-granted onPermit k time o ms e m t p =
       let r = granted-limits k e in
       p ∙ rw (m ∙ r .2, t, r .1)
 
@@ -119,14 +119,7 @@ module _ (l : Ledger) (km0 : Bytes) (gs : List Group) (q : Request) where
       let x = and-right (ltb own fullCount) (limitsLeft (l .counters) own (q .time - l .loaded) (g .limits)) u in
       (count-room k g (r .3), rw (m ∙ r .2) (limits-room own (q .time - l .loaded) (g .limits) x))
 
--- A denial keeps the ledger: its number, by the code's answer.
-abbrev pub numberAs : Judged → Option ℕ
-numberAs (Granted k) = none
-numberAs Early = some clockBack
-numberAs Unadmitted = some notAdmitted
-numberAs (Uncertified k) = some notCertified
-numberAs (Exhausted k) = some spent
-
+-- A denial keeps the ledger.
 number-same : (d : Denial) → numberAs (denialAs d) ≡ some (numberOf d)
 number-same early = refl
 number-same unadmitted = refl
@@ -141,9 +134,9 @@ denied-kept l time onPermit (denied x) r n o e d p =
     let q : n ≡ numberOf x = cc in
     p ∙ ap (refused l) q
 
-pub settle-denied : (l : Ledger) (km0 : Bytes) (gs : List Group) (q : Request) (onPermit : ℕ → Ledger → Outcome) (r : Judged) (n : ℕ) (o : Outcome)
-    → r ≡ judgedAs (judge l km0 gs q) → numberAs r ≡ some n → o ≡ refused l n → o ≡ settle l (q .time) onPermit (judge l km0 gs q)
-settle-denied l km0 gs q onPermit r n o e d p = denied-kept l (q .time) onPermit (judge l km0 gs q) r n o e d p
+pub settle-denied : (l : Ledger) (km0 : Bytes) (gs : List Group) (q : Request) (onPermit : ℕ → Ledger → Outcome) (n : ℕ) (o : Outcome)
+    → numberAs (judgedAs (judge l km0 gs q)) ≡ some n → o ≡ refused l n → o ≡ settle l (q .time) onPermit (judge l km0 gs q)
+settle-denied l km0 gs q onPermit n o d p = denied-kept l (q .time) onPermit (judge l km0 gs q) (judgedAs (judge l km0 gs q)) n o refl d p
 
 -- A request file without fault has a record.
 pub sound-request : (first : Bytes → Bool) (s : Bytes) → requestFault first (records s) ≡ none → 64 ≤ length s

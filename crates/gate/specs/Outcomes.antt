@@ -1,10 +1,13 @@
 -- The gate's types, as the definitions have them: the ledger, replies by document 01's numbers, outcomes; and a charge by the limits alone.
 use Prim.Native.Nat.{ℕ}
 use mathlib.Core.List.{List}
+use mathlib.Core.Path.{_≡_}
+use mathlib.Core.Option.{Option, none, some}
 use mathlib.Core.Bool.{Bool}
 use lib.ListN.{getD}
 use lib.Dec.{eqb, ltb}
 use Rattle.rules.specs.Sizes.{fullCount}
+use Rattle.rules.specs.Numbers.{clockBack, notAdmitted, notCertified, spent}
 use Rattle.rules.specs.Basics.{if_then_else_, implies}
 use Rattle.rules.specs.Acl.{Limit}
 use Rattle.rules.specs.Ledger as rules
@@ -14,6 +17,10 @@ use Rattle.gate.specs.declared.Ledger.{Ledger}
 use Rattle.gate.specs.declared.Reply.{Reply}
 use Rattle.gate.specs.declared.Reply.the-variants.{Done, Permit, Refuse}
 use Rattle.gate.specs.declared.Outcome.{Outcome}
+use Rattle.gate.specs.declared.Decision.{Decision}
+use Rattle.gate.specs.declared.Decision.the-variants as decision
+use Rattle.judging.specs.declared.Judged.{Judged}
+use Rattle.judging.specs.declared.Judged.the-variants.{Granted, Early, Unadmitted, Uncertified, Exhausted}
 
 -- the ledger
 abbrev pub ledgerOf : Ledger → rules.Ledger
@@ -50,3 +57,16 @@ chargedWith l place ms time =
       loaded = l .loaded;
       last = time;
     }
+
+-- The number of a denial, by the code's answer; a group that grants has none.
+abbrev pub numberAs : Judged → Option ℕ
+numberAs (Granted k) = none
+numberAs Early = some clockBack
+numberAs Unadmitted = some notAdmitted
+numberAs (Uncertified k) = some notCertified
+numberAs (Exhausted k) = some spent
+
+-- a decision is that of a judgement: its group, or the number of its denial
+abbrev pub Decides : Decision → Judged → Type 0
+Decides (decision.Permit k) j = Granted k ≡ j
+Decides (decision.Refuse r) j = numberAs j ≡ some (refusalNumber r)

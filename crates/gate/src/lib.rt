@@ -12,7 +12,8 @@ ghost use Rattle.rules.specs.Ledger.{freshLedger, raised, raisedBy};
 ghost use Rattle.rules.specs.Gate.{load, clear, request, lengthsFit, requestFiles, refused, permitted, settle, judge};
 ghost use Rattle.files.specs.Refusals.{refusalNumber, faultOf};
 ghost use Rattle.groups.specs.Parts.{firstLimits};
-ghost use Rattle.gate.specs.Outcomes.{ledgerOf, outcomeOf, hasRoom, limitHasRoom, raisedOnce, chargedWith};
+ghost use Rattle.gate.specs.Outcomes.{ledgerOf, outcomeOf, hasRoom, limitHasRoom, raisedOnce, chargedWith, Decides};
+ghost use Rattle.judging.specs.Standings.{judgedAs};
 use files::Checked;
 use files::Refusal;
 use judging::Judged;
@@ -209,29 +210,45 @@ fn request_files(km0: &[u8], acl: &[u8], req: &[u8]) -> Checked
     }
 }
 
+// The refusals' part of a judgement, or the group that grants.
+enum Decision {
+    Permit(usize),
+    Refuse(Refusal),
+}
+
+// What a judgement decides.
+fn decided(judged: Judged) -> Decision
+    ensures { λ r. ⌜ Decides r judged ⌝ }
+{
+    match judged {
+        Judged::Granted(k) => Decision::Permit(k),
+        Judged::Early => Decision::Refuse(Refusal::ClockBack),
+        Judged::Unadmitted => Decision::Refuse(Refusal::NotAdmitted),
+        Judged::Uncertified(_) => Decision::Refuse(Refusal::NotCertified),
+        Judged::Exhausted(_) => Decision::Refuse(Refusal::Spent),
+    }
+}
+
 impl Ledger {
+    // The decision on a request whose files are sound.
+    fn decide(self, km0: &[u8], acl: &[u8], req: &[u8]) -> Decision
+        requires { ⌜ 64 ≤ length (now req) ⌝ }
+        ensures { λ r. ⌜ Decides r (judgedAs (judge (ledgerOf self) (now (km0 .entry)) (aclOf (now (acl .entry))) (requestOf (now (req .entry))))) ⌝ }
+    {
+        let counts = self.counts;
+        let counters = self.counters;
+        decided(judging::judge_request(&counts, &counters, self.loaded, self.last, km0, acl, req))
+    }
+
     // What becomes of a request whose files are sound: the lowest group that grants is charged, or the refusal says how far the groups came.
     fn settle(self, km0: &[u8], acl: &[u8], req: &[u8]) -> Outcome
         requires { ⌜ 64 ≤ length (now req) ⌝ }
         ensures { λ r. ⌜ outcomeOf r ≡ settle (ledgerOf self) (requestOf (now (req .entry)) .time) permitted (judge (ledgerOf self) (now (km0 .entry)) (aclOf (now (acl .entry))) (requestOf (now (req .entry)))) ⌝ }
     {
-        let counts = self.counts;
-        let counters = self.counters;
-        let judged = judging::judge_request(
-            &counts,
-            &counters,
-            self.loaded,
-            self.last,
-            km0,
-            acl,
-            req,
-        );
-        match judged {
-            Judged::Granted(k) => self.charge(k, request::time(req), groups::group_body(acl, k)),
-            Judged::Early => self.refuse(Refusal::ClockBack),
-            Judged::Unadmitted => self.refuse(Refusal::NotAdmitted),
-            Judged::Uncertified(_) => self.refuse(Refusal::NotCertified),
-            Judged::Exhausted(_) => self.refuse(Refusal::Spent),
+        let d = self.decide(km0, acl, req);
+        match d {
+            Decision::Permit(k) => self.charge(k, request::time(req), groups::group_body(acl, k)),
+            Decision::Refuse(r) => self.refuse(r),
         }
     }
 
