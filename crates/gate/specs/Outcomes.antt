@@ -1,15 +1,16 @@
 -- The gate's types, as the definitions have them: the ledger, replies by document 01's numbers, outcomes; and a charge by the limits alone.
-use Prim.Native.Nat.{ℕ}
-use mathlib.Core.List.{List}
+use Prim.Native.Nat.{ℕ, _+_}
+use mathlib.Core.List.{List, [], _∷_}
 use mathlib.Core.Path.{_≡_}
 use mathlib.Core.Option.{Option, none, some}
 use mathlib.Core.Bool.{Bool}
-use lib.ListN.{getD}
+use lib.ListN.{getD, set}
 use lib.Dec.{eqb, ltb}
 use Rattle.rules.specs.Sizes.{fullCount}
 use Rattle.rules.specs.Numbers.{clockBack, notAdmitted, notCertified, spent}
 use Rattle.rules.specs.Basics.{if_then_else_, implies}
 use Rattle.rules.specs.Acl.{Limit}
+use Rattle.rules.specs.Request.{Hint}
 use Rattle.rules.specs.Ledger as rules
 use Rattle.rules.specs.Gate as rulesGate
 use Rattle.files.specs.Refusals.{refusalNumber}
@@ -70,3 +71,8 @@ numberAs (Exhausted k) = some spent
 abbrev pub Decides : Decision → Judged → Type 0
 Decides (decision.Permit k) j = Granted k ≡ j
 Decides (decision.Refuse r) j = numberAs j ≡ some (refusalNumber r)
+
+-- "Each new group takes its source's count": the counts of the new groups from place i on, over a table
+unfoldable pub carriedFrom : List ℕ → ℕ → List Hint → List ℕ → List ℕ
+carriedFrom counts i [] table = table
+carriedFrom counts i (h ∷ hs) table = carriedFrom counts (i + 1) hs (set table i (getD counts (h .source) 0))

@@ -3,16 +3,16 @@ ghost use mathlib.Core.Path.{_≡_};
 ghost use mathlib.Core.Bool.{true};
 ghost use mathlib.Core.Option.{none};
 ghost use Prim.Native.Nat.{_≤_, _<_};
-ghost use lib.ListN.{length, getD, drop};
-ghost use Rattle.rules.specs.Sizes.{fullCount};
-ghost use Rattle.rules.specs.Basics.{all, records};
-ghost use Rattle.rules.specs.Acl.{limitsOf, aclOf};
-ghost use Rattle.rules.specs.Request.{requestOf};
-ghost use Rattle.rules.specs.Ledger.{freshLedger, raised, raisedBy};
-ghost use Rattle.rules.specs.Gate.{load, clear, request, lengthsFit, requestFiles, refused, permitted, settle, judge};
+ghost use lib.ListN.{length, getD, set, replicate, drop};
+ghost use Rattle.rules.specs.Sizes.{fullCount, groupsMax};
+ghost use Rattle.rules.specs.Basics.{all, records, orNext};
+ghost use Rattle.rules.specs.Acl.{limitsOf, aclOf, aclFault};
+ghost use Rattle.rules.specs.Request.{requestOf, requestFault, useOf, reduceAcl, expandAcl, hintsOf, hintsFault};
+ghost use Rattle.rules.specs.Ledger.{freshLedger, raised, raisedBy, recounted};
+ghost use Rattle.rules.specs.Gate.{load, clear, request, lengthsFit, requestFiles, refused, permitted, settle, judge, narrowFiles, narrowed, narrow, expandFiles, expanded, expand};
 ghost use Rattle.files.specs.Refusals.{refusalNumber, faultOf};
 ghost use Rattle.groups.specs.Parts.{firstLimits};
-ghost use Rattle.gate.specs.Outcomes.{ledgerOf, outcomeOf, hasRoom, limitHasRoom, raisedOnce, chargedWith, Decides};
+ghost use Rattle.gate.specs.Outcomes.{ledgerOf, outcomeOf, hasRoom, limitHasRoom, raisedOnce, chargedWith, Decides, carriedFrom};
 ghost use Rattle.judging.specs.Standings.{judgedAs};
 use files::Checked;
 use files::Refusal;
@@ -260,6 +260,225 @@ impl Ledger {
         match fault {
             Checked::Refused(r) => self.refuse(r),
             Checked::Sound => self.settle(km0, acl, req),
+        }
+    }
+}
+
+// The permissions whose use a narrowing and an expansion are.
+const REDUCE_ACL: u8 = 2;
+
+const EXPAND_ACL: u8 = 12;
+
+// The group counts of the old groups, and those of the new groups as they take them over.
+struct Carrying {
+    from: [u32; Ledger::GROUPS],
+    table: [u32; Ledger::GROUPS],
+}
+
+// The count of a source group; 0 past the table.
+fn source_count(counts: [u32; Ledger::GROUPS], source: u8) -> u32
+    ensures { λ r. ⌜ r ≡ getD counts source 0 ⌝ }
+{
+    let i = source as usize;
+    if Ledger::GROUPS <= i {
+        return 0;
+    }
+    counts[i]
+}
+
+impl Carrying {
+    fn start(counts: [u32; Ledger::GROUPS]) -> Self
+        ensures { λ r. ⌜ (r .from ≡ counts) × (r .table ≡ replicate groupsMax 0) ⌝ }
+    {
+        Self {
+            from: counts,
+            table: [0u32; Ledger::GROUPS],
+        }
+    }
+
+    // New group i takes the count of its source.
+    fn carry(mut self, i: usize, source: u8) -> Self
+        ensures { λ r. ⌜ (r .from ≡ self .from) × (r .table ≡ set (self .table) i (getD (self .from) source 0)) ⌝ }
+    {
+        let counts = self.from;
+        let n = source_count(counts, source);
+        if Ledger::GROUPS <= i {
+            return self;
+        }
+        self.table[i] = n;
+        self
+    }
+
+    // Each new group takes the count of the source that its hint names.
+    fn carry_all(self, hints: &[u8]) -> Self
+        ensures { λ r. ⌜ r .table ≡ carriedFrom (self .from) 0 (hintsOf (now (hints .entry))) (self .table) ⌝ }
+    {
+        let mut now = self;
+        let mut i = 0;
+        let mut at = 0;
+        while 64 <= hints.len() - at {
+            let source = hints[at + 4];
+            now = now.carry(i, source);
+            i += 1;
+            at += 64;
+        }
+        now
+    }
+}
+
+impl Ledger {
+    // A charged ledger with the counts that a narrowing leaves.
+    fn carried(self, place: usize, hints: &[u8]) -> Outcome
+        ensures { λ r. ⌜ outcomeOf r ≡ permitted place (recounted (ledgerOf self) (carriedFrom (self .counts) 0 (hintsOf (now (hints .entry))) (replicate groupsMax 0))) ⌝ }
+    {
+        let counts = self.counts;
+        let counters = self.counters;
+        let table = Carrying::start(counts).carry_all(hints).table;
+        Outcome {
+            ledger: Ledger {
+                counts: table,
+                counters,
+                loaded: self.loaded,
+                last: self.last,
+            },
+            reply: Reply::Permit(place),
+        }
+    }
+
+    // A charged ledger with the counts that an expansion leaves: all zero.
+    fn emptied(mut self, place: usize) -> Outcome
+        ensures { λ r. ⌜ outcomeOf r ≡ expanded place (ledgerOf self) ⌝ }
+    {
+        self.counts = [0u32; Ledger::GROUPS];
+        Outcome {
+            ledger: self,
+            reply: Reply::Permit(place),
+        }
+    }
+}
+
+// What was found first, of two.
+fn first_of(a: Checked, b: Checked) -> Checked
+    ensures { λ r. ⌜ faultOf r ≡ orNext (faultOf a) (faultOf b) ⌝ }
+{
+    match a {
+        Checked::Refused(r) => Checked::Refused(r),
+        Checked::Sound => b,
+    }
+}
+
+// The first fault of a narrowing's files.
+fn narrow_files(km0: &[u8], acl: &[u8], req: &[u8], new: &[u8], hints: &[u8]) -> Checked
+    ensures { λ r. ⌜ faultOf r ≡ narrowFiles (now (km0 .entry)) (now (acl .entry)) (now (req .entry)) (now (new .entry)) (now (hints .entry)) ⌝ }
+{
+    let fit = lengths_fit(km0, acl, req)
+        & files::whole(sizes::ACL_RECORDS, new)
+        & files::whole(sizes::HINT_RECORDS, hints);
+    if !fit {
+        return Checked::Refused(Refusal::BadLength);
+    }
+    let replacement = first_of(acl::acl_records(new), request::hint_records(hints));
+    let rest = first_of(request::use_records(REDUCE_ACL, req), replacement);
+    first_of(acl::acl_records(acl), rest)
+}
+
+// The first fault of an expansion's files.
+fn expand_files(km0: &[u8], acl: &[u8], req: &[u8], new: &[u8]) -> Checked
+    ensures { λ r. ⌜ faultOf r ≡ expandFiles (now (km0 .entry)) (now (acl .entry)) (now (req .entry)) (now (new .entry)) ⌝ }
+{
+    let fit = lengths_fit(km0, acl, req) & files::whole(sizes::ACL_RECORDS, new);
+    if !fit {
+        return Checked::Refused(Refusal::BadLength);
+    }
+    let rest = first_of(request::use_records(EXPAND_ACL, req), acl::acl_records(new));
+    first_of(acl::acl_records(acl), rest)
+}
+
+impl Ledger {
+    // A narrowing that the group at a place grants: refused unless the hints show it; else charged, and each new group takes its source's count.
+    fn narrow_granted(
+        self,
+        place: usize,
+        time: u64,
+        body: &[u8],
+        acl: &[u8],
+        new: &[u8],
+        hints: &[u8],
+    ) -> Outcome
+        requires { ⌜ ((getD (self .counts) place 0 < fullCount) × (all (limitHasRoom (self .counters)) (limitsOf (records (now body))) ≡ true)) × (length (hintsOf (now hints)) ≤ groupsMax) ⌝ }
+        ensures { λ r. ⌜ outcomeOf r ≡ narrowed (ledgerOf self) (aclOf (now (acl .entry))) (aclOf (now (new .entry))) (hintsOf (now (hints .entry))) place (chargedWith (ledgerOf self) place (limitsOf (records (now (body .entry)))) time) ⌝ }
+    {
+        if !narrowing::shows_narrowing(acl, new, hints) {
+            return self.refuse(Refusal::NotNarrower);
+        }
+        let charged = self.charge(place, time, body).ledger;
+        charged.carried(place, hints)
+    }
+
+    // An expansion that the group at a place grants: charged, and every group count is zero.
+    fn expand_granted(self, place: usize, time: u64, body: &[u8]) -> Outcome
+        requires { ⌜ (getD (self .counts) place 0 < fullCount) × (all (limitHasRoom (self .counters)) (limitsOf (records (now body))) ≡ true) ⌝ }
+        ensures { λ r. ⌜ outcomeOf r ≡ expanded place (chargedWith (ledgerOf self) place (limitsOf (records (now (body .entry)))) time) ⌝ }
+    {
+        let charged = self.charge(place, time, body).ledger;
+        charged.emptied(place)
+    }
+
+    // What becomes of a narrowing whose files are sound.
+    fn settle_narrow(self, km0: &[u8], acl: &[u8], req: &[u8], new: &[u8], hints: &[u8]) -> Outcome
+        requires { ⌜ (64 ≤ length (now req)) × (length (hintsOf (now hints)) ≤ groupsMax) ⌝ }
+        ensures { λ r. ⌜ outcomeOf r ≡ settle (ledgerOf self) (requestOf (now (req .entry)) .time) (narrowed (ledgerOf self) (aclOf (now (acl .entry))) (aclOf (now (new .entry))) (hintsOf (now (hints .entry)))) (judge (ledgerOf self) (now (km0 .entry)) (aclOf (now (acl .entry))) (requestOf (now (req .entry)))) ⌝ }
+    {
+        let d = self.decide(km0, acl, req);
+        match d {
+            Decision::Permit(k) => self.narrow_granted(
+                k,
+                request::time(req),
+                groups::group_body(acl, k),
+                acl,
+                new,
+                hints,
+            ),
+            Decision::Refuse(r) => self.refuse(r),
+        }
+    }
+
+    // What becomes of an expansion whose files are sound.
+    fn settle_expand(self, km0: &[u8], acl: &[u8], req: &[u8]) -> Outcome
+        requires { ⌜ 64 ≤ length (now req) ⌝ }
+        ensures { λ r. ⌜ outcomeOf r ≡ settle (ledgerOf self) (requestOf (now (req .entry)) .time) expanded (judge (ledgerOf self) (now (km0 .entry)) (aclOf (now (acl .entry))) (requestOf (now (req .entry)))) ⌝ }
+    {
+        let d = self.decide(km0, acl, req);
+        match d {
+            Decision::Permit(k) => self.expand_granted(
+                k,
+                request::time(req),
+                groups::group_body(acl, k),
+            ),
+            Decision::Refuse(r) => self.refuse(r),
+        }
+    }
+
+    // A narrowing, a use of ReduceACL: KM0, the ACL, the request with its certificates, the new ACL, a hint for each new group. A refusal hands the
+    // ledger back as it was.
+    pub fn narrow(self, km0: &[u8], acl: &[u8], req: &[u8], new: &[u8], hints: &[u8]) -> Outcome
+        ensures { λ r. ⌜ outcomeOf r ≡ narrow (ledgerOf self) (now (km0 .entry)) (now (acl .entry)) (now (req .entry)) (now (new .entry)) (now (hints .entry)) ⌝ }
+    {
+        let fault = narrow_files(km0, acl, req, new, hints);
+        match fault {
+            Checked::Refused(r) => self.refuse(r),
+            Checked::Sound => self.settle_narrow(km0, acl, req, new, hints),
+        }
+    }
+
+    // An expansion, a use of ExpandACL: KM0, the ACL, the request with its certificates, the new ACL. A refusal hands the ledger back as it was.
+    pub fn expand(self, km0: &[u8], acl: &[u8], req: &[u8], new: &[u8]) -> Outcome
+        ensures { λ r. ⌜ outcomeOf r ≡ expand (ledgerOf self) (now (km0 .entry)) (now (acl .entry)) (now (req .entry)) (now (new .entry)) ⌝ }
+    {
+        let fault = expand_files(km0, acl, req, new);
+        match fault {
+            Checked::Refused(r) => self.refuse(r),
+            Checked::Sound => self.settle_expand(km0, acl, req),
         }
     }
 }

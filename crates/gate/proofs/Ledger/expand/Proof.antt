@@ -1,0 +1,49 @@
+use mathlib.Core.Path.{sym, _∙_, ap}
+use Rattle.rules.specs.Gate.{expand}
+use Rattle.files.specs.Refusals.{faultOf}
+use Rattle.gate.proofs.Settling.{refused-by, not-refused}
+use Rattle.gate.proofs.Replacing.{expand-sound}
+use borrow.Author.Needs.{needs}
+use Rattle.gate.proofs.Ledger.expand.Statement.{statement}
+use Rattle.gate.proofs.Ledger.expand.Tie as tie
+
+expand-files-requires : tie.Need-expand-files-requires
+expand-files-requires c κs = search needs
+
+enum-known-fault : tie.Need-enum-known-fault
+enum-known-fault c = search needs
+
+refuse-requires : tie.Need-refuse-requires
+refuse-requires c κs = search needs
+
+enum-told : tie.Need-enum-told
+enum-told c = search needs
+
+settle-expand-requires : tie.Need-settle-expand-requires
+settle-expand-requires c κs =
+    let a = c .before .before .before .before .before .before .before .args in
+    expand-sound (a .km0 .now) (a .acl .now) (a .req .now) (a .new .now) (sym (c .before .before .expand-files .ensures) ∙ ap faultOf (c .enum-told .given .1))
+
+returns : tie.Need-returns
+unfolding expand
+returns c =
+    let f = c .before .before in
+    refused-by _ _ _ _ _ (sym (f .before .before .expand-files .ensures) ∙ ap faultOf (f .fault .given .1)) (c .refuse .ensures)
+
+returns-2 : tie.Need-returns-2
+unfolding expand
+returns-2 c =
+    let t = c .before in
+    not-refused _ _ _ _ (sym (t .before .before .expand-files .ensures) ∙ ap faultOf (t .enum-told .given .1)) (c .settle-expand .ensures)
+
+pub expand-spec : {M : Type 1} → statement M
+expand-spec =
+    tie.close
+    (tie.spec
+    expand-files-requires
+    enum-known-fault
+    refuse-requires
+    enum-told
+    settle-expand-requires
+    returns
+    returns-2)
