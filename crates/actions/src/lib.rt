@@ -8,7 +8,7 @@ ghost use Rattle.rules.specs.Basics.{allBelow, bothSame, part, number, flag, op
 ghost use Rattle.rules.specs.Acl.{blobRuleOf, archiveRuleOf, makeBlob, actionOf};
 ghost use Rattle.rules.specs.Suites.{suiteMechanism};
 ghost use Rattle.rules.specs.Bundle.{policyOf};
-ghost use Rattle.rules.specs.Desk.{classOf, policyAdmits, permissionsFailure, blobFailure, moduleKey, isMechanism, archiveFailure, actionFailure, actionProtection, isArchive};
+ghost use Rattle.rules.specs.Desk.{classOf, policyAdmits, permissionsFailure, blobFailure, moduleKey, recoveryKey, isMechanism, archiveFailure, actionFailure, actionProtection, isArchive};
 ghost use Rattle.facts.specs.Found.{policyAs};
 ghost use Rattle.steps.specs.Steps.{given, failureOf};
 ghost use Rattle.actions.specs.Classes.{classAs, admittedBit};
@@ -124,7 +124,8 @@ fn under_module_key(bundle: &[u8], rec: &[u8]) -> bool
     requires { ⌜ length (now rec) ≡ recordBytes ⌝ }
     ensures { λ r. ⌜ r ≡ bothSame (moduleKey (records (now (bundle .entry)))) (blobRuleOf (now (rec .entry)) .kmhash) ⌝ }
 {
-    steps::both_same(steps::module_key(bundle), optional_hash(2, 4, rec))
+    let hash = optional_hash(2, 4, rec);
+    steps::both_same(steps::module_key(bundle), hash)
 }
 
 // MakeBlob: protected by the module or a token, under the trusted module key, never the null key, and a token with its parameters.
@@ -157,16 +158,24 @@ fn called_for(bundle: &[u8], rec: &[u8]) -> bool
     (due != 0) & (due == fields::be16(rec, 24))
 }
 
+// Whether a MakeArchiveBlob action names the trusted recovery key.
+fn under_recovery_key(bundle: &[u8], rec: &[u8]) -> bool
+    requires { ⌜ length (now rec) ≡ recordBytes ⌝ }
+    ensures { λ r. ⌜ r ≡ bothSame (recoveryKey (records (now (bundle .entry)))) (archiveRuleOf (now (rec .entry)) .kahash) ⌝ }
+{
+    let hash = optional_hash(0, 4, rec);
+    steps::both_same(steps::recovery_key(bundle), hash)
+}
+
 // MakeArchiveBlob: under the trusted recovery key, by the suite's mechanism.
 fn archive_steps(bundle: &[u8], rec: &[u8]) -> Failure
     requires { ⌜ length (now rec) ≡ recordBytes ⌝ }
     ensures { λ r. ⌜ failureOf r ≡ archiveFailure (records (now (bundle .entry))) (archiveRuleOf (now (rec .entry))) ⌝ }
 {
-    let key = steps::recovery_key(bundle);
-    if !steps::is_there(key) {
+    if !steps::is_there(steps::recovery_key(bundle)) {
         return Failure::At(Step::RB1);
     }
-    if !steps::both_same(key, optional_hash(0, 4, rec)) {
+    if !under_recovery_key(bundle, rec) {
         return Failure::At(Step::RB2);
     }
     if !called_for(bundle, rec) {

@@ -1,4 +1,4 @@
-use Rattle.steps.proofs.Laws.{tests, present-is, same-is}
+use Rattle.steps.proofs.Laws.{tests, present-is}
 use borrow.Author.Needs.{needs}
 use Rattle.actions.proofs.archive_steps.Statement.{statement}
 use Rattle.actions.proofs.archive_steps.Tie as tie
@@ -12,23 +12,20 @@ is-there-requires c κs = search needs
 returns : tie.Need-returns
 returns c = search (needs, tests, present-is)
 
-optional-hash-requires : tie.Need-optional-hash-requires
-optional-hash-requires c κs = search needs
-
-both-same-requires : tie.Need-both-same-requires
-both-same-requires c κs = search needs
+under-recovery-key-requires : tie.Need-under-recovery-key-requires
+under-recovery-key-requires c κs = search needs
 
 returns-2 : tie.Need-returns-2
-returns-2 c = search (needs, tests, present-is, same-is)
+returns-2 c = search (needs, tests, present-is)
 
 called-for-requires : tie.Need-called-for-requires
 called-for-requires c κs = search needs
 
 returns-3 : tie.Need-returns-3
-returns-3 c = search (needs, tests, present-is, same-is)
+returns-3 c = search (needs, tests, present-is)
 
 returns-4 : tie.Need-returns-4
-returns-4 c = search (needs, tests, present-is, same-is)
+returns-4 c = search (needs, tests, present-is)
 
 pub archive-steps-spec : {M : Type 1} → statement M
 archive-steps-spec =
@@ -37,8 +34,7 @@ archive-steps-spec =
     recovery-key-requires
     is-there-requires
     returns
-    optional-hash-requires
-    both-same-requires
+    under-recovery-key-requires
     returns-2
     called-for-requires
     returns-3

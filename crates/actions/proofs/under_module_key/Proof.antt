@@ -3,11 +3,11 @@ use borrow.Author.Needs.{needs}
 use Rattle.actions.proofs.under_module_key.Statement.{statement}
 use Rattle.actions.proofs.under_module_key.Tie as tie
 
-module-key-requires : tie.Need-module-key-requires
-module-key-requires c κs = search needs
-
 optional-hash-requires : tie.Need-optional-hash-requires
 optional-hash-requires c κs = search needs
+
+module-key-requires : tie.Need-module-key-requires
+module-key-requires c κs = search needs
 
 both-same-requires : tie.Need-both-same-requires
 both-same-requires c κs = search needs
@@ -17,4 +17,4 @@ returns c = search (needs, same-is)
 
 pub under-module-key-spec : {M : Type 1} → statement M
 under-module-key-spec =
-    tie.close (tie.spec module-key-requires optional-hash-requires both-same-requires returns)
+    tie.close (tie.spec optional-hash-requires module-key-requires both-same-requires returns)

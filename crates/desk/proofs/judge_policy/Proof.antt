@@ -15,7 +15,7 @@ full-steps-requires : tie.Need-full-steps-requires
 full-steps-requires c κs = search needs
 
 protection-of-requires : tie.Need-protection-of-requires
-protection-of-requires c κs = protection-bounds _ _ _ (c .before .key-protection .ensures)
+protection-of-requires c κs = let bounds = protection-bounds _ _ _ (c .before .key-protection .ensures) in search needs
 
 is-recoverable-requires : tie.Need-is-recoverable-requires
 is-recoverable-requires c κs = search needs
