@@ -18,8 +18,8 @@ use Rattle.rules.specs.Numbers.{notKept}
 use Rattle.rules.specs.Desk.{Step, ACLV3, WB1, WB2, WB3, WB6, moduleKey, permissionsFailure, blobFailure, isMechanism, actionProtection, softParameters, isArchive}
 use Rattle.rules.proofs.Laws.{and-left, and-right, and-both, allBelow-at, not-both, decided}
 use Rattle.subject.specs.Writing.{mechanismIn}
-use Rattle.steps.specs.Steps.{given}
-use Rattle.steps.proofs.Laws.{given-some}
+use Rattle.evidence.specs.Given.{given}
+use Rattle.evidence.proofs.Laws.{given-some}
 use Rattle.actions.specs.Classes.{admittedBit}
 
 -- what a table says at a place, read by a function

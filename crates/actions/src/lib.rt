@@ -10,7 +10,8 @@ ghost use Rattle.rules.specs.Suites.{suiteMechanism};
 ghost use Rattle.rules.specs.Bundle.{policyOf};
 ghost use Rattle.rules.specs.Desk.{classOf, policyAdmits, permissionsFailure, blobFailure, moduleKey, recoveryKey, isMechanism, archiveFailure, actionFailure, actionProtection, isArchive};
 ghost use Rattle.facts.specs.Found.{policyAs};
-ghost use Rattle.steps.specs.Steps.{given, failureOf};
+ghost use Rattle.evidence.specs.Given.{given};
+ghost use Rattle.steps.specs.Steps.{failureOf};
 ghost use Rattle.actions.specs.Classes.{classAs, admittedBit};
 use facts::Policy;
 use steps::Failure;
@@ -125,7 +126,7 @@ fn under_module_key(bundle: &[u8], rec: &[u8]) -> bool
     ensures { λ r. ⌜ r ≡ bothSame (moduleKey (records (now (bundle .entry)))) (blobRuleOf (now (rec .entry)) .kmhash) ⌝ }
 {
     let hash = optional_hash(2, 4, rec);
-    steps::both_same(steps::module_key(bundle), hash)
+    evidence::both_same(evidence::module_key(bundle), hash)
 }
 
 // MakeBlob: protected by the module or a token, under the trusted module key, never the null key, and a token with its parameters.
@@ -164,7 +165,7 @@ fn under_recovery_key(bundle: &[u8], rec: &[u8]) -> bool
     ensures { λ r. ⌜ r ≡ bothSame (recoveryKey (records (now (bundle .entry)))) (archiveRuleOf (now (rec .entry)) .kahash) ⌝ }
 {
     let hash = optional_hash(0, 4, rec);
-    steps::both_same(steps::recovery_key(bundle), hash)
+    evidence::both_same(evidence::recovery_key(bundle), hash)
 }
 
 // MakeArchiveBlob: under the trusted recovery key, by the suite's mechanism.
@@ -172,7 +173,7 @@ fn archive_steps(bundle: &[u8], rec: &[u8]) -> Failure
     requires { ⌜ length (now rec) ≡ recordBytes ⌝ }
     ensures { λ r. ⌜ failureOf r ≡ archiveFailure (records (now (bundle .entry))) (archiveRuleOf (now (rec .entry))) ⌝ }
 {
-    if !steps::is_there(steps::recovery_key(bundle)) {
+    if !evidence::is_there(evidence::recovery_key(bundle)) {
         return Failure::At(Step::RB1);
     }
     if !under_recovery_key(bundle, rec) {

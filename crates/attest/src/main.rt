@@ -35,7 +35,11 @@ fn read_file(i: usize, buffer: &mut [u8]) -> Input
     let mut path = io::buffer();
     let n = os::arg(i, &mut path);
     if os::errno() != 0 {
-        os::fail(b"attest: file name");
+        if i == 1 {
+            os::fail(b"BUNDLE");
+        } else {
+            os::fail(b"ACL");
+        }
         return Input::Unreadable;
     }
     let fd = os::open_read(&path[..n]);

@@ -11,11 +11,6 @@ use Rattle.steps.specs.declared.Step.the-variants.{WV1, MSCV1, MSCV2, MS
 use Rattle.steps.specs.declared.Failure.{Failure}
 use Rattle.steps.specs.declared.Failure.the-variants.{Nothing, At}
 
--- a part that stands for bytes which may be missing: an empty one for none
-abbrev pub given : Bytes → Option Bytes
-given [] = none
-given (x ∷ xs) = some (x ∷ xs)
-
 -- a step, by its name
 abbrev pub stepOf : Step → desk.Step
 stepOf WV1 = desk.WV1

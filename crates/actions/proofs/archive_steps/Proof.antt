@@ -1,4 +1,5 @@
-use Rattle.steps.proofs.Laws.{tests, present-is}
+use Rattle.evidence.proofs.Laws.{present-is}
+use Rattle.steps.proofs.Laws.{tests}
 use borrow.Author.Needs.{needs}
 use Rattle.actions.proofs.archive_steps.Statement.{statement}
 use Rattle.actions.proofs.archive_steps.Tie as tie

@@ -2,7 +2,7 @@ use mathlib.Core.Path.{_∙_, ap}
 use Rattle.rules.specs.Desk as desk
 use Rattle.rules.specs.Desk.{policyAdmits}
 use Rattle.facts.specs.Found.{policyAs}
-use Rattle.steps.proofs.Laws.{implies-is}
+use Rattle.evidence.proofs.Laws.{implies-is}
 use Rattle.actions.specs.Classes.{admittedBit}
 use borrow.Author.Needs.{needs}
 use Rattle.actions.proofs.bit_admitted.Statement.{statement}

@@ -1,4 +1,4 @@
-use Rattle.steps.proofs.Laws.{same-is}
+use Rattle.evidence.proofs.Laws.{same-is}
 use borrow.Author.Needs.{needs}
 use Rattle.grading.proofs.is_officers.Statement.{statement}
 use Rattle.grading.proofs.is_officers.Tie as tie
