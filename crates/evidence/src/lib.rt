@@ -22,6 +22,7 @@ pub fn both_same(a: &[u8], b: &[u8]) -> bool
     is_there(a) & fields::same_bytes(a, b)
 }
 
+// Whether an outcome is reported, and good.
 fn good_outcome(s: Signature) -> bool
     ensures { λ r. ⌜ r ≡ isGood (outcomeOf s) ⌝ }
 {
@@ -32,6 +33,7 @@ fn good_outcome(s: Signature) -> bool
     }
 }
 
+// Whether an outcome is reported.
 fn any_outcome(s: Signature) -> bool
     ensures { λ r. ⌜ r ≡ present (outcomeOf s) ⌝ }
 {
