@@ -1,0 +1,137 @@
+-- Laws of a single action: the table of classes, the loop over the permissions, flags that announce fields, the kinds of actions.
+use Prim.Native.Nat.{ℕ, zero, suc, _+_, _-_, _≤_, _<_}
+use native.Mathlib.Omega.{arith}
+use native.Mathlib.Numerals.{add-one}
+use mathlib.Core.Path.{_≡_, refl, sym, _∙_, ap}
+use mathlib.Core.List.{List, [], _∷_, map}
+use mathlib.Core.Option.{Option, none, some}
+use mathlib.Core.Bool.{Bool, true, false, not, _&&_, _||_}
+use borrow.Author.Tests.{eq-eqb, ne-eqb, eqb-true, not-true, not-false}
+use lib.ListN.{length, take, drop, getD, length-drop}
+use lib.Seq.{length-take-le, take-take}
+use lib.Dec.{eqb}
+use Rattle.rules.specs.Basics.{if_then_else_, Bytes, implies, bit, allBelow, part, number, kind, flag, optional, present, bothSame, unless, firstFault}
+use Rattle.rules.specs.Acl.{blobRuleOf, archiveRuleOf, parametersAt, Action, permissions, makeBlob, makeArchive, actionOf}
+use Rattle.rules.specs.Bundle.{Policy, policyOf}
+use Rattle.rules.specs.Suites.{suiteMechanism}
+use Rattle.rules.specs.Numbers.{notKept}
+use Rattle.rules.specs.Desk.{Step, ACLV3, WB1, WB2, WB3, WB6, moduleKey, permissionsFailure, blobFailure, isMechanism, actionProtection, softParameters, isArchive}
+use Rattle.rules.proofs.Laws.{and-left, and-right, and-both, allBelow-at, not-both, decided}
+use Rattle.subject.specs.Writing.{mechanismIn}
+use Rattle.evidence.specs.Given.{given}
+use Rattle.evidence.proofs.Laws.{given-some}
+use Rattle.actions.specs.Classes.{admittedBit}
+
+-- what a table says at a place, read by a function
+pub table-at : {A B : Type 0} (f : A → B) (xs : List A) (ys : List B) (k : ℕ) (d : A) (e : B) → map f xs ≡ ys → k < length xs → f (getD xs k d) ≡ getD ys k e
+table-at f [] ys k d e r h = absurd (omega arith)
+table-at f (x ∷ xs) ys zero d e r h = rw (← r)
+table-at f (x ∷ xs) ys (suc k) d e r h = rw (← r) (table-at f xs (map f xs) k d e refl (omega arith))
+
+-- The loop over the permissions: every one below b passes.
+module _ (p : ℕ → Bool) (b : ℕ) (t : Bool) (is : t ≡ p b) where
+  pub below-next : allBelow b p ≡ true → not t ≡ false → allBelow (b + 1) p ≡ true
+  unfolding allBelow
+  below-next h e = rw add-one (and-both (p b) (allBelow b p) (sym is ∙ not-false t e) h)
+
+  pub below-stop : (n : ℕ) → b < n → not t ≡ true → false ≡ allBelow n p
+  below-stop n h e = pick (allBelow n p) refl
+    where
+      pick : (a : Bool) → allBelow n p ≡ a → false ≡ a
+      pick true q = absurd (not-both (p b) (allBelow-at n p b h q) (sym is ∙ not-true t e))
+      pick false q = refl
+
+pub below-done : (p : ℕ → Bool) (b n : ℕ) → allBelow b p ≡ true → n ≤ b → b ≤ n → true ≡ allBelow n p
+below-done p b n h l m = let e : b ≡ n = omega arith in sym (rw e at h)
+
+pub below-none : (p : ℕ → Bool) → allBelow 0 p ≡ true
+unfolding allBelow
+below-none p = refl
+
+-- ACLV3
+module _ (b : List Bytes) (p : Policy) (bits n : ℕ) (r : Bool) (e : p ≡ policyOf b) (f : bits ≡ n) (is : r ≡ allBelow 16 (admittedBit p bits)) where
+  pub permissions-fail : not r ≡ true → some ACLV3 ≡ permissionsFailure b n
+  unfolding admittedBit
+  permissions-fail h = let q : allBelow 16 (admittedBit (policyOf b) n) ≡ false = rw (← e, ← f) (sym is ∙ not-true r h) in rw q
+
+  pub permissions-pass : not r ≡ false → none ≡ permissionsFailure b n
+  unfolding admittedBit
+  permissions-pass h = let q : allBelow 16 (admittedBit (policyOf b) n) ≡ true = rw (← e, ← f) (sym is ∙ not-false r h) in rw q
+
+-- A hash that a flag announces.
+pub present-optional : {A : Type 0} (t : Bool) (a : A) → present (optional t a) ≡ t
+present-optional true a = refl
+present-optional false a = refl
+
+module _ (off : ℕ) (rec : Bytes) (r t : Bool) (is : r ≡ t) where
+  pub hash-there : length rec ≡ 64 → off + 20 ≤ 64 → r ≡ true → given (take (off + 20 - off) (drop off rec)) ≡ optional t (part off 20 rec)
+  hash-there l h e =
+      let k : off + 20 - off ≡ 20 = omega arith in
+      let m : length (part off 20 rec) ≡ 20 = length-take-le 20 (drop off rec) (omega (arith, length-drop off rec)) in
+      rw (k, ← is, e) (given-some (part off 20 rec) (λ z. omega arith))
+
+  pub hash-absent : r ≡ false → none ≡ optional t (part off 20 rec)
+  hash-absent e = rw (← is, e)
+
+-- WB1 to WB6, by the flags
+pub by-flags : (b : List Bytes) (rec : Bytes) (x : Option Step)
+    → x ≡ firstFault (unless (flag 0 rec || flag 3 rec) WB1 ∷ unless (bothSame (moduleKey b) (optional (flag 2 rec) (part 4 20 rec))) WB2 ∷ unless (not (flag 5 rec)) WB3 ∷ unless (implies (flag 3 rec) (flag 4 rec)) WB6 ∷ [])
+    → x ≡ blobFailure b (blobRuleOf rec)
+by-flags b rec x e = rw (present-optional (flag 3 rec) (part 24 20 rec), present-optional (flag 4 rec) (parametersAt 44 rec)) e
+
+-- `if f(..) { return .. }`, of a test that has to fail
+module _ {F : Type 0} (f : F) (ts : List (Option F)) (x : Option F) (r t : Bool) (e : r ≡ t) where
+  pub fault-if : r ≡ true → x ≡ some f → x ≡ firstFault (unless (not t) f ∷ ts)
+  unfolding firstFault
+  fault-if h p = p ∙ rw (← e, h)
+
+  pub fault-unless : r ≡ false → x ≡ firstFault ts → x ≡ firstFault (unless (not t) f ∷ ts)
+  unfolding firstFault
+  fault-unless h p = p ∙ rw (← e, h)
+
+-- RB3
+pub called : (due m : ℕ) (o : Option ℕ) → mechanismIn due ≡ o → (not (eqb due 0) && eqb due m) ≡ isMechanism o m
+called zero m o e = rw (← e)
+called (suc n) m o e = rw (← e, ne-eqb (suc n) 0 (λ z. omega arith))
+
+pub called-under : (p q : Policy) (due m n : ℕ) → p ≡ q → mechanismIn due ≡ suiteMechanism (p .suite) → m ≡ n → (not (eqb due 0) && eqb due m) ≡ isMechanism (suiteMechanism (q .suite)) n
+called-under p q due m n e f g = rw (← g) (called due m (suiteMechanism (q .suite)) (f ∙ ap (λ (z : Policy). suiteMechanism (z .suite)) e))
+
+-- What is made of an action, by the kind of its record.
+pub by-kind : {A : Type 0} (f : Action → A) (r : Bytes) (x : A)
+    → x ≡ (if eqb (kind r) 3 then f (permissions (number 4 2 r)) else if eqb (kind r) 4 then f (makeBlob (blobRuleOf r)) else f (makeArchive (archiveRuleOf r)))
+    → x ≡ f (actionOf r)
+unfolding actionOf
+by-kind f r x e = pick (eqb (kind r) 3) refl (eqb (kind r) 4) refl
+  where
+    pick : (a : Bool) → eqb (kind r) 3 ≡ a → (b : Bool) → eqb (kind r) 4 ≡ b → x ≡ f (actionOf r)
+    pick true q b p = rw q (rw q at e)
+    pick false q true p = rw (q, p) (rw (q, p) at e)
+    pick false q false p = rw (q, p) (rw (q, p) at e)
+
+pub kept-by-blob : (r : Bytes) (x : ℕ) → getD r 0 0 ≡ 4 → x ≡ actionProtection (makeBlob (blobRuleOf r)) → x ≡ actionProtection (actionOf r)
+kept-by-blob r x h e = by-kind actionProtection r x (rw (ne-eqb (kind r) 3 (λ z. omega arith), eq-eqb (kind r) 4 h) e)
+
+pub kept-by-none : (r : Bytes) → (getD r 0 0 ≡ 4 → ⊥) → notKept ≡ actionProtection (actionOf r)
+unfolding actionProtection
+kept-by-none r n = by-kind actionProtection r notKept (rw (ne-eqb (kind r) 4 n) (either (eqb (kind r) 3)))
+  where
+    either : (t : Bool) → notKept ≡ (if t then notKept else notKept)
+    either true = refl
+    either false = refl
+
+pub archive-is : (r : Bytes) → (not (eqb (kind r) 3) && not (eqb (kind r) 4)) ≡ isArchive (actionOf r)
+archive-is r = by-kind isArchive r (not (eqb (kind r) 3) && not (eqb (kind r) 4)) (each (eqb (kind r) 3) (eqb (kind r) 4))
+  where
+    each : (a b : Bool) → (not a && not b) ≡ (if a then false else if b then false else true)
+    each true b = refl
+    each false true = refl
+    each false false = refl
+
+-- "if ktparams has AllowSoftSlots"
+pub soft-is : (rec : Bytes) (r s : Bool) (n : ℕ) → r ≡ flag 4 rec → s ≡ bit 0 n → n ≡ number 44 2 rec → (r && s) ≡ softParameters (optional (flag 4 rec) (parametersAt 44 rec))
+soft-is rec r s n e f g = rw (e, f, g) (each (flag 4 rec))
+  where
+    each : (t : Bool) → (t && bit 0 (number 44 2 rec)) ≡ softParameters (optional t (parametersAt 44 rec))
+    each true = rw (take-take 2 8 (drop 44 rec) (omega arith))
+    each false = refl

@@ -1,0 +1,43 @@
+use Rattle.rules.specs.Basics.{records}
+use Rattle.rules.specs.Desk.{actionFailure}
+use Rattle.rules.proofs.Choices.{picks}
+use Rattle.actions.proofs.Laws.{by-kind}
+use borrow.Author.Needs.{needs}
+use Rattle.actions.proofs.action_steps.Statement.{statement}
+use Rattle.actions.proofs.action_steps.Tie as tie
+
+shared-slice-read-kind : tie.Need-shared-slice-read-kind
+shared-slice-read-kind c = search needs
+
+permission-step-requires : tie.Need-permission-step-requires
+permission-step-requires c κs = search needs
+
+returns : tie.Need-returns
+unfolding actionFailure
+returns c = let a = c .before .before .before .before .before .args in by-kind (actionFailure (records (a .bundle .now))) (a .rec .now) _ (search (needs, picks))
+
+blob-steps-requires : tie.Need-blob-steps-requires
+blob-steps-requires c κs = search needs
+
+returns-2 : tie.Need-returns-2
+unfolding actionFailure
+returns-2 c = let a = c .before .before .before .before .before .before .args in by-kind (actionFailure (records (a .bundle .now))) (a .rec .now) _ (search (needs, picks))
+
+archive-steps-requires : tie.Need-archive-steps-requires
+archive-steps-requires c κs = search needs
+
+returns-3 : tie.Need-returns-3
+unfolding actionFailure
+returns-3 c = let a = c .before .before .before .before .before .before .args in by-kind (actionFailure (records (a .bundle .now))) (a .rec .now) _ (search (needs, picks))
+
+pub action-steps-spec : {M : Type 1} → statement M
+action-steps-spec =
+    tie.close
+    (tie.spec
+    shared-slice-read-kind
+    permission-step-requires
+    returns
+    blob-steps-requires
+    returns-2
+    archive-steps-requires
+    returns-3)

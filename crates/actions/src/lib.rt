@@ -1,0 +1,236 @@
+// One action of an ACL: the attestation step that it fails, its protection, whether it is for recovery. Each decodes whatever bytes stand in the
+// record; the file may or may not have been tested.
+ghost use mathlib.Core.Path.{_≡_};
+ghost use Prim.Native.Nat.{_+_, _≤_, _<_};
+ghost use lib.ListN.{length};
+ghost use Rattle.rules.specs.Sizes.{recordBytes, hashBytes};
+ghost use Rattle.rules.specs.Basics.{allBelow, bothSame, part, number, flag, optional, records};
+ghost use Rattle.rules.specs.Acl.{blobRuleOf, archiveRuleOf, makeBlob, actionOf};
+ghost use Rattle.rules.specs.Suites.{suiteMechanism};
+ghost use Rattle.rules.specs.Bundle.{policyOf};
+ghost use Rattle.rules.specs.Desk.{classOf, policyAdmits, permissionsFailure, blobFailure, moduleKey, recoveryKey, isMechanism, archiveFailure, actionFailure, actionProtection, isArchive};
+ghost use Rattle.facts.specs.Found.{policyAs};
+ghost use Rattle.evidence.specs.Given.{given};
+ghost use Rattle.steps.specs.Steps.{failureOf};
+ghost use Rattle.actions.specs.Classes.{classAs, admittedBit};
+use facts::Policy;
+use steps::Failure;
+use steps::Step;
+
+// The numbers of the protections, the smallest the weakest.
+pub const BY_MODULE: u8 = 1;
+
+pub const BY_SOFTCARD: u8 = 2;
+
+pub const BY_CARDSET: u8 = 3;
+
+pub const NOT_KEPT: u8 = 4;
+
+// What a permission lets its holder do with the key.
+pub enum Class {
+    Harmless,
+    Signature,
+    Encryption,
+    Forbidden,
+}
+
+// The class of each permission, by bit.
+const CLASSES: [Class; 16] = [
+    Class::Harmless,
+    Class::Harmless,
+    Class::Harmless,
+    Class::Harmless,
+    Class::Signature,
+    Class::Signature,
+    Class::Signature,
+    Class::Signature,
+    Class::Encryption,
+    Class::Encryption,
+    Class::Forbidden,
+    Class::Forbidden,
+    Class::Forbidden,
+    Class::Forbidden,
+    Class::Forbidden,
+    Class::Forbidden,
+];
+
+// The class of permission b.
+pub fn class_of(b: u16) -> Class
+    requires { ⌜ b < 16 ⌝ }
+    ensures { λ r. ⌜ classAs r ≡ classOf b ⌝ }
+{
+    let at = b as usize;
+    CLASSES[at]
+}
+
+// Whether a policy admits a class.
+fn class_admitted(policy: Policy, class: Class) -> bool
+    ensures { λ r. ⌜ r ≡ policyAdmits (policyAs policy) (classAs class) ⌝ }
+{
+    match class {
+        Class::Harmless => true,
+        Class::Signature => policy.signing,
+        Class::Encryption => policy.encryption,
+        Class::Forbidden => false,
+    }
+}
+
+// Whether a policy admits permission b, if it is among those that are set.
+fn bit_admitted(policy: Policy, bits: u16, b: u16) -> bool
+    requires { ⌜ b < 16 ⌝ }
+    ensures { λ r. ⌜ r ≡ admittedBit (policyAs policy) bits b ⌝ }
+{
+    !fields::bit_of(b, bits) | class_admitted(policy, class_of(b))
+}
+
+// Whether a policy admits every permission that is set.
+fn bits_admitted(policy: Policy, bits: u16) -> bool
+    ensures { λ r. ⌜ r ≡ allBelow 16 (admittedBit (policyAs policy) bits) ⌝ }
+{
+    let mut b = 0;
+    while b < 16 {
+        if !bit_admitted(policy, bits, b) {
+            return false;
+        }
+        b += 1;
+    }
+    true
+}
+
+// A hash that flag f announces; an empty part where the flag is clear.
+pub fn optional_hash(f: u16, off: usize, rec: &[u8]) -> &[u8]
+    requires { ⌜ (f < 16) × (length (now rec) ≡ recordBytes) × (off + hashBytes ≤ recordBytes) ⌝ }
+    ensures { λ r. ⌜ given (now r) ≡ optional (flag f (now (rec .entry))) (part off hashBytes (now (rec .entry))) ⌝ }
+{
+    if fields::flag_of(f, rec) {
+        return &rec[off..off + sizes::HASH];
+    }
+    &rec[0..0]
+}
+
+// OpPermissions: no permission that is forbidden, or that the policy lacks.
+fn permission_step(bundle: &[u8], rec: &[u8]) -> Failure
+    requires { ⌜ length (now rec) ≡ recordBytes ⌝ }
+    ensures { λ r. ⌜ failureOf r ≡ permissionsFailure (records (now (bundle .entry))) (number 4 2 (now (rec .entry))) ⌝ }
+{
+    let policy = facts::policy_of(bundle);
+    if !bits_admitted(policy, fields::be16(rec, 4)) {
+        return Failure::At(Step::ACLV3);
+    }
+    Failure::Nothing
+}
+
+// Whether a MakeBlob action names the trusted module key.
+fn under_module_key(bundle: &[u8], rec: &[u8]) -> bool
+    requires { ⌜ length (now rec) ≡ recordBytes ⌝ }
+    ensures { λ r. ⌜ r ≡ bothSame (moduleKey (records (now (bundle .entry)))) (blobRuleOf (now (rec .entry)) .kmhash) ⌝ }
+{
+    let hash = optional_hash(2, 4, rec);
+    evidence::both_same(evidence::module_key(bundle), hash)
+}
+
+// MakeBlob: protected by the module or a token, under the trusted module key, never the null key, and a token with its parameters.
+fn blob_steps(bundle: &[u8], rec: &[u8]) -> Failure
+    requires { ⌜ length (now rec) ≡ recordBytes ⌝ }
+    ensures { λ r. ⌜ failureOf r ≡ blobFailure (records (now (bundle .entry))) (blobRuleOf (now (rec .entry))) ⌝ }
+{
+    if !(fields::flag_of(0, rec) | fields::flag_of(3, rec)) {
+        return Failure::At(Step::WB1);
+    }
+    if !under_module_key(bundle, rec) {
+        return Failure::At(Step::WB2);
+    }
+    if fields::flag_of(5, rec) {
+        return Failure::At(Step::WB3);
+    }
+    if !(!fields::flag_of(3, rec) | fields::flag_of(4, rec)) {
+        return Failure::At(Step::WB6);
+    }
+    Failure::Nothing
+}
+
+// Whether an archive action's mechanism is the one that the policy's suite calls for.
+fn called_for(bundle: &[u8], rec: &[u8]) -> bool
+    requires { ⌜ length (now rec) ≡ recordBytes ⌝ }
+    ensures { λ r. ⌜ r ≡ isMechanism (suiteMechanism (policyOf (records (now (bundle .entry))) .suite)) (number 24 2 (now (rec .entry))) ⌝ }
+{
+    let policy = facts::policy_of(bundle);
+    let due = subject::recovery_mechanism(policy.suite as u64);
+    (due != 0) & (due == fields::be16(rec, 24))
+}
+
+// Whether a MakeArchiveBlob action names the trusted recovery key.
+fn under_recovery_key(bundle: &[u8], rec: &[u8]) -> bool
+    requires { ⌜ length (now rec) ≡ recordBytes ⌝ }
+    ensures { λ r. ⌜ r ≡ bothSame (recoveryKey (records (now (bundle .entry)))) (archiveRuleOf (now (rec .entry)) .kahash) ⌝ }
+{
+    let hash = optional_hash(0, 4, rec);
+    evidence::both_same(evidence::recovery_key(bundle), hash)
+}
+
+// MakeArchiveBlob: under the trusted recovery key, by the suite's mechanism.
+fn archive_steps(bundle: &[u8], rec: &[u8]) -> Failure
+    requires { ⌜ length (now rec) ≡ recordBytes ⌝ }
+    ensures { λ r. ⌜ failureOf r ≡ archiveFailure (records (now (bundle .entry))) (archiveRuleOf (now (rec .entry))) ⌝ }
+{
+    if !evidence::is_there(evidence::recovery_key(bundle)) {
+        return Failure::At(Step::RB1);
+    }
+    if !under_recovery_key(bundle, rec) {
+        return Failure::At(Step::RB2);
+    }
+    if !called_for(bundle, rec) {
+        return Failure::At(Step::RB3);
+    }
+    Failure::Nothing
+}
+
+// The first step that an action fails.
+pub fn action_steps(bundle: &[u8], rec: &[u8]) -> Failure
+    requires { ⌜ length (now rec) ≡ recordBytes ⌝ }
+    ensures { λ r. ⌜ failureOf r ≡ actionFailure (records (now (bundle .entry))) (actionOf (now (rec .entry))) ⌝ }
+{
+    let kind = rec[0];
+    if kind == 3 {
+        return permission_step(bundle, rec);
+    }
+    if kind == 4 {
+        return blob_steps(bundle, rec);
+    }
+    archive_steps(bundle, rec)
+}
+
+// The protection of a MakeBlob action.
+fn blob_protection(rec: &[u8]) -> u8
+    requires { ⌜ length (now rec) ≡ recordBytes ⌝ }
+    ensures { λ r. ⌜ r ≡ actionProtection (makeBlob (blobRuleOf (now (rec .entry)))) ⌝ }
+{
+    if fields::flag_of(0, rec) {
+        return BY_MODULE;
+    }
+    if fields::flag_of(4, rec) & fields::bit_of(0, fields::be16(rec, 44)) {
+        return BY_SOFTCARD;
+    }
+    BY_CARDSET
+}
+
+// The protection of an action; one that is no MakeBlob keeps nothing.
+pub fn action_protection(rec: &[u8]) -> u8
+    requires { ⌜ length (now rec) ≡ recordBytes ⌝ }
+    ensures { λ r. ⌜ r ≡ actionProtection (actionOf (now (rec .entry))) ⌝ }
+{
+    let kind = rec[0];
+    if kind != 4 {
+        return NOT_KEPT;
+    }
+    blob_protection(rec)
+}
+
+// Whether an action is for recovery, a MakeArchiveBlob.
+pub fn is_archive(rec: &[u8]) -> bool
+    requires { ⌜ length (now rec) ≡ recordBytes ⌝ }
+    ensures { λ r. ⌜ r ≡ isArchive (actionOf (now (rec .entry))) ⌝ }
+{
+    let kind = rec[0];
+    (kind != 3) & (kind != 4)
+}

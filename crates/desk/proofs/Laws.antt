@@ -1,0 +1,130 @@
+-- What the parts of the desk's answer say of the whole.
+use Prim.Native.Nat.{ℕ, _≤_, _<_, min}
+use native.Mathlib.Omega.{arith}
+use mathlib.Core.Path.{_≡_, refl, sym, _∙_, ap, ap₂}
+use mathlib.Core.List.{List, [], _∷_}
+use mathlib.Core.Option.{Option, none, some}
+use mathlib.Core.Bool.{Bool, true, false, not, _&&_}
+use borrow.Author.Tests.{eq-eqb, ne-eqb, le-leb, lt-leb, not-true, not-false}
+use lib.Dec.{eqb, leb}
+use Rattle.rules.specs.Sizes.{bundleRecords, aclRecords}
+use Rattle.rules.specs.Numbers.{badLength, unknownSuite}
+use Rattle.rules.specs.Basics.{if_then_else_, Bytes, unless, orNext, firstFault, fits, records}
+use Rattle.rules.specs.Suites.{isSuite}
+use Rattle.rules.specs.Acl.{Action, permissions, makeBlob, makeArchive, Group, aclOf, aclFault}
+use Rattle.rules.specs.Bundle.{Policy, policyOf, bundleFault}
+use Rattle.rules.specs.Desk.{Step, KV3, Verdict, Grade, Acceptance, accepted, failed, faulty, byGeneration, byPolicy, actionProtection, softParameters, smallest, officersGroup, keyProtection, recoverableKey, beforeAcl, aclFailure, afterAcl, fullFailure, basicFailure, gradeOf, unlessFailed, unlessFaulty, attested, deskFault, desk}
+use Rattle.steps.specs.declared.Failure.{Failure}
+use Rattle.steps.specs.declared.Failure.the-variants.{Nothing, At}
+use Rattle.steps.specs.Steps.{failureOf, csrFailure}
+use Rattle.desk.specs.Replies as replies
+use Rattle.desk.specs.Replies.{Reply, Named, protectionNumber, namedBy, namedFor, replyOf, replyFor, verdictFrom, suiteFault, gradeFailure}
+use Rattle.grading.proofs.Laws.{protection-most}
+use Rattle.desk.specs.declared.Protection.{Protection}
+use Rattle.desk.specs.declared.Acceptance as code
+
+-- A protection is 1 to 4.
+action-least : (a : Action) → 1 ≤ actionProtection a
+unfolding actionProtection
+action-least (permissions bits) = omega arith
+action-least (makeBlob r) = pick (r .kmOnly) (softParameters (r .ktparams))
+  where
+    pick : (s t : Bool) → 1 ≤ (if s then 1 else if t then 2 else 3)
+    pick true t = omega arith
+    pick false true = omega arith
+    pick false false = omega arith
+action-least (makeArchive a) = omega arith
+
+smallest-least : (list : List Action) → 1 ≤ smallest list
+unfolding smallest
+smallest-least [] = omega arith
+smallest-least (a ∷ list) = let h = action-least a in let k = smallest-least list in omega arith
+
+pub protection-least : (b : List Bytes) (gs : List Group) → 1 ≤ keyProtection b gs
+unfolding keyProtection
+protection-least b [] = omega arith
+protection-least b (g ∷ gs) = pick (officersGroup b g) (protection-least b gs)
+  where
+    pick : (t : Bool) → 1 ≤ keyProtection b gs → 1 ≤ (if t then keyProtection b gs else min (smallest (g .actions)) (keyProtection b gs))
+    pick true h = h
+    pick false h = let k = smallest-least (g .actions) in omega arith
+
+-- 11
+module _ (b : List Bytes) (p : Policy) (r : Bool) (e : p ≡ policyOf b) (is : r ≡ isSuite (p .suite)) where
+  same-suite : r ≡ isSuite (policyOf b .suite)
+  same-suite = is ∙ ap (λ (q : Policy). isSuite (q .suite)) e
+
+  pub suite-unknown : not r ≡ true → some unknownSuite ≡ suiteFault b
+  unfolding suiteFault firstFault
+  suite-unknown h = rw (sym same-suite ∙ not-true r h)
+
+  pub suite-sound : not r ≡ false → none ≡ suiteFault b
+  unfolding suiteFault firstFault
+  suite-sound h = rw (sym same-suite ∙ not-false r h)
+
+-- the faults of both files
+module _ (bundle acl : Bytes) (r s : Bool) (p : r ≡ fits bundleRecords bundle) (q : s ≡ fits aclRecords acl) where
+  lengths : (r && s) ≡ (fits bundleRecords bundle && fits aclRecords acl)
+  lengths = rw (p, q)
+
+  pub bad-lengths : not (r && s) ≡ true → some badLength ≡ deskFault bundle acl
+  unfolding deskFault firstFault
+  bad-lengths h = rw (sym lengths ∙ not-true (r && s) h)
+
+  pub good-lengths : (x y f g k : Option ℕ) → not (r && s) ≡ false → x ≡ orNext f y → y ≡ orNext g k → f ≡ bundleFault (records bundle) → g ≡ aclFault (records acl) → k ≡ suiteFault (records bundle) → x ≡ deskFault bundle acl
+  unfolding deskFault firstFault suiteFault
+  good-lengths x y f g k h a b c d e = rw (a, b, c, d, e, sym lengths ∙ not-false (r && s) h)
+
+-- KV3 and CSRL1
+module _ (b : List Bytes) (p : Policy) (protection : ℕ) (e : p ≡ policyOf b) where
+  pub grade-fails : protection < p .lowestProtection → some KV3 ≡ gradeFailure b protection
+  unfolding gradeFailure firstFault
+  grade-fails h =
+      let k : leb (policyOf b .lowestProtection) protection ≡ false = rw (← e) (lt-leb (p .lowestProtection) protection h) in rw k
+
+  pub grade-passes : (x : Option Step) → p .lowestProtection ≤ protection → x ≡ csrFailure b → x ≡ gradeFailure b protection
+  unfolding gradeFailure firstFault csrFailure
+  grade-passes x h c =
+      let k : leb (policyOf b .lowestProtection) protection ≡ true = rw (← e) (le-leb (p .lowestProtection) protection h) in c ∙ rw k
+
+-- Approach 2, whole.
+or-none : {F : Type 0} (o : Option F) → orNext o none ≡ o
+or-none none = refl
+or-none (some f) = refl
+
+pub full-is : (b : List Bytes) (gs : List Group) → orNext (beforeAcl b) (orNext (aclFailure b gs) (gradeFailure b (keyProtection b gs))) ≡ fullFailure b gs
+unfolding fullFailure gradeFailure firstFault
+full-is b gs = ap (λ (z : Option Step). orNext (beforeAcl b) (orNext (aclFailure b gs) z)) (sym (or-none (gradeFailure b (keyProtection b gs))))
+
+-- the verdict of a run of steps
+pub verdict-of : (f : Failure) (a : code.Acceptance) (spec : Acceptance) (o : Option Step) → failureOf f ≡ o → namedBy a ≡ namedFor spec → replyOf (verdictFrom f a) ≡ replyFor (unlessFailed o spec)
+verdict-of Nothing a spec o e n = rw (← e, n)
+verdict-of (At s) a spec o e n = rw (← e)
+
+-- the approach that the policy names
+pub approach-two : (b : List Bytes) (gs : List Group) (p : Policy) (x : Reply) → p ≡ policyOf b → p .approach ≡ 2 → x ≡ replyFor (unlessFailed (fullFailure b gs) (byPolicy (gradeOf b gs))) → x ≡ replyFor (attested b gs)
+approach-two b gs p x e h q = let k : eqb (policyOf b .approach) 2 ≡ true = rw (← e) (eq-eqb (p .approach) 2 h) in rw k q
+
+pub approach-one : (b : List Bytes) (gs : List Group) (p : Policy) (x : Reply) → p ≡ policyOf b → (p .approach ≡ 2 → ⊥) → x ≡ replyFor (unlessFailed (basicFailure b) byGeneration) → x ≡ replyFor (attested b gs)
+approach-one b gs p x e h q = let k : eqb (policyOf b .approach) 2 ≡ false = rw (← e) (ne-eqb (p .approach) 2 h) in rw k q
+
+-- the whole
+pub sound-files : (bundle acl : Bytes) (x : Reply) → none ≡ deskFault bundle acl → x ≡ replyFor (attested (records bundle) (aclOf acl)) → x ≡ replyFor (desk bundle acl)
+unfolding desk
+sound-files bundle acl x e q = rw (← e) q
+
+pub faulty-files : (bundle acl : Bytes) (n : ℕ) → some n ≡ deskFault bundle acl → replies.refusing n ≡ replyFor (desk bundle acl)
+unfolding desk
+faulty-files bundle acl n e = rw (← e)
+
+-- what goes into an acceptance under approach 2
+module _ (b : List Bytes) (gs : List Group) (n : ℕ) (e : n ≡ keyProtection b gs) where
+  pub protection-bounds : (1 ≤ n) × (n ≤ 4)
+  protection-bounds = let l = protection-least b gs in let m = protection-most b gs in (omega arith, omega arith)
+
+  pub full-from : (o : Option Step) → o ≡ orNext (beforeAcl b) (orNext (aclFailure b gs) (gradeFailure b n)) → o ≡ fullFailure b gs
+  full-from o q = q ∙ ap (λ (k : ℕ). orNext (beforeAcl b) (orNext (aclFailure b gs) (gradeFailure b k))) e ∙ full-is b gs
+
+  pub named-from : (p : Protection) (r : Bool) → protectionNumber p ≡ n → r ≡ recoverableKey b gs
+      → namedBy (record { approach = 2; protection = p; recoverable = r }) ≡ namedFor (byPolicy (gradeOf b gs))
+  named-from p r q f = rw (q, e, f)

@@ -1,0 +1,19 @@
+use mathlib.Core.Path.{refl, _∙_, ap}
+use Rattle.rules.specs.Desk.{byGeneration}
+use Rattle.desk.specs.Replies.{replyOf}
+use Rattle.desk.proofs.Laws.{verdict-of}
+use borrow.Author.Needs.{needs}
+use Rattle.desk.proofs.judge_generation.Statement.{statement}
+use Rattle.desk.proofs.judge_generation.Tie as tie
+
+basic-steps-requires : tie.Need-basic-steps-requires
+basic-steps-requires c κs = search needs
+
+unless-failed-requires : tie.Need-unless-failed-requires
+unless-failed-requires c κs = search needs
+
+returns : tie.Need-returns
+returns c = ap replyOf (c .unless-failed .ensures) ∙ verdict-of (c .before .basic-steps .result) _ byGeneration _ (c .before .basic-steps .ensures) refl
+
+pub judge-generation-spec : {M : Type 1} → statement M
+judge-generation-spec = tie.close (tie.spec basic-steps-requires unless-failed-requires returns)

@@ -1,0 +1,48 @@
+use Rattle.desk.proofs.Laws.{bad-lengths, good-lengths}
+use borrow.Author.Needs.{needs}
+use Rattle.desk.proofs.read_both.Statement.{statement}
+use Rattle.desk.proofs.read_both.Tie as tie
+
+whole-requires : tie.Need-whole-requires
+whole-requires c κs = search needs
+
+whole-requires-2 : tie.Need-whole-requires-2
+whole-requires-2 c κs = search needs
+
+returns : tie.Need-returns
+returns c = bad-lengths _ _ _ _ (c .before .before .whole .ensures) (c .before .whole2 .ensures) (c .if1 .taken)
+
+bundle-records-requires : tie.Need-bundle-records-requires
+bundle-records-requires c κs = search needs
+
+acl-records-requires : tie.Need-acl-records-requires
+acl-records-requires c κs = search needs
+
+suite-known-requires : tie.Need-suite-known-requires
+suite-known-requires c κs = search needs
+
+first-fault-requires : tie.Need-first-fault-requires
+first-fault-requires c κs = search needs
+
+first-fault-requires-2 : tie.Need-first-fault-requires-2
+first-fault-requires-2 c κs = search needs
+
+returns-2 : tie.Need-returns-2
+returns-2 c =
+    let l = c .before .before .before .before .before in
+    good-lengths _ _ _ _ (l .before .before .whole .ensures) (l .before .whole2 .ensures) _ _ _ _ _ (l .if1 .left) (c .first-fault2 .ensures) (c .before .first-fault .ensures)
+    (c .before .before .before .before .bundle-records .ensures) (c .before .before .before .acl-records .ensures) (c .before .before .suite-known .ensures)
+
+pub read-both-spec : {M : Type 1} → statement M
+read-both-spec =
+    tie.close
+    (tie.spec
+    whole-requires
+    whole-requires-2
+    returns
+    bundle-records-requires
+    acl-records-requires
+    suite-known-requires
+    first-fault-requires
+    first-fault-requires-2
+    returns-2)

@@ -1,0 +1,76 @@
+-- The desk's answers by document 01's numbers, values and step names, as the code gives them and as the definitions do. Both readings keep all that an
+-- answer says, so that an equation between them determines the code's answer.
+use Prim.Native.Nat.{ℕ}
+use mathlib.Core.List.{List, [], _∷_}
+use mathlib.Core.Option.{Option}
+use mathlib.Core.Bool.{Bool, false}
+use lib.Dec.{leb}
+use Rattle.rules.specs.Numbers as numbers
+use Rattle.rules.specs.Basics.{Bytes, unless, firstFault}
+use Rattle.rules.specs.Suites.{isSuite}
+use Rattle.rules.specs.Bundle.{policyOf}
+use Rattle.rules.specs.Desk as rules
+use Rattle.files.specs.Refusals.{refusalNumber}
+use Rattle.steps.specs.declared.Failure.{Failure}
+use Rattle.steps.specs.declared.Failure.the-variants.{Nothing, At}
+use Rattle.steps.specs.Steps.{stepOf}
+use Rattle.desk.specs.declared.Protection.{Protection}
+use Rattle.desk.specs.declared.Protection.the-variants.{NotJudged, Module, Softcard, Cardset, NotKept}
+use Rattle.desk.specs.declared.Acceptance.{Acceptance}
+use Rattle.desk.specs.declared.Verdict.{Verdict}
+use Rattle.desk.specs.declared.Verdict.the-variants.{Accepted, Failed, Refused}
+
+-- "An acceptance names approach and, for approach 2, protection and recoverability."
+pub record Named : Type 0 where
+  pub approach : ℕ
+  pub protection : ℕ
+  pub recoverable : Bool
+
+-- an acceptance, the first failing step, or the number of a refusal
+pub data Reply : Type 0 where
+  accepting : Named → Reply
+  failing : rules.Step → Reply
+  refusing : ℕ → Reply
+
+-- "1 module .. 2 softcard .. 3 cardset .. 4, not kept"; 0 where approach 1 judges none
+abbrev pub protectionNumber : Protection → ℕ
+protectionNumber NotJudged = 0
+protectionNumber Module = numbers.byModule
+protectionNumber Softcard = numbers.bySoftcard
+protectionNumber Cardset = numbers.byCardset
+protectionNumber NotKept = numbers.notKept
+
+-- what the code's acceptance names
+abbrev pub namedBy : Acceptance → Named
+namedBy a = record { approach = a .approach; protection = protectionNumber (a .protection); recoverable = a .recoverable }
+
+-- the code's answer
+abbrev pub replyOf : Verdict → Reply
+replyOf (Accepted a) = accepting (namedBy a)
+replyOf (Failed s) = failing (stepOf s)
+replyOf (Refused r) = refusing (refusalNumber r)
+
+-- what the definitions' acceptance names: approach 1 "looks at the key's generation alone"
+abbrev pub namedFor : rules.Acceptance → Named
+namedFor rules.byGeneration = record { approach = 1; protection = 0; recoverable = false }
+namedFor (rules.byPolicy g) = record { approach = 2; protection = g .protection; recoverable = g .recoverable }
+
+-- the definitions' verdict
+abbrev pub replyFor : rules.Verdict → Reply
+replyFor (rules.accepted a) = accepting (namedFor a)
+replyFor (rules.failed s) = failing s
+replyFor (rules.faulty n) = refusing n
+
+-- an acceptance, unless a step fails
+abbrev pub verdictFrom : Failure → Acceptance → Verdict
+verdictFrom Nothing a = Accepted a
+verdictFrom (At s) a = Failed s
+
+-- "suite not 1 to 4"
+unfoldable pub suiteFault : List Bytes → Option ℕ
+suiteFault b = firstFault (unless (isSuite (policyOf b .suite)) numbers.unknownSuite ∷ [])
+
+-- "KV3 (protection at least the policy's); CSRL1", for a key of that protection
+unfoldable pub gradeFailure : List Bytes → ℕ → Option rules.Step
+gradeFailure b protection =
+    firstFault (unless (leb (policyOf b .lowestProtection) protection) rules.KV3 ∷ unless (rules.csrLinked b) rules.CSRL1 ∷ [])

@@ -1,0 +1,182 @@
+// The desk: a bundle file and an ACL file in, a verdict out.
+ghost use mathlib.Core.Path.{_≡_};
+ghost use Prim.Native.Nat.{_≤_};
+ghost use Rattle.rules.specs.Basics.{orNext, records};
+ghost use Rattle.rules.specs.Acl.{aclOf};
+ghost use Rattle.rules.specs.Desk.{beforeAcl, aclFailure, fullFailure, basicFailure, gradeOf, byGeneration, byPolicy, unlessFailed, deskFault, attested, desk};
+ghost use Rattle.files.specs.Refusals.{faultOf};
+ghost use Rattle.steps.specs.Steps.{failureOf};
+ghost use Rattle.desk.specs.Replies.{protectionNumber, replyOf, replyFor, verdictFrom, suiteFault, gradeFailure};
+use files::Checked;
+use files::Refusal;
+use steps::Failure;
+use steps::Step;
+
+// How well a key is protected: the weakest way in which its ACL lets it be kept. Approach 1 judges none.
+pub enum Protection {
+    NotJudged,
+    Module,
+    Softcard,
+    Cardset,
+    NotKept,
+}
+
+// What an acceptance names. Approach 1 judges neither protection nor recoverability: NotJudged, and false.
+pub struct Acceptance {
+    pub approach: u8,
+    pub protection: Protection,
+    pub recoverable: bool,
+}
+
+// The desk's answer: an acceptance, the first failing step, or why the files were not judged.
+pub enum Verdict {
+    Accepted(Acceptance),
+    Failed(Step),
+    Refused(Refusal),
+}
+
+// The number of a protection in document 01; 0 where none was judged.
+pub fn protection_number(p: Protection) -> u8
+    ensures { λ r. ⌜ r ≡ protectionNumber p ⌝ }
+{
+    match p {
+        Protection::NotJudged => 0,
+        Protection::Module => 1,
+        Protection::Softcard => 2,
+        Protection::Cardset => 3,
+        Protection::NotKept => 4,
+    }
+}
+
+// The protection of a number.
+fn protection_of(n: u8) -> Protection
+    requires { ⌜ (1 ≤ n) × (n ≤ 4) ⌝ }
+    ensures { λ r. ⌜ protectionNumber r ≡ n ⌝ }
+{
+    if n == 1 {
+        return Protection::Module;
+    }
+    if n == 2 {
+        return Protection::Softcard;
+    }
+    if n == 3 {
+        return Protection::Cardset;
+    }
+    Protection::NotKept
+}
+
+// The first fault of two readings, one after the other.
+fn first_fault(a: Checked, b: Checked) -> Checked
+    ensures { λ r. ⌜ faultOf r ≡ orNext (faultOf a) (faultOf b) ⌝ }
+{
+    match a {
+        Checked::Sound => b,
+        Checked::Refused(r) => Checked::Refused(r),
+    }
+}
+
+// Whether the policy names a suite.
+fn suite_known(bundle: &[u8]) -> Checked
+    ensures { λ r. ⌜ faultOf r ≡ suiteFault (records (now (bundle .entry))) ⌝ }
+{
+    let policy = facts::policy_of(bundle);
+    if !subject::is_suite(policy.suite as u64) {
+        return Checked::Refused(Refusal::UnknownSuite);
+    }
+    Checked::Sound
+}
+
+// The first fault of the two files: the length of either, the bundle's records, the ACL's, the suite.
+fn read_both(bundle: &[u8], acl: &[u8]) -> Checked
+    ensures { λ r. ⌜ faultOf r ≡ deskFault (now (bundle .entry)) (now (acl .entry)) ⌝ }
+{
+    if !(files::whole(sizes::BUNDLE_RECORDS, bundle) & files::whole(sizes::ACL_RECORDS, acl)) {
+        return Checked::Refused(Refusal::BadLength);
+    }
+    first_fault(
+        bundle::bundle_records(bundle),
+        first_fault(acl::acl_records(acl), suite_known(bundle)),
+    )
+}
+
+// The steps after the ACL: the protection is at least the policy's, and the CSR is for the key.
+fn grade_steps(bundle: &[u8], protection: u8) -> Failure
+    ensures { λ r. ⌜ failureOf r ≡ gradeFailure (records (now (bundle .entry))) protection ⌝ }
+{
+    let policy = facts::policy_of(bundle);
+    if protection < policy.lowest {
+        return Failure::At(Step::KV3);
+    }
+    steps::csr_step(bundle)
+}
+
+// Approach 2, whole: the first failing step, for a key of that protection.
+fn full_steps(bundle: &[u8], acl: &[u8], protection: u8) -> Failure
+    ensures { λ r. ⌜ failureOf r ≡ orNext (beforeAcl (records (now (bundle .entry)))) (orNext (aclFailure (records (now (bundle .entry))) (aclOf (now (acl .entry)))) (gradeFailure (records (now (bundle .entry))) protection)) ⌝ }
+{
+    steps::first_of(
+        steps::bundle_steps(bundle),
+        steps::first_of(
+            grading::acl_steps(bundle, acl),
+            grade_steps(bundle, protection),
+        ),
+    )
+}
+
+// The acceptance, unless a step fails.
+fn unless_failed(f: Failure, a: Acceptance) -> Verdict
+    ensures { λ r. ⌜ r ≡ verdictFrom f a ⌝ }
+{
+    match f {
+        Failure::Nothing => Verdict::Accepted(a),
+        Failure::At(s) => Verdict::Failed(s),
+    }
+}
+
+// Approach 2.
+fn judge_policy(bundle: &[u8], acl: &[u8]) -> Verdict
+    ensures { λ r. ⌜ replyOf r ≡ replyFor (unlessFailed (fullFailure (records (now (bundle .entry))) (aclOf (now (acl .entry)))) (byPolicy (gradeOf (records (now (bundle .entry))) (aclOf (now (acl .entry)))))) ⌝ }
+{
+    let protection = grading::key_protection(bundle, acl);
+    let failure = full_steps(bundle, acl, protection);
+    let acceptance = Acceptance {
+        approach: 2,
+        protection: protection_of(protection),
+        recoverable: grading::is_recoverable(bundle, acl),
+    };
+    unless_failed(failure, acceptance)
+}
+
+// Approach 1.
+fn judge_generation(bundle: &[u8]) -> Verdict
+    ensures { λ r. ⌜ replyOf r ≡ replyFor (unlessFailed (basicFailure (records (now (bundle .entry)))) byGeneration) ⌝ }
+{
+    let acceptance = Acceptance {
+        approach: 1,
+        protection: Protection::NotJudged,
+        recoverable: false,
+    };
+    unless_failed(steps::basic_steps(bundle), acceptance)
+}
+
+// The steps of the approach that the policy names, for files that were read.
+fn judge_read(bundle: &[u8], acl: &[u8]) -> Verdict
+    ensures { λ r. ⌜ replyOf r ≡ replyFor (attested (records (now (bundle .entry))) (aclOf (now (acl .entry)))) ⌝ }
+{
+    let policy = facts::policy_of(bundle);
+    if policy.approach == 2 {
+        return judge_policy(bundle, acl);
+    }
+    judge_generation(bundle)
+}
+
+// The verdict on a bundle and an ACL, whatever bytes they are.
+pub fn assess(bundle: &[u8], acl: &[u8]) -> Verdict
+    ensures { λ r. ⌜ replyOf r ≡ replyFor (desk (now (bundle .entry)) (now (acl .entry))) ⌝ }
+{
+    let checked = read_both(bundle, acl);
+    match checked {
+        Checked::Sound => judge_read(bundle, acl),
+        Checked::Refused(r) => Verdict::Refused(r),
+    }
+}

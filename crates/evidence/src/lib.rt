@@ -1,0 +1,141 @@
+// What a bundle gives evidence of: fields that are there and equal, signatures that are good, and the keys that world certificates vouch for. A hash that
+// may be absent is a part of the bundle, empty where there is none.
+ghost use mathlib.Core.Path.{_≡_};
+ghost use Rattle.rules.specs.Basics.{present, bothSame, records};
+ghost use Rattle.rules.specs.Bundle.{field, has, signed, isGood, good};
+ghost use Rattle.rules.specs.Desk.{kmVouched, kmFipsVouched, kreVouched, moduleKey, recoveryKey, isListed, csrLinked};
+ghost use Rattle.facts.specs.Found.{outcomeOf};
+ghost use Rattle.evidence.specs.Given.{given};
+use facts::Signature;
+
+// Whether a part is there. A hash has twenty bytes, so that an empty part stands for an absent one.
+pub fn is_there(hash: &[u8]) -> bool
+    ensures { λ r. ⌜ r ≡ present (given (now (hash .entry))) ⌝ }
+{
+    hash.len() != 0
+}
+
+// Whether two parts are both there and equal: an absent one equals nothing, not even another absent one.
+pub fn both_same(a: &[u8], b: &[u8]) -> bool
+    ensures { λ r. ⌜ r ≡ bothSame (given (now (a .entry))) (given (now (b .entry))) ⌝ }
+{
+    is_there(a) & fields::same_bytes(a, b)
+}
+
+// Whether an outcome is reported, and good.
+fn good_outcome(s: Signature) -> bool
+    ensures { λ r. ⌜ r ≡ isGood (outcomeOf s) ⌝ }
+{
+    match s {
+        Signature::Absent => false,
+        Signature::Bad => false,
+        Signature::Good => true,
+    }
+}
+
+// Whether an outcome is reported.
+fn any_outcome(s: Signature) -> bool
+    ensures { λ r. ⌜ r ≡ present (outcomeOf s) ⌝ }
+{
+    match s {
+        Signature::Absent => false,
+        Signature::Bad => true,
+        Signature::Good => true,
+    }
+}
+
+// Whether signature n is reported, and good.
+pub fn is_good(n: u8, bundle: &[u8]) -> bool
+    ensures { λ r. ⌜ r ≡ good n (records (now (bundle .entry))) ⌝ }
+{
+    good_outcome(facts::outcome(n, bundle))
+}
+
+// Whether signature n is reported, good or not.
+pub fn is_signed(n: u8, bundle: &[u8]) -> bool
+    ensures { λ r. ⌜ r ≡ signed n (records (now (bundle .entry))) ⌝ }
+{
+    any_outcome(facts::outcome(n, bundle))
+}
+
+// The content of field n; an empty part where the field is absent.
+pub fn field_of(n: u8, bundle: &[u8]) -> &[u8]
+    ensures { λ r. ⌜ given (now r) ≡ field n (records (now (bundle .entry))) ⌝ }
+{
+    facts::content(n, bundle)
+}
+
+// Whether field n is there.
+pub fn has_field(n: u8, bundle: &[u8]) -> bool
+    ensures { λ r. ⌜ r ≡ has n (records (now (bundle .entry))) ⌝ }
+{
+    is_there(field_of(n, bundle))
+}
+
+// Whether two fields are both there and equal.
+pub fn same_fields(m: u8, n: u8, bundle: &[u8]) -> bool
+    ensures { λ r. ⌜ r ≡ bothSame (field m (records (now (bundle .entry)))) (field n (records (now (bundle .entry)))) ⌝ }
+{
+    both_same(field_of(m, bundle), field_of(n, bundle))
+}
+
+// What certificate 3 vouches with: the officer's key, the module key and its confirmation.
+pub fn km_vouched(bundle: &[u8]) -> bool
+    ensures { λ r. ⌜ r ≡ kmVouched (records (now (bundle .entry))) ⌝ }
+{
+    is_good(3, bundle) & has_field(5, bundle) & has_field(6, bundle) & has_field(12, bundle)
+}
+
+// Certificate 4: as certificate 3, with the FIPS key.
+pub fn km_fips_vouched(bundle: &[u8]) -> bool
+    ensures { λ r. ⌜ r ≡ kmFipsVouched (records (now (bundle .entry))) ⌝ }
+{
+    is_good(4, bundle)
+        & has_field(5, bundle)
+        & has_field(6, bundle)
+        & has_field(12, bundle)
+        & has_field(13, bundle)
+}
+
+// Certificate 5: the officer's key, the recovery key and its authorisation.
+pub fn kre_vouched(bundle: &[u8]) -> bool
+    ensures { λ r. ⌜ r ≡ kreVouched (records (now (bundle .entry))) ⌝ }
+{
+    is_good(5, bundle) & has_field(5, bundle) & has_field(7, bundle) & has_field(11, bundle)
+}
+
+// The module key, where a world certificate vouches for it: that it is listed is not enough. An empty part where it is not trusted.
+pub fn module_key(bundle: &[u8]) -> &[u8]
+    ensures { λ r. ⌜ given (now r) ≡ moduleKey (records (now (bundle .entry))) ⌝ }
+{
+    if km_vouched(bundle) | km_fips_vouched(bundle) {
+        return field_of(6, bundle);
+    }
+    &bundle[0..0]
+}
+
+// The recovery key, where its certificate vouches for it; an empty part where it is not trusted.
+pub fn recovery_key(bundle: &[u8]) -> &[u8]
+    ensures { λ r. ⌜ given (now r) ≡ recoveryKey (records (now (bundle .entry))) ⌝ }
+{
+    if kre_vouched(bundle) {
+        return field_of(7, bundle);
+    }
+    &bundle[0..0]
+}
+
+// Whether the module key, if it is there, is listed.
+pub fn module_key_listed(bundle: &[u8]) -> bool
+    ensures { λ r. ⌜ r ≡ isListed (field 6 (records (now (bundle .entry)))) (records (now (bundle .entry))) ⌝ }
+{
+    let key = field_of(6, bundle);
+    !is_there(key) | facts::is_listed(key, bundle)
+}
+
+// Whether the CSR, if one is in use, is for the key.
+pub fn csr_linked(bundle: &[u8]) -> bool
+    ensures { λ r. ⌜ r ≡ csrLinked (records (now (bundle .entry))) ⌝ }
+{
+    let policy = facts::policy_of(bundle);
+    !policy.csr | same_fields(10, 9, bundle)
+}

@@ -1,0 +1,76 @@
+-- The steps and answers of this crate in the definitions' terms, and the runs of steps that the two approaches share. b is a bundle's list of records.
+use mathlib.Core.List.{List, [], _∷_}
+use mathlib.Core.Option.{Option, none, some}
+use mathlib.Core.Bool.{_&&_}
+use Rattle.rules.specs.Basics.{Bytes, implies, bothSame, unless, firstFault}
+use Rattle.rules.specs.Bundle.{field, has, signed, good}
+use Rattle.rules.specs.Desk as desk
+use Rattle.rules.specs.Desk.{kmVouched, kmFipsVouched, kreVouched, isListed, csrLinked}
+use Rattle.steps.specs.declared.Step.{Step}
+use Rattle.steps.specs.declared.Step.the-variants.{WV1, MSCV1, MSCV2, MSCV3, MSCV4, MSCV5, WBCV1, WBCV2, WBCV3, KGCV1, KGCV2, ACLV3, WB1, WB2, WB3, WB6, RB1, RB2, RB3, KV3, CSRL1}
+use Rattle.steps.specs.declared.Failure.{Failure}
+use Rattle.steps.specs.declared.Failure.the-variants.{Nothing, At}
+
+-- a step, by its name
+abbrev pub stepOf : Step → desk.Step
+stepOf WV1 = desk.WV1
+stepOf MSCV1 = desk.MSCV1
+stepOf MSCV2 = desk.MSCV2
+stepOf MSCV3 = desk.MSCV3
+stepOf MSCV4 = desk.MSCV4
+stepOf MSCV5 = desk.MSCV5
+stepOf WBCV1 = desk.WBCV1
+stepOf WBCV2 = desk.WBCV2
+stepOf WBCV3 = desk.WBCV3
+stepOf KGCV1 = desk.KGCV1
+stepOf KGCV2 = desk.KGCV2
+stepOf ACLV3 = desk.ACLV3
+stepOf WB1 = desk.WB1
+stepOf WB2 = desk.WB2
+stepOf WB3 = desk.WB3
+stepOf WB6 = desk.WB6
+stepOf RB1 = desk.RB1
+stepOf RB2 = desk.RB2
+stepOf RB3 = desk.RB3
+stepOf KV3 = desk.KV3
+stepOf CSRL1 = desk.CSRL1
+
+-- the first failing step, if any fails
+abbrev pub failureOf : Failure → Option desk.Step
+failureOf Nothing = none
+failureOf (At s) = some (stepOf s)
+
+-- "WV1 (signature 1 good, field 1 present); MSCV1 (2 good); MSCV2 (fields 2, 3 present)"
+unfoldable pub warrantFailure : List Bytes → Option desk.Step
+warrantFailure b =
+    firstFault
+    (unless (good 1 b && has 1 b) desk.WV1
+    ∷ unless (good 2 b) desk.MSCV1
+    ∷ unless (has 2 b && has 3 b) desk.MSCV2
+    ∷ [])
+
+-- "MSCV3 (1 = 2); MSCV4 (5, if present, equals a present 4); MSCV5 (6, if present, is listed)"
+unfoldable pub stateFailure : List Bytes → Option desk.Step
+stateFailure b =
+    firstFault
+    (unless (bothSame (field 1 b) (field 2 b)) desk.MSCV3
+    ∷ unless (implies (has 5 b) (bothSame (field 5 b) (field 4 b))) desk.MSCV4
+    ∷ unless (isListed (field 6 b) b) desk.MSCV5
+    ∷ [])
+
+-- "WBCV1 (3, if present: good, fields 5, 6, 12 present); WBCV2 (4 likewise, ..); WBCV3 (5 likewise, ..)"
+unfoldable pub worldFailure : List Bytes → Option desk.Step
+worldFailure b =
+    firstFault
+    (unless (implies (signed 3 b) (kmVouched b)) desk.WBCV1
+    ∷ unless (implies (signed 4 b) (kmFipsVouched b)) desk.WBCV2
+    ∷ unless (implies (signed 5 b) (kreVouched b)) desk.WBCV3
+    ∷ [])
+
+-- "KGCV1 (6 good); KGCV2 (8 and 9 present, equal)"
+unfoldable pub keyFailure : List Bytes → Option desk.Step
+keyFailure b = firstFault (unless (good 6 b) desk.KGCV1 ∷ unless (bothSame (field 8 b) (field 9 b)) desk.KGCV2 ∷ [])
+
+-- "CSRL1 (if a CSR is in use, 10 present and equal to 9)"
+unfoldable pub csrFailure : List Bytes → Option desk.Step
+csrFailure b = firstFault (unless (csrLinked b) desk.CSRL1 ∷ [])

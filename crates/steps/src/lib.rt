@@ -1,0 +1,145 @@
+// The attestation steps that look at a bundle alone. A run of steps answers with the first that fails.
+ghost use mathlib.Core.Path.{_≡_};
+ghost use Rattle.rules.specs.Basics.{present, orNext, records};
+ghost use Rattle.rules.specs.Desk.{beforeAcl, basicFailure};
+ghost use Rattle.steps.specs.Steps.{failureOf, warrantFailure, stateFailure, worldFailure, keyFailure, csrFailure};
+
+// The steps that can fail, by their names in document 01.
+pub enum Step {
+    WV1,
+    MSCV1,
+    MSCV2,
+    MSCV3,
+    MSCV4,
+    MSCV5,
+    WBCV1,
+    WBCV2,
+    WBCV3,
+    KGCV1,
+    KGCV2,
+    ACLV3,
+    WB1,
+    WB2,
+    WB3,
+    WB6,
+    RB1,
+    RB2,
+    RB3,
+    KV3,
+    CSRL1,
+}
+
+// What a run of steps finds: that none fails, or the first that does.
+pub enum Failure {
+    Nothing,
+    At(Step),
+}
+
+// The first failure of two runs, one after the other.
+pub fn first_of(a: Failure, b: Failure) -> Failure
+    ensures { λ r. ⌜ failureOf r ≡ orNext (failureOf a) (failureOf b) ⌝ }
+{
+    match a {
+        Failure::Nothing => b,
+        Failure::At(s) => Failure::At(s),
+    }
+}
+
+// Whether a run of steps failed.
+pub fn is_failure(f: Failure) -> bool
+    ensures { λ r. ⌜ r ≡ present (failureOf f) ⌝ }
+{
+    match f {
+        Failure::Nothing => false,
+        Failure::At(_) => true,
+    }
+}
+
+// The warrant and the module's state, as both approaches ask for them.
+fn warrant_steps(bundle: &[u8]) -> Failure
+    ensures { λ r. ⌜ failureOf r ≡ warrantFailure (records (now (bundle .entry))) ⌝ }
+{
+    if !(evidence::is_good(1, bundle) & evidence::has_field(1, bundle)) {
+        return Failure::At(Step::WV1);
+    }
+    if !evidence::is_good(2, bundle) {
+        return Failure::At(Step::MSCV1);
+    }
+    if !(evidence::has_field(2, bundle) & evidence::has_field(3, bundle)) {
+        return Failure::At(Step::MSCV2);
+    }
+    Failure::Nothing
+}
+
+// The rest of the module's state: its ESN, the officer's key, the module key.
+fn state_steps(bundle: &[u8]) -> Failure
+    ensures { λ r. ⌜ failureOf r ≡ stateFailure (records (now (bundle .entry))) ⌝ }
+{
+    if !evidence::same_fields(1, 2, bundle) {
+        return Failure::At(Step::MSCV3);
+    }
+    if !(!evidence::has_field(5, bundle) | evidence::same_fields(5, 4, bundle)) {
+        return Failure::At(Step::MSCV4);
+    }
+    if !evidence::module_key_listed(bundle) {
+        return Failure::At(Step::MSCV5);
+    }
+    Failure::Nothing
+}
+
+// The world certificates: one that is reported has to vouch.
+fn world_steps(bundle: &[u8]) -> Failure
+    ensures { λ r. ⌜ failureOf r ≡ worldFailure (records (now (bundle .entry))) ⌝ }
+{
+    if !(!evidence::is_signed(3, bundle) | evidence::km_vouched(bundle)) {
+        return Failure::At(Step::WBCV1);
+    }
+    if !(!evidence::is_signed(4, bundle) | evidence::km_fips_vouched(bundle)) {
+        return Failure::At(Step::WBCV2);
+    }
+    if !(!evidence::is_signed(5, bundle) | evidence::kre_vouched(bundle)) {
+        return Failure::At(Step::WBCV3);
+    }
+    Failure::Nothing
+}
+
+// The key's generation.
+fn key_steps(bundle: &[u8]) -> Failure
+    ensures { λ r. ⌜ failureOf r ≡ keyFailure (records (now (bundle .entry))) ⌝ }
+{
+    if !evidence::is_good(6, bundle) {
+        return Failure::At(Step::KGCV1);
+    }
+    if !evidence::same_fields(8, 9, bundle) {
+        return Failure::At(Step::KGCV2);
+    }
+    Failure::Nothing
+}
+
+// The link between CSR and key.
+pub fn csr_step(bundle: &[u8]) -> Failure
+    ensures { λ r. ⌜ failureOf r ≡ csrFailure (records (now (bundle .entry))) ⌝ }
+{
+    if !evidence::csr_linked(bundle) {
+        return Failure::At(Step::CSRL1);
+    }
+    Failure::Nothing
+}
+
+// Approach 2, up to the ACL.
+pub fn bundle_steps(bundle: &[u8]) -> Failure
+    ensures { λ r. ⌜ failureOf r ≡ beforeAcl (records (now (bundle .entry))) ⌝ }
+{
+    let module = first_of(warrant_steps(bundle), state_steps(bundle));
+    first_of(module, first_of(world_steps(bundle), key_steps(bundle)))
+}
+
+// Approach 1, whole.
+pub fn basic_steps(bundle: &[u8]) -> Failure
+    ensures { λ r. ⌜ failureOf r ≡ basicFailure (records (now (bundle .entry))) ⌝ }
+{
+    first_of(
+        warrant_steps(bundle),
+        first_of(key_steps(bundle), csr_step(bundle)),
+    )
+}

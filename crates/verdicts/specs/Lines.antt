@@ -1,0 +1,74 @@
+-- The line that stands for a verdict, and bytes put into a buffer.
+use Prim.Native.Nat.{ℕ, _+_, _/_, _%_, _≤_}
+use Prim.Native.String.{String}
+use mathlib.Core.Path.{_≡_}
+use mathlib.Core.List.{[], _∷_, _++_}
+use mathlib.Core.Bool.{Bool, true, false}
+use lib.ListN.{length, take, drop}
+use lib.Dec.{eqb, ltb}
+use Rattle.rules.specs.Basics.{if_then_else_, Bytes, ascii}
+use Rattle.rules.specs.Desk as rules
+use Rattle.desk.specs.Replies.{Named, Reply, accepting, failing, refusing}
+
+-- bytes put into a buffer from a place on: what stands before them and past them stays
+unfoldable pub put : Bytes → ℕ → Bytes → Bytes
+put new at old = take at old ++ new ++ drop (at + length new) old
+
+-- .. by a function that answers where they end
+pub record Put (new : Bytes) (at : ℕ) (before after : Bytes) (r : ℕ) : Type 0 where
+  pub bytes : after ≡ put new at before
+  pub end : r ≡ at + length new
+  pub same-length : length after ≡ length before
+  pub inside : r ≤ length after
+
+-- the digits of a number below 100
+unfoldable pub decimal : ℕ → Bytes
+decimal n = if ltb n 10 then (48 + n) ∷ [] else (48 + n / 10) ∷ (48 + n % 10) ∷ []
+
+-- the name of a step
+abbrev pub stepText : rules.Step → String
+stepText rules.WV1 = "WV1"
+stepText rules.MSCV1 = "MSCV1"
+stepText rules.MSCV2 = "MSCV2"
+stepText rules.MSCV3 = "MSCV3"
+stepText rules.MSCV4 = "MSCV4"
+stepText rules.MSCV5 = "MSCV5"
+stepText rules.WBCV1 = "WBCV1"
+stepText rules.WBCV2 = "WBCV2"
+stepText rules.WBCV3 = "WBCV3"
+stepText rules.KGCV1 = "KGCV1"
+stepText rules.KGCV2 = "KGCV2"
+stepText rules.ACLV3 = "ACLV3"
+stepText rules.WB1 = "WB1"
+stepText rules.WB2 = "WB2"
+stepText rules.WB3 = "WB3"
+stepText rules.WB6 = "WB6"
+stepText rules.RB1 = "RB1"
+stepText rules.RB2 = "RB2"
+stepText rules.RB3 = "RB3"
+stepText rules.KV3 = "KV3"
+stepText rules.CSRL1 = "CSRL1"
+
+-- `accept 1`; `accept 2 protection P recoverable yes` or `no`
+abbrev pub recoverableText : Bool → String
+recoverableText true = " recoverable yes\n"
+recoverableText false = " recoverable no\n"
+
+unfoldable pub acceptanceLine : Named → Bytes
+acceptanceLine n =
+    if eqb (n .approach) 2 then ascii "accept 2 protection " ++ decimal (n .protection) ++ ascii (recoverableText (n .recoverable))
+    else ascii "accept 1\n"
+
+-- `fail STEP`
+unfoldable pub failureLine : rules.Step → Bytes
+failureLine s = ascii "fail " ++ ascii (stepText s) ++ ascii "\n"
+
+-- `refuse N`
+unfoldable pub refusalLine : ℕ → Bytes
+refusalLine n = ascii "refuse " ++ decimal n ++ ascii "\n"
+
+-- the line
+abbrev pub lineOf : Reply → Bytes
+lineOf (accepting n) = acceptanceLine n
+lineOf (failing s) = failureLine s
+lineOf (refusing n) = refusalLine n
