@@ -349,7 +349,8 @@ impl Ledger {
     fn emptied(mut self, place: usize) -> Outcome
         ensures { λ r. ⌜ outcomeOf r ≡ expanded place (ledgerOf self) ⌝ }
     {
-        self.counts = [0u32; Ledger::GROUPS];
+        let zero = [0u32; Ledger::GROUPS];
+        self.counts = zero;
         Outcome {
             ledger: self,
             reply: Reply::Permit(place),

@@ -244,8 +244,115 @@ fn subject_call(k: u64, ledger: Ledger, a: &mut [u8], b: &mut [u8]) -> Turn {
     Turn { ledger, on: true }
 }
 
+// What follows a replacement's first three arguments: the new ACL, and a narrowing's hints.
+fn narrow_with(
+    k: u64,
+    ledger: Ledger,
+    km0: &[u8],
+    acl: &[u8],
+    req: &[u8],
+    d: &mut [u8],
+    e: &mut [u8],
+) -> Turn {
+    let Argument::Is(v) = read_bytes(d) else {
+        return stopped(k, ledger);
+    };
+    let Argument::Is(w) = read_bytes(e) else {
+        return stopped(k, ledger);
+    };
+    told(k, ledger.narrow(km0, acl, req, prefix(d, v), prefix(e, w)))
+}
+
+fn expand_with(k: u64, ledger: Ledger, km0: &[u8], acl: &[u8], req: &[u8], d: &mut [u8]) -> Turn {
+    let Argument::Is(v) = read_bytes(d) else {
+        return stopped(k, ledger);
+    };
+    told(k, ledger.expand(km0, acl, req, prefix(d, v)))
+}
+
+fn narrow_call(
+    k: u64,
+    ledger: Ledger,
+    a: &mut [u8],
+    b: &mut [u8],
+    c: &mut [u8],
+    d: &mut [u8],
+    e: &mut [u8],
+) -> Turn {
+    let Lengths::Are(x, y, z) = read_three(a, b, c) else {
+        return stopped(k, ledger);
+    };
+    narrow_with(k, ledger, prefix(a, x), prefix(b, y), prefix(c, z), d, e)
+}
+
+fn expand_call(
+    k: u64,
+    ledger: Ledger,
+    a: &mut [u8],
+    b: &mut [u8],
+    c: &mut [u8],
+    d: &mut [u8],
+) -> Turn {
+    let Lengths::Are(x, y, z) = read_three(a, b, c) else {
+        return stopped(k, ledger);
+    };
+    expand_with(k, ledger, prefix(a, x), prefix(b, y), prefix(c, z), d)
+}
+
+// The desk's verdict, in its own line.
+fn print_verdict(k: u64, bundle: &[u8], acl: &[u8]) {
+    let mut line = io::buffer();
+    let n = verdicts::verdict_line(desk::assess(bundle, acl), &mut line);
+    print_number(k);
+    print(b" ");
+    print(&line[..n]);
+}
+
+fn desk_call(k: u64, ledger: Ledger, a: &mut [u8], b: &mut [u8]) -> Turn {
+    let Argument::Is(x) = read_bytes(a) else {
+        return stopped(k, ledger);
+    };
+    let Argument::Is(y) = read_bytes(b) else {
+        return stopped(k, ledger);
+    };
+    print_verdict(k, prefix(a, x), prefix(b, y));
+    Turn { ledger, on: true }
+}
+
+// A replacement or the desk, by its letter.
+fn called_last(
+    k: u64,
+    ledger: Ledger,
+    letter: u8,
+    a: &mut [u8],
+    b: &mut [u8],
+    c: &mut [u8],
+    d: &mut [u8],
+    e: &mut [u8],
+) -> Turn {
+    if letter == b'N' {
+        return narrow_call(k, ledger, a, b, c, d, e);
+    }
+    if letter == b'X' {
+        return expand_call(k, ledger, a, b, c, d);
+    }
+    if letter == b'D' {
+        return desk_call(k, ledger, a, b);
+    }
+    stopped(k, ledger)
+}
+
 // One call, by its letter.
-fn called(k: u64, ledger: Ledger, letter: u8, a: &mut [u8], b: &mut [u8], c: &mut [u8]) -> Turn {
+fn called(
+    k: u64,
+    ledger: Ledger,
+    letter: u8,
+    a: &mut [u8],
+    b: &mut [u8],
+    c: &mut [u8],
+    d: &mut [u8],
+    e: &mut [u8],
+) -> Turn {
     if letter == b'F' {
         return fresh_call(k);
     }
@@ -261,25 +368,33 @@ fn called(k: u64, ledger: Ledger, letter: u8, a: &mut [u8], b: &mut [u8], c: &mu
     if letter == b'S' {
         return subject_call(k, ledger, a, b);
     }
-    stopped(k, ledger)
+    called_last(k, ledger, letter, a, b, c, d, e)
 }
 
 // The next call; a script may end between two.
-fn next_call(k: u64, ledger: Ledger, a: &mut [u8], b: &mut [u8], c: &mut [u8]) -> Turn {
+fn next_call(
+    k: u64,
+    ledger: Ledger,
+    a: &mut [u8],
+    b: &mut [u8],
+    c: &mut [u8],
+    d: &mut [u8],
+    e: &mut [u8],
+) -> Turn {
     let mut letter = [0u8; 1];
     let n = io::read_full(STDIN_FILENO, &mut letter);
     if n == 0 {
         return Turn { ledger, on: false };
     }
-    called(k, ledger, letter[0], a, b, c)
+    called(k, ledger, letter[0], a, b, c, d, e)
 }
 
 // A proved loop has to end, and nothing says that a script does: the turns count down from a number that no run uses up.
-fn run(a: &mut [u8], b: &mut [u8], c: &mut [u8]) {
+fn run(a: &mut [u8], b: &mut [u8], c: &mut [u8], d: &mut [u8], e: &mut [u8]) {
     let mut ledger = Ledger::fresh();
     let mut turns = u64::MAX;
     while 0 < turns {
-        let t = next_call(u64::MAX - turns + 1, ledger, a, b, c);
+        let t = next_call(u64::MAX - turns + 1, ledger, a, b, c, d, e);
         if !t.on {
             return;
         }
@@ -293,5 +408,7 @@ fn main() {
     let mut a = [0u8; MOST];
     let mut b = [0u8; MOST];
     let mut c = [0u8; MOST];
-    run(&mut a, &mut b, &mut c);
+    let mut d = [0u8; MOST];
+    let mut e = [0u8; MOST];
+    run(&mut a, &mut b, &mut c, &mut d, &mut e);
 }
