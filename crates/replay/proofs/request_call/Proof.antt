@@ -1,13 +1,6 @@
 use borrow.Author.Needs.{needs}
 use Rattle.replay.proofs.request_call.Statement.{statement}
 use Rattle.replay.proofs.request_call.Tie as tie
-use Rattle.replay.proofs.request_call.Reads as reads
-use Rattle.replay.proofs.request_call.Lts as lts
-use Rattle.gate.proofs.Ledger.request.Reads as request-reads
-use Rattle.replay.proofs.prefix.Reads as prefix-reads
-use Rattle.replay.proofs.read_three.Reads as read-three-reads
-use Rattle.replay.proofs.stopped.Reads as stopped-reads
-use Rattle.replay.proofs.told.Reads as told-reads
 
 -- src/main.rt:187:33
 read-three-requires : tie.Need-read-three-requires

@@ -1,95 +1,75 @@
+use Prim.Native.Nat.{_≤_}
+use mathlib.Core.Path.{_≡_}
+use lib.ListN.{length}
+use borrow.Author.Needs.{needs}
 use Rattle.replay.proofs.run.Statement.{statement}
 use Rattle.replay.proofs.run.Tie as tie
-use Rattle.replay.proofs.run.Reads as reads
-use Rattle.replay.proofs.run.Lts as lts
-use Rattle.gate.proofs.Ledger.fresh.Reads as fresh-reads
-use Rattle.replay.proofs.next_call.Reads as next-call-reads
 
 abbrev Inv-loop : tie.InvT-loop
-Inv-loop a₀ b₀ c₀ d₀ e₀ ledger₀ turns₀ a b c d e ledger turns = ?
+Inv-loop a₀ b₀ c₀ d₀ e₀ ledger₀ turns₀ a b c d e ledger turns = ((length a ≡ length a₀) × ((length b ≡ length b₀) × ((length c ≡ length c₀) × ((length d ≡ length d₀) × ((length e ≡ length e₀) × (turns ≤ 18446744073709551615))))))
 
 abbrev μ-loop : tie.MeasureT-loop
-μ-loop a₀ b₀ c₀ d₀ e₀ ledger₀ turns₀ a b c d e ledger turns = ?
+μ-loop a₀ b₀ c₀ d₀ e₀ ledger₀ turns₀ a b c d e ledger turns = turns
 
--- src/main.rt:394:9
 fresh-requires : tie.Need-fresh-requires Inv-loop μ-loop
-fresh-requires c κs = ?
+fresh-requires c κs = search needs
 
--- src/main.rt:396:5
 loop-holds : tie.Need-loop-holds Inv-loop μ-loop
-loop-holds c = ?
+loop-holds c = search needs
 
--- src/main.rt:397:27
 sub-next-call : tie.Need-sub-next-call Inv-loop μ-loop
-sub-next-call c = ?
+sub-next-call c = search needs
 
--- src/main.rt:397:27
 add-next-call : tie.Need-add-next-call Inv-loop μ-loop
-add-next-call c = ?
+add-next-call c = search needs
 
--- src/main.rt:397:13
 next-call-requires : tie.Need-next-call-requires Inv-loop μ-loop
-next-call-requires c κs = ?
+next-call-requires c κs = search needs
 
--- src/main.rt:399:13
 same-length : tie.Need-same-length Inv-loop μ-loop
-same-length c = ?
+same-length c = search needs
 
--- src/main.rt:399:13
 same-length-2 : tie.Need-same-length-2 Inv-loop μ-loop
-same-length-2 c = ?
+same-length-2 c = search needs
 
--- src/main.rt:399:13
 same-length-3 : tie.Need-same-length-3 Inv-loop μ-loop
-same-length-3 c = ?
+same-length-3 c = search needs
 
--- src/main.rt:399:13
 same-length-4 : tie.Need-same-length-4 Inv-loop μ-loop
-same-length-4 c = ?
+same-length-4 c = search needs
 
--- src/main.rt:399:13
 same-length-5 : tie.Need-same-length-5 Inv-loop μ-loop
-same-length-5 c = ?
+same-length-5 c = search needs
 
--- src/main.rt:399:13
 returns : tie.Need-returns Inv-loop μ-loop
-returns c = ?
+returns c = search needs
 
--- src/main.rt:403:9
 sub-turns : tie.Need-sub-turns Inv-loop μ-loop
-sub-turns c = ?
+sub-turns c = search needs
 
--- src/main.rt:396:5
 loop-less : tie.Need-loop-less Inv-loop μ-loop
-loop-less c = ?
+loop-less c = search needs
 
--- src/main.rt:396:5
 loop-again : tie.Need-loop-again Inv-loop μ-loop
-loop-again c = ?
+loop-again c = search needs
 
--- src/main.rt:393:1
 same-length-6 : tie.Need-same-length-6 Inv-loop μ-loop
-same-length-6 c = ?
+same-length-6 c = search needs
 
--- src/main.rt:393:1
 same-length-7 : tie.Need-same-length-7 Inv-loop μ-loop
-same-length-7 c = ?
+same-length-7 c = search needs
 
--- src/main.rt:393:1
 same-length-8 : tie.Need-same-length-8 Inv-loop μ-loop
-same-length-8 c = ?
+same-length-8 c = search needs
 
--- src/main.rt:393:1
 same-length-9 : tie.Need-same-length-9 Inv-loop μ-loop
-same-length-9 c = ?
+same-length-9 c = search needs
 
--- src/main.rt:393:1
 same-length-10 : tie.Need-same-length-10 Inv-loop μ-loop
-same-length-10 c = ?
+same-length-10 c = search needs
 
--- src/main.rt:393:1
 returns-2 : tie.Need-returns-2 Inv-loop μ-loop
-returns-2 c = ?
+returns-2 c = search needs
 
 pub run-spec : {M : Type 1} → statement M
 run-spec =
