@@ -93,7 +93,7 @@ impl Raising {
 }
 
 // The group counts after a charge.
-fn raise_count(mut counts: [u32; 16], place: usize) -> [u32; 16]
+fn raise_count(mut counts: [u32; Ledger::GROUPS], place: usize) -> [u32; Ledger::GROUPS]
     requires { ⌜ getD counts place 0 < fullCount ⌝ }
     ensures { λ r. ⌜ r ≡ raised counts place counts ⌝ }
 {
@@ -409,10 +409,10 @@ impl Ledger {
         requires { ⌜ ((getD (self .counts) place 0 < fullCount) × (all (limitHasRoom (self .counters)) (limitsOf (records (now body))) ≡ true)) × (length (hintsOf (now hints)) ≤ groupsMax) ⌝ }
         ensures { λ r. ⌜ outcomeOf r ≡ narrowed (ledgerOf self) (aclOf (now (acl .entry))) (aclOf (now (new .entry))) (hintsOf (now (hints .entry))) place (chargedWith (ledgerOf self) place (limitsOf (records (now (body .entry)))) time) ⌝ }
     {
+        let charged = self.charge(place, time, body).ledger;
         if !narrowing::shows_narrowing(acl, new, hints) {
             return self.refuse(Refusal::NotNarrower);
         }
-        let charged = self.charge(place, time, body).ledger;
         charged.carried(place, hints)
     }
 

@@ -15,7 +15,7 @@ refuse-requires c κs = search needs
 returns : tie.Need-returns
 returns c =
     let t = c .before in
-    let a = t .before .before .before .before .before .before .args in
+    let a = t .before .before .before .before .before .before .before .before .args in
     let m = chargedWith (ledgerOf (a .self)) (a .place) (limitsOf (records (a .body .now))) (a .time) in
     not-shown _ _ _ _ _ m _ _ (t .before .shows-narrowing .ensures) (t .if1 .taken) (c .refuse .ensures)
 
@@ -27,18 +27,12 @@ carried-requires c κs = search needs
 
 returns-2 : tie.Need-returns-2
 returns-2 c =
-    let h = c .before .before in
-    let t = h .before in
+    let t = c .before in
     let s = t .before in
-    shown _ _ _ _ _ _ _ _ (s .shows-narrowing .ensures) _ (t .if1 .left) (s .before .before .before .before .before .pre .1) (permit-ledger _ _ _ (h .charge .ensures)) (c .carried .ensures)
+    let h = s .before .before in
+    shown _ _ _ _ _ _ _ _ (s .shows-narrowing .ensures) _ (t .if1 .left) (h .before .before .before .before .before .pre .1) (permit-ledger _ _ _ (h .charge .ensures)) (c .carried .ensures)
 
 pub narrow-granted-spec : {M : Type 1} → statement M
 narrow-granted-spec =
     tie.close
-    (tie.spec
-    shows-narrowing-requires
-    refuse-requires
-    returns
-    charge-requires
-    carried-requires
-    returns-2)
+    (tie.spec charge-requires shows-narrowing-requires refuse-requires returns carried-requires returns-2)
