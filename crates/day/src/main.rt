@@ -3,7 +3,6 @@
 use files::Checked;
 use files::Refusal;
 use gate::Ledger;
-use gate::Outcome;
 use gate::Reply;
 use libc::STDERR_FILENO;
 use libc::STDOUT_FILENO;
@@ -22,21 +21,20 @@ fn print_number(n: u64) {
     io::print_decimal(STDOUT_FILENO, n);
 }
 
-// What is read of an open file; the first read tells an error from an empty file.
+// What is read of an open file, up to the buffer's length. A read that fails ends it like the file's end does, so that one more read has to tell them
+// apart: it fails too, or finds more where the buffer still had room.
 fn read_open(fd: i32, path: &[u8], buffer: &mut [u8]) -> Size {
-    let got = libc::read(fd, buffer);
-    if got < 0 {
+    let n = io::read_full(fd, buffer);
+    let mut more = [0u8; 1];
+    let got = libc::read(fd, &mut more);
+    if (got < 0) | ((0 < got) & (n < buffer.len())) {
         os::fail(path);
         return Size::Unread;
     }
-    let n = io::count(got, buffer);
-    let more = io::read_full(fd, &mut buffer[n..]);
-    if buffer.len() - n < more {
-        return Size::Unread;
-    }
-    Size::Is(n + more)
+    Size::Is(n)
 }
 
+// What is read of the file of that name.
 fn read_path(path: &[u8], buffer: &mut [u8]) -> Size {
     let fd = os::open_read(path);
     if fd < 0 {
@@ -48,12 +46,23 @@ fn read_path(path: &[u8], buffer: &mut [u8]) -> Size {
     size
 }
 
+// Says that argument i cannot be had.
+fn fail_argument(i: usize) {
+    if i == 1 {
+        os::fail(b"KM0");
+    } else if i == 2 {
+        os::fail(b"ACL");
+    } else {
+        os::fail(b"REQUESTS");
+    }
+}
+
 // The file that argument i names.
 fn read_argument(i: usize, buffer: &mut [u8]) -> Size {
     let mut path = io::buffer();
     let n = os::arg(i, &mut path);
     if os::errno() != 0 {
-        os::fail(b"file name");
+        fail_argument(i);
         return Size::Unread;
     }
     read_path(&path[..n], buffer)
@@ -83,30 +92,35 @@ fn print_reply(reply: Reply) {
     }
 }
 
-// The line of one request, and the ledger after it.
-fn told(k: u64, o: Outcome) -> Ledger {
+// The ledger that the day starts with.
+fn loaded() -> Ledger {
+    let o = Ledger::fresh().load(0);
+    o.ledger
+}
+
+// The line of request record k, and the ledger after it.
+fn answer(k: u64, before: Ledger, km0: &[u8], acl: &[u8], rec: &[u8]) -> Ledger {
+    let o = before.request(km0, acl, rec);
     let reply = o.reply;
     print_number(k);
     print_reply(reply);
     print(b"\n");
-    let ledger = o.ledger;
-    ledger
+    o.ledger
 }
 
-// A line for each request record.
+// A line for each request record, numbered from 1.
 fn print_lines(km0: &[u8], acl: &[u8], requests: &[u8]) {
-    let loaded = Ledger::fresh().load(0);
-    let mut ledger = loaded.ledger;
+    let mut ledger = loaded();
     let mut k: u64 = 1;
     let mut at = 0;
     while 64 <= requests.len() - at {
-        let o = ledger.request(km0, acl, &requests[at..at + 64]);
-        ledger = told(k, o);
+        ledger = answer(k, ledger, km0, acl, &requests[at..at + 64]);
         k += 1;
         at += 64;
     }
 }
 
+// The lines of three files.
 fn print_day(km0: &[u8], acl: &[u8], requests: &[u8]) {
     let fault = daybook::first_fault(km0, acl, requests);
     match fault {
@@ -119,6 +133,7 @@ fn print_day(km0: &[u8], acl: &[u8], requests: &[u8]) {
     }
 }
 
+// Reads the three files, and prints the day if all could be read.
 fn read_all(km0: &mut [u8], acl: &mut [u8], requests: &mut [u8]) {
     let Size::Is(x) = read_argument(1, km0) else {
         return;

@@ -1,62 +1,56 @@
+use Prim.Native.Nat.{_≤_, _-_}
+use mathlib.Core.Path.{_≡_, refl}
+use lib.ListN.{length}
+use Rattle.rules.specs.Basics.{records, eachFault}
+use Rattle.rules.specs.Request.{requestRecordFault}
+use Rattle.rules.proofs.Rows.{recordsFrom, each-stop, each-next, each-done}
+use Rattle.daybook.proofs.Laws.{request-bad, request-sound}
+use borrow.Author.Needs.{needs}
 use Rattle.daybook.proofs.each_request.Statement.{statement}
 use Rattle.daybook.proofs.each_request.Tie as tie
-use Rattle.daybook.proofs.each_request.Reads as reads
-use Rattle.daybook.proofs.each_request.Lts as lts
-use Rattle.request.proofs.request_record.Reads as request-record-reads
 
 abbrev Inv-loop : tie.InvT-loop
-Inv-loop requests at₀ at = ?
+Inv-loop requests at₀ at = (at ≤ length requests) × (eachFault requestRecordFault (recordsFrom requests at) ≡ eachFault requestRecordFault (records requests))
 
 abbrev μ-loop : tie.MeasureT-loop
-μ-loop requests at₀ at = ?
+μ-loop requests at₀ at = length requests - at
 
--- src/lib.rt:27:5
 loop-holds : tie.Need-loop-holds Inv-loop μ-loop
-loop-holds c = ?
+unfolding recordsFrom
+loop-holds c = (search needs, refl)
 
--- src/lib.rt:27:17
 sub-loop : tie.Need-sub-loop Inv-loop μ-loop
-sub-loop c = ?
+sub-loop c = search needs
 
--- src/lib.rt:28:51
 add-request-record : tie.Need-add-request-record Inv-loop μ-loop
-add-request-record c = ?
+add-request-record c = search needs
 
--- src/lib.rt:28:37
 sub-request-record : tie.Need-sub-request-record Inv-loop μ-loop
-sub-request-record c = ?
+sub-request-record c = search needs
 
--- src/lib.rt:28:37
 part-request-record-start : tie.Need-part-request-record-start Inv-loop μ-loop
-part-request-record-start c = ?
+part-request-record-start c = search needs
 
--- src/lib.rt:28:37
 part-request-record-end : tie.Need-part-request-record-end Inv-loop μ-loop
-part-request-record-end c = ?
+part-request-record-end c = search needs
 
--- src/lib.rt:28:13
 request-record-requires : tie.Need-request-record-requires Inv-loop μ-loop
-request-record-requires c κs = ?
+request-record-requires c κs = search needs
 
--- src/lib.rt:29:13
 returns : tie.Need-returns Inv-loop μ-loop
-returns c = ?
+returns c = search (needs, each-stop, request-bad)
 
--- src/lib.rt:31:9
 add-at : tie.Need-add-at Inv-loop μ-loop
-add-at c = ?
+add-at c = search needs
 
--- src/lib.rt:27:5
 loop-less : tie.Need-loop-less Inv-loop μ-loop
-loop-less c = ?
+loop-less c = search needs
 
--- src/lib.rt:27:5
 loop-again : tie.Need-loop-again Inv-loop μ-loop
-loop-again c = ?
+loop-again c = (search needs, search (needs, each-next, request-sound))
 
--- src/lib.rt:23:1
 returns-2 : tie.Need-returns-2 Inv-loop μ-loop
-returns-2 c = ?
+returns-2 c = search (needs, each-done)
 
 pub each-request-spec : {M : Type 1} → statement M
 each-request-spec =
