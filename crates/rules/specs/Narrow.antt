@@ -69,7 +69,7 @@ actionsNoWider (a ∷ rest) (h ∷ hs) old = noWiderThan a (getElem? old h) && a
 unfoldable pub answers : Limit → Limit → Bool
 answers o n = eqb (n .sort) (o .sort) && eqb (n .counter) (o .counter) && leb (n .maximum) (o .maximum)
 
--- .. an old limit is isAnswered by one of the new
+-- .. an old limit is answered by one of the new
 unfoldable pub isAnswered : List Limit → Limit → Bool
 isAnswered new o = any (answers o) new
 
