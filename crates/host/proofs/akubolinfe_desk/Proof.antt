@@ -1,0 +1,17 @@
+use mathlib.Core.Path.{_≡_, sym, _∙_, ap}
+use Rattle.host.specs.Surface.{judgedIn}
+use borrow.Author.Needs.{needs}
+use Rattle.host.proofs.akubolinfe_desk.Statement.{statement}
+use Rattle.host.proofs.akubolinfe_desk.Tie as tie
+
+assess-requires : tie.Need-assess-requires
+assess-requires c κs = search needs
+
+judged-requires : tie.Need-judged-requires
+judged-requires c κs = search needs
+
+returns : tie.Need-returns
+returns c = c .judged .ensures ∙ ap judgedIn (c .before .assess .ensures)
+
+pub akubolinfe-desk-spec : {M : Type 1} → statement M
+akubolinfe-desk-spec = tie.close (tie.spec assess-requires judged-requires returns)

@@ -1,0 +1,21 @@
+use mathlib.Core.Path.{_≡_, sym, _∙_, ap}
+use Rattle.host.specs.Surface.{wroteFor}
+use borrow.Author.Needs.{needs}
+use Rattle.host.proofs.akubolinfe_subject.Statement.{statement}
+use Rattle.host.proofs.akubolinfe_subject.Tie as tie
+
+write-subject-requires : tie.Need-write-subject-requires
+write-subject-requires c κs = search needs
+
+wrote-requires : tie.Need-wrote-requires
+wrote-requires c κs = search needs
+
+same-length : tie.Need-same-length
+same-length c = search needs
+
+returns : tie.Need-returns
+returns c = let w = c .before .before .before .write-subject in (c .wrote .ensures ∙ ap wroteFor (w .ensures .0), w .ensures .1)
+
+pub akubolinfe-subject-spec : {M : Type 1} → statement M
+akubolinfe-subject-spec =
+    tie.close (tie.spec write-subject-requires wrote-requires same-length returns)

@@ -1,0 +1,100 @@
+-- The answers of the C surface in plain numbers, as the code gives them and as the definitions do.
+use Prim.Native.Nat.{ℕ}
+use mathlib.Core.Bool.{Bool, false}
+use Rattle.rules.specs.Ledger as rules
+use Rattle.rules.specs.Gate.{Answer, done, permit, refuse, Outcome}
+use Rattle.rules.specs.Desk.{Step, WV1, MSCV1, MSCV2, MSCV3, MSCV4, MSCV5, WBCV1, WBCV2, WBCV3, KGCV1, KGCV2, ACLV3, WB1, WB2, WB3, WB6, RB1, RB2, RB3, KV3, CSRL1}
+use Rattle.rules.specs.Subject.{SubjectReply, written, unwritten}
+use Rattle.desk.specs.Replies.{Reply, accepting, failing, refusing}
+use Rattle.host.specs.declared.HostLedger.{HostLedger}
+use Rattle.host.specs.declared.HostOutcome.{HostOutcome}
+use Rattle.host.specs.declared.HostVerdict.{HostVerdict}
+use Rattle.host.specs.declared.HostWritten.{HostWritten}
+
+-- the ledger
+abbrev pub ledgerIn : HostLedger → rules.Ledger
+ledgerIn l = record { counts = l .counts; counters = l .counters; loaded = l .loaded; last = l .last }
+
+-- An outcome in numbers: the ledger; 0 for done, 1 for a permit, 2 for a refusal; the group that permits, or the refusal's number.
+pub record Told : Type 0 where
+  pub ledger : rules.Ledger
+  pub answer : ℕ
+  pub number : ℕ
+
+-- as the code gives it
+abbrev pub toldBy : HostOutcome → Told
+toldBy o = record { ledger = ledgerIn (o .ledger); answer = o .answer; number = o .number }
+
+-- what an answer is
+abbrev pub answerCode : Answer → ℕ
+answerCode done = 0
+answerCode (permit place) = 1
+answerCode (refuse n) = 2
+
+-- .. and its number
+abbrev pub answerNumber : Answer → ℕ
+answerNumber done = 0
+answerNumber (permit place) = place
+answerNumber (refuse n) = n
+
+-- as the definitions do
+abbrev pub toldFor : Outcome → Told
+toldFor o = record { ledger = o .ledger; answer = answerCode (o .answer); number = answerNumber (o .answer) }
+
+-- A subject's reply in numbers: 1 and the length, or 2 and the refusal's number.
+pub record Wrote : Type 0 where
+  pub answer : ℕ
+  pub number : ℕ
+
+abbrev pub wroteBy : HostWritten → Wrote
+wroteBy w = record { answer = w .answer; number = w .number }
+
+abbrev pub wroteFor : SubjectReply → Wrote
+wroteFor (written n) = record { answer = 1; number = n }
+wroteFor (unwritten n) = record { answer = 2; number = n }
+
+-- The steps, numbered from 1 in document 01's order.
+abbrev pub stepNumber : Step → ℕ
+stepNumber WV1 = 1
+stepNumber MSCV1 = 2
+stepNumber MSCV2 = 3
+stepNumber MSCV3 = 4
+stepNumber MSCV4 = 5
+stepNumber MSCV5 = 6
+stepNumber WBCV1 = 7
+stepNumber WBCV2 = 8
+stepNumber WBCV3 = 9
+stepNumber KGCV1 = 10
+stepNumber KGCV2 = 11
+stepNumber ACLV3 = 12
+stepNumber WB1 = 13
+stepNumber WB2 = 14
+stepNumber WB3 = 15
+stepNumber WB6 = 16
+stepNumber RB1 = 17
+stepNumber RB2 = 18
+stepNumber RB3 = 19
+stepNumber KV3 = 20
+stepNumber CSRL1 = 21
+
+-- A verdict in numbers: 1 for an acceptance, with approach, protection (0 where none is judged) and recoverability; 2 for a failing step, with its
+-- number; 3 for a refusal, with its number. What does not belong to the answer is zero.
+pub record Judged : Type 0 where
+  pub answer : ℕ
+  pub approach : ℕ
+  pub protection : ℕ
+  pub recoverable : Bool
+  pub number : ℕ
+
+abbrev pub judgedBy : HostVerdict → Judged
+judgedBy v = record { answer = v .answer; approach = v .approach; protection = v .protection; recoverable = v .recoverable; number = v .number }
+
+-- what is no acceptance
+abbrev pub otherwise : ℕ → ℕ → Judged
+otherwise answer number = record { answer = answer; approach = 0; protection = 0; recoverable = false; number = number }
+
+-- of the desk's reply
+abbrev pub judgedIn : Reply → Judged
+judgedIn (accepting a) = record { answer = 1; approach = a .approach; protection = a .protection; recoverable = a .recoverable; number = 0 }
+judgedIn (failing s) = otherwise 2 (stepNumber s)
+judgedIn (refusing n) = otherwise 3 n

@@ -1,0 +1,284 @@
+// The C surface: every entry point as an exported function over numbers, byte slices and plain structs. A slice is a pointer and a length.
+ghost use mathlib.Core.Path.{_≡_};
+ghost use Rattle.rules.specs.Ledger.{freshLedger};
+ghost use Rattle.rules.specs.Gate.{load, clear, request, narrow, expand};
+ghost use Rattle.rules.specs.Desk.{desk};
+ghost use Rattle.rules.specs.Subject.{subjectReply, subjectBuffer};
+ghost use Rattle.steps.specs.Steps.{stepOf};
+ghost use Rattle.desk.specs.Replies as replies;
+ghost use Rattle.gate.specs.Outcomes.{ledgerOf, answerOf, outcomeOf};
+ghost use Rattle.subject.specs.Writing as writing;
+ghost use Rattle.host.specs.Surface.{ledgerIn, toldBy, answerCode, answerNumber, toldFor, wroteBy, wroteFor, stepNumber, judgedBy, judgedIn, otherwise};
+use desk::Acceptance;
+use desk::Verdict;
+use gate::Ledger;
+use gate::Outcome;
+use gate::Reply;
+use steps::Step;
+use subject::Written;
+
+// The ledger, laid out as C lays it out.
+#[repr(C)]
+pub struct HostLedger {
+    pub counts: [u32; Ledger::GROUPS],
+    pub counters: [u32; Ledger::COUNTERS],
+    pub loaded: u64,
+    pub last: u64,
+}
+
+// The ledger handed back, what the answer is (0 done, 1 permitted, 2 refused), and its number: the group, or the refusal.
+#[repr(C)]
+pub struct HostOutcome {
+    pub ledger: HostLedger,
+    pub answer: u64,
+    pub number: u64,
+}
+
+// A verdict: 1 accepted, 2 a step failed, 3 refused; what an acceptance names; the step's number from 1, or the refusal's.
+#[repr(C)]
+pub struct HostVerdict {
+    pub answer: u64,
+    pub approach: u64,
+    pub protection: u64,
+    pub recoverable: bool,
+    pub number: u64,
+}
+
+// A subject: 1 and its length, or 2 and the refusal.
+#[repr(C)]
+pub struct HostWritten {
+    pub answer: u64,
+    pub number: u64,
+}
+
+// The gate's ledger, and back.
+fn taken(l: HostLedger) -> Ledger
+    ensures { λ r. ⌜ ledgerOf r ≡ ledgerIn l ⌝ }
+{
+    let counts = l.counts;
+    let counters = l.counters;
+    Ledger {
+        counts,
+        counters,
+        loaded: l.loaded,
+        last: l.last,
+    }
+}
+
+fn handed(l: Ledger) -> HostLedger
+    ensures { λ r. ⌜ ledgerIn r ≡ ledgerOf l ⌝ }
+{
+    let counts = l.counts;
+    let counters = l.counters;
+    HostLedger {
+        counts,
+        counters,
+        loaded: l.loaded,
+        last: l.last,
+    }
+}
+
+// What a reply is, and its number.
+fn answer_code(reply: Reply) -> u64
+    ensures { λ r. ⌜ r ≡ answerCode (answerOf reply) ⌝ }
+{
+    match reply {
+        Reply::Done => 0,
+        Reply::Permit(_) => 1,
+        Reply::Refuse(_) => 2,
+    }
+}
+
+fn answer_number(reply: Reply) -> u64
+    ensures { λ r. ⌜ r ≡ answerNumber (answerOf reply) ⌝ }
+{
+    match reply {
+        Reply::Done => 0,
+        Reply::Permit(place) => place as u64,
+        Reply::Refuse(why) => files::number(why) as u64,
+    }
+}
+
+// An outcome as the host gets it.
+fn told(o: Outcome) -> HostOutcome
+    ensures { λ r. ⌜ toldBy r ≡ toldFor (outcomeOf o) ⌝ }
+{
+    let reply = o.reply;
+    let ledger = o.ledger;
+    HostOutcome {
+        ledger: handed(ledger),
+        answer: answer_code(reply),
+        number: answer_number(reply),
+    }
+}
+
+// The fresh ledger.
+#[no_mangle]
+pub extern "C" fn akubolinfe_fresh() -> HostLedger
+    ensures { λ r. ⌜ ledgerIn r ≡ freshLedger ⌝ }
+{
+    handed(Ledger::fresh())
+}
+
+// A load, at any time.
+#[no_mangle]
+pub extern "C" fn akubolinfe_load(ledger: HostLedger, time: u64) -> HostOutcome
+    ensures { λ r. ⌜ toldBy r ≡ toldFor (load (ledgerIn ledger) time) ⌝ }
+{
+    told(taken(ledger).load(time))
+}
+
+// A clear of one named counter.
+#[no_mangle]
+pub extern "C" fn akubolinfe_clear(ledger: HostLedger, counter: usize) -> HostOutcome
+    ensures { λ r. ⌜ toldBy r ≡ toldFor (clear (ledgerIn ledger) counter) ⌝ }
+{
+    told(taken(ledger).clear(counter))
+}
+
+// A request for a use or a blob.
+#[no_mangle]
+pub extern "C" fn akubolinfe_request(
+    ledger: HostLedger,
+    km0: &[u8],
+    acl: &[u8],
+    req: &[u8],
+) -> HostOutcome
+    ensures { λ r. ⌜ toldBy r ≡ toldFor (request (ledgerIn ledger) (now (km0 .entry)) (now (acl .entry)) (now (req .entry))) ⌝ }
+{
+    told(taken(ledger).request(km0, acl, req))
+}
+
+// A narrowing.
+#[no_mangle]
+pub extern "C" fn akubolinfe_narrow(
+    ledger: HostLedger,
+    km0: &[u8],
+    acl: &[u8],
+    req: &[u8],
+    new: &[u8],
+    hints: &[u8],
+) -> HostOutcome
+    ensures { λ r. ⌜ toldBy r ≡ toldFor (narrow (ledgerIn ledger) (now (km0 .entry)) (now (acl .entry)) (now (req .entry)) (now (new .entry)) (now (hints .entry))) ⌝ }
+{
+    told(taken(ledger).narrow(km0, acl, req, new, hints))
+}
+
+// An expansion.
+#[no_mangle]
+pub extern "C" fn akubolinfe_expand(
+    ledger: HostLedger,
+    km0: &[u8],
+    acl: &[u8],
+    req: &[u8],
+    new: &[u8],
+) -> HostOutcome
+    ensures { λ r. ⌜ toldBy r ≡ toldFor (expand (ledgerIn ledger) (now (km0 .entry)) (now (acl .entry)) (now (req .entry)) (now (new .entry))) ⌝ }
+{
+    told(taken(ledger).expand(km0, acl, req, new))
+}
+
+// The number of a step, from 1 in document 01's order.
+fn step_number(s: Step) -> u64
+    ensures { λ r. ⌜ r ≡ stepNumber (stepOf s) ⌝ }
+{
+    match s {
+        Step::WV1 => 1,
+        Step::MSCV1 => 2,
+        Step::MSCV2 => 3,
+        Step::MSCV3 => 4,
+        Step::MSCV4 => 5,
+        Step::MSCV5 => 6,
+        Step::WBCV1 => 7,
+        Step::WBCV2 => 8,
+        Step::WBCV3 => 9,
+        Step::KGCV1 => 10,
+        Step::KGCV2 => 11,
+        Step::ACLV3 => 12,
+        Step::WB1 => 13,
+        Step::WB2 => 14,
+        Step::WB3 => 15,
+        Step::WB6 => 16,
+        Step::RB1 => 17,
+        Step::RB2 => 18,
+        Step::RB3 => 19,
+        Step::KV3 => 20,
+        Step::CSRL1 => 21,
+    }
+}
+
+// An acceptance as the host gets it.
+fn acceptance(a: Acceptance) -> HostVerdict
+    ensures { λ r. ⌜ judgedBy r ≡ judgedIn (replies.accepting (replies.namedBy a)) ⌝ }
+{
+    let protection = a.protection;
+    HostVerdict {
+        answer: 1,
+        approach: a.approach as u64,
+        protection: desk::protection_number(protection) as u64,
+        recoverable: a.recoverable,
+        number: 0,
+    }
+}
+
+// A verdict that is no acceptance.
+fn other(answer: u64, number: u64) -> HostVerdict
+    ensures { λ r. ⌜ judgedBy r ≡ otherwise answer number ⌝ }
+{
+    HostVerdict {
+        answer,
+        approach: 0,
+        protection: 0,
+        recoverable: false,
+        number,
+    }
+}
+
+// A verdict as the host gets it.
+fn judged(v: Verdict) -> HostVerdict
+    ensures { λ r. ⌜ judgedBy r ≡ judgedIn (replies.replyOf v) ⌝ }
+{
+    match v {
+        Verdict::Accepted(a) => acceptance(a),
+        Verdict::Failed(s) => other(2, step_number(s)),
+        Verdict::Refused(why) => other(3, files::number(why) as u64),
+    }
+}
+
+// The desk's verdict on a bundle and an ACL.
+#[no_mangle]
+pub extern "C" fn akubolinfe_desk(bundle: &[u8], acl: &[u8]) -> HostVerdict
+    ensures { λ r. ⌜ judgedBy r ≡ judgedIn (replies.replyFor (desk (now (bundle .entry)) (now (acl .entry)))) ⌝ }
+{
+    judged(desk::assess(bundle, acl))
+}
+
+// What the subject writer answered.
+fn wrote(w: Written) -> HostWritten
+    ensures { λ r. ⌜ wroteBy r ≡ wroteFor (writing.replyOf w) ⌝ }
+{
+    match w {
+        Written::Length(n) => HostWritten {
+            answer: 1,
+            number: n as u64,
+        },
+        Written::Refused(why) => HostWritten {
+            answer: 2,
+            number: files::number(why) as u64,
+        },
+    }
+}
+
+// The subject of a world certificate, at the front of the buffer.
+#[no_mangle]
+pub extern "C" fn akubolinfe_subject(
+    certificate: u64,
+    suite: u64,
+    hashes: &[u8],
+    buffer: &mut [u8],
+) -> HostWritten
+    ensures reply { λ r. ⌜ wroteBy r ≡ wroteFor (subjectReply certificate suite (now (hashes .entry)) (now (buffer .entry))) ⌝ }
+    ensures bytes { λ _. ⌜ now (buffer .exit) ≡ subjectBuffer certificate suite (now (hashes .entry)) (now (buffer .entry)) ⌝ }
+{
+    wrote(subject::write_subject(certificate, suite, hashes, buffer))
+}
