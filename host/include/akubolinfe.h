@@ -1,0 +1,110 @@
+/* Akubolinfe for C programs: the permission gate, the attestation desk and the subject writer.
+ *
+ * Each function takes any bytes of any length; none has a condition. A run of bytes is a pointer and a length; where the
+ * length is zero the pointer may be NULL. The runs of one call may overlap, except that a buffer that is written must not
+ * overlap any other. Nothing is kept between calls: the ledger goes in by value and comes back. A refusal hands the ledger
+ * back as it was and leaves the buffer. Link with libhost.a (`rt staticlib host`), x86-64 Linux. */
+#ifndef AKUBOLINFE_H
+#define AKUBOLINFE_H
+
+#include <stdbool.h>
+#include <stddef.h>
+#include <stdint.h>
+
+/* Sizes in bytes and records. */
+#define AKUBOLINFE_RECORD 64
+#define AKUBOLINFE_HASH 20
+#define AKUBOLINFE_GROUPS 16
+#define AKUBOLINFE_COUNTERS 96
+#define AKUBOLINFE_ACL_BYTES 13312
+
+/* What was used: a count for each group, the named counters, the load time and the last time, in seconds. */
+typedef struct {
+    uint32_t counts[AKUBOLINFE_GROUPS];
+    uint32_t counters[AKUBOLINFE_COUNTERS];
+    uint64_t loaded;
+    uint64_t last;
+} akubolinfe_ledger;
+
+/* What an outcome's `answer` is. */
+#define AKUBOLINFE_DONE 0
+#define AKUBOLINFE_PERMITTED 1
+#define AKUBOLINFE_REFUSED 2
+
+/* The ledger handed back; what the answer is; the group that permits, or the refusal's number. */
+typedef struct {
+    akubolinfe_ledger ledger;
+    uint64_t answer;
+    uint64_t number;
+} akubolinfe_outcome;
+
+/* Refusals. */
+#define AKUBOLINFE_BAD_LENGTH 1
+#define AKUBOLINFE_MALFORMED 2
+#define AKUBOLINFE_TOO_MANY 3
+#define AKUBOLINFE_CLOCK_BACK 4
+#define AKUBOLINFE_NOT_ADMITTED 5
+#define AKUBOLINFE_NOT_CERTIFIED 6
+#define AKUBOLINFE_SPENT 7
+#define AKUBOLINFE_NOT_NARROWER 8
+#define AKUBOLINFE_SHORT_BUFFER 9
+#define AKUBOLINFE_OUT_OF_RANGE 10
+#define AKUBOLINFE_UNKNOWN_SUITE 11
+
+/* The fresh ledger: all zero. */
+akubolinfe_ledger akubolinfe_fresh(void);
+
+/* A load, at any time: group counts zero, both times set. */
+akubolinfe_outcome akubolinfe_load(akubolinfe_ledger ledger, uint64_t time);
+
+/* A clear of one named counter, 0 to 95. */
+akubolinfe_outcome akubolinfe_clear(akubolinfe_ledger ledger, size_t counter);
+
+/* A request for a use or a blob: the KM0 hash, the ACL in force, the request record with its certificates. */
+akubolinfe_outcome akubolinfe_request(akubolinfe_ledger ledger, const uint8_t *km0, size_t km0_length, const uint8_t *acl,
+                                      size_t acl_length, const uint8_t *request, size_t request_length);
+
+/* A narrowing: with the new ACL and a hint for each of its groups. If it is permitted the new ACL is in force. */
+akubolinfe_outcome akubolinfe_narrow(akubolinfe_ledger ledger, const uint8_t *km0, size_t km0_length, const uint8_t *acl,
+                                     size_t acl_length, const uint8_t *request, size_t request_length,
+                                     const uint8_t *new_acl, size_t new_acl_length, const uint8_t *hints,
+                                     size_t hints_length);
+
+/* An expansion: with the new ACL. If it is permitted the new ACL is in force. */
+akubolinfe_outcome akubolinfe_expand(akubolinfe_ledger ledger, const uint8_t *km0, size_t km0_length, const uint8_t *acl,
+                                     size_t acl_length, const uint8_t *request, size_t request_length,
+                                     const uint8_t *new_acl, size_t new_acl_length);
+
+/* What a verdict's `answer` is. */
+#define AKUBOLINFE_ACCEPTED 1
+#define AKUBOLINFE_STEP_FAILED 2
+#define AKUBOLINFE_DESK_REFUSED 3
+
+/* A verdict. An acceptance names approach and, for approach 2, protection (1 to 4) and recoverability. A failed step has
+ * its number, from 1: WV1 MSCV1 MSCV2 MSCV3 MSCV4 MSCV5 WBCV1 WBCV2 WBCV3 KGCV1 KGCV2 ACLV3 WB1 WB2 WB3 WB6 RB1 RB2 RB3
+ * KV3 CSRL1. A refusal has its number. What does not belong to the answer is zero. */
+typedef struct {
+    uint64_t answer;
+    uint64_t approach;
+    uint64_t protection;
+    bool recoverable;
+    uint64_t number;
+} akubolinfe_verdict;
+
+/* The desk's verdict on a bundle and an ACL. */
+akubolinfe_verdict akubolinfe_desk(const uint8_t *bundle, size_t bundle_length, const uint8_t *acl, size_t acl_length);
+
+/* What a subject's `answer` is: written, with its length; or refused, with the refusal's number. */
+#define AKUBOLINFE_WRITTEN 1
+#define AKUBOLINFE_NOT_WRITTEN 2
+
+typedef struct {
+    uint64_t answer;
+    uint64_t number;
+} akubolinfe_written;
+
+/* The subject of world certificate 3, 4 or 5 under a suite 1 to 4, at the front of the buffer. */
+akubolinfe_written akubolinfe_subject(uint64_t certificate, uint64_t suite, const uint8_t *hashes, size_t hashes_length,
+                                      uint8_t *buffer, size_t buffer_length);
+
+#endif

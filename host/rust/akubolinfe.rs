@@ -1,0 +1,145 @@
+//! Akubolinfe for Rust programs: safe functions over the C surface (`host/include/akubolinfe.h`). Every function takes any
+//! bytes of any length; a refusal hands the ledger back as it was and leaves the buffer.
+#![allow(dead_code)]
+
+/// What was used: a count for each group, the named counters, the load time and the last time, in seconds.
+#[repr(C)]
+#[derive(Clone, Copy, PartialEq, Eq, Debug)]
+pub struct Ledger {
+    pub counts: [u32; 16],
+    pub counters: [u32; 96],
+    pub loaded: u64,
+    pub last: u64,
+}
+
+#[repr(C)]
+struct RawOutcome {
+    ledger: Ledger,
+    answer: u64,
+    number: u64,
+}
+
+#[repr(C)]
+struct RawVerdict {
+    answer: u64,
+    approach: u64,
+    protection: u64,
+    recoverable: bool,
+    number: u64,
+}
+
+#[repr(C)]
+struct RawWritten {
+    answer: u64,
+    number: u64,
+}
+
+/// A load or a clear is done, a group permits, or a refusal with its number.
+#[derive(Clone, Copy, PartialEq, Eq, Debug)]
+pub enum Reply {
+    Done,
+    Permit(u64),
+    Refuse(u64),
+}
+
+/// The desk's answer: what an acceptance names, the failing step, or a refusal with its number.
+#[derive(Clone, Copy, PartialEq, Eq, Debug)]
+pub enum Verdict {
+    Generation,
+    Policy { protection: u64, recoverable: bool },
+    Failed(&'static str),
+    Refused(u64),
+}
+
+/// The steps, numbered from 1.
+pub const STEPS: [&str; 21] = [
+    "WV1", "MSCV1", "MSCV2", "MSCV3", "MSCV4", "MSCV5", "WBCV1", "WBCV2", "WBCV3", "KGCV1", "KGCV2", "ACLV3", "WB1", "WB2",
+    "WB3", "WB6", "RB1", "RB2", "RB3", "KV3", "CSRL1",
+];
+
+extern "C" {
+    fn akubolinfe_fresh() -> Ledger;
+    fn akubolinfe_load(ledger: Ledger, time: u64) -> RawOutcome;
+    fn akubolinfe_clear(ledger: Ledger, counter: usize) -> RawOutcome;
+    fn akubolinfe_request(l: Ledger, k: *const u8, kn: usize, a: *const u8, an: usize, r: *const u8, rn: usize) -> RawOutcome;
+    fn akubolinfe_narrow(
+        l: Ledger, k: *const u8, kn: usize, a: *const u8, an: usize, r: *const u8, rn: usize, n: *const u8, nn: usize,
+        h: *const u8, hn: usize,
+    ) -> RawOutcome;
+    fn akubolinfe_expand(
+        l: Ledger, k: *const u8, kn: usize, a: *const u8, an: usize, r: *const u8, rn: usize, n: *const u8, nn: usize,
+    ) -> RawOutcome;
+    fn akubolinfe_desk(b: *const u8, bn: usize, a: *const u8, an: usize) -> RawVerdict;
+    fn akubolinfe_subject(c: u64, s: u64, h: *const u8, hn: usize, b: *mut u8, bn: usize) -> RawWritten;
+}
+
+// A slice's pointer; NULL where it is empty, as C programs pass it.
+fn ptr(s: &[u8]) -> *const u8 {
+    if s.is_empty() { std::ptr::null() } else { s.as_ptr() }
+}
+
+fn told(o: RawOutcome) -> (Ledger, Reply) {
+    let reply = match o.answer {
+        0 => Reply::Done,
+        1 => Reply::Permit(o.number),
+        _ => Reply::Refuse(o.number),
+    };
+    (o.ledger, reply)
+}
+
+impl Ledger {
+    /// The fresh ledger: all zero.
+    pub fn fresh() -> Ledger {
+        unsafe { akubolinfe_fresh() }
+    }
+
+    /// A load, at any time.
+    pub fn load(self, time: u64) -> (Ledger, Reply) {
+        told(unsafe { akubolinfe_load(self, time) })
+    }
+
+    /// A clear of one named counter.
+    pub fn clear(self, counter: usize) -> (Ledger, Reply) {
+        told(unsafe { akubolinfe_clear(self, counter) })
+    }
+
+    /// A request for a use or a blob.
+    pub fn request(self, km0: &[u8], acl: &[u8], req: &[u8]) -> (Ledger, Reply) {
+        told(unsafe { akubolinfe_request(self, ptr(km0), km0.len(), ptr(acl), acl.len(), ptr(req), req.len()) })
+    }
+
+    /// A narrowing; if it is permitted the new ACL is in force.
+    pub fn narrow(self, km0: &[u8], acl: &[u8], req: &[u8], new: &[u8], hints: &[u8]) -> (Ledger, Reply) {
+        told(unsafe {
+            akubolinfe_narrow(
+                self, ptr(km0), km0.len(), ptr(acl), acl.len(), ptr(req), req.len(), ptr(new), new.len(), ptr(hints),
+                hints.len(),
+            )
+        })
+    }
+
+    /// An expansion; if it is permitted the new ACL is in force.
+    pub fn expand(self, km0: &[u8], acl: &[u8], req: &[u8], new: &[u8]) -> (Ledger, Reply) {
+        told(unsafe {
+            akubolinfe_expand(self, ptr(km0), km0.len(), ptr(acl), acl.len(), ptr(req), req.len(), ptr(new), new.len())
+        })
+    }
+}
+
+/// The desk's verdict on a bundle and an ACL.
+pub fn assess(bundle: &[u8], acl: &[u8]) -> Verdict {
+    let v = unsafe { akubolinfe_desk(ptr(bundle), bundle.len(), ptr(acl), acl.len()) };
+    match (v.answer, v.approach) {
+        (1, 1) => Verdict::Generation,
+        (1, _) => Verdict::Policy { protection: v.protection, recoverable: v.recoverable },
+        (2, _) => Verdict::Failed(STEPS[v.number as usize - 1]),
+        _ => Verdict::Refused(v.number),
+    }
+}
+
+/// The subject of a world certificate, at the front of the buffer: its length, or a refusal's number.
+pub fn write_subject(certificate: u64, suite: u64, hashes: &[u8], buffer: &mut [u8]) -> Result<u64, u64> {
+    let b = if buffer.is_empty() { std::ptr::null_mut() } else { buffer.as_mut_ptr() };
+    let w = unsafe { akubolinfe_subject(certificate, suite, ptr(hashes), hashes.len(), b, buffer.len()) };
+    if w.answer == 1 { Ok(w.number) } else { Err(w.number) }
+}

@@ -1,0 +1,111 @@
+// Answers a replay script (docs/REPLAY.md) through the C surface, so that the linked library can be compared with the second
+// program: `second/compare` takes it in the place of the replay program.
+mod akubolinfe;
+
+use akubolinfe::{assess, write_subject, Ledger, Reply, Verdict};
+use std::io::{Read, Write};
+
+// The rest of a script.
+struct Script {
+    bytes: Vec<u8>,
+    at: usize,
+}
+
+impl Script {
+    fn take(&mut self, n: usize) -> Option<&[u8]> {
+        let from = self.at;
+        let to = from.checked_add(n).filter(|&t| t <= self.bytes.len())?;
+        self.at = to;
+        Some(&self.bytes[from..to])
+    }
+
+    fn number(&mut self) -> Option<u64> {
+        Some(u64::from_be_bytes(self.take(8)?.try_into().ok()?))
+    }
+
+    fn run(&mut self) -> Option<Vec<u8>> {
+        let n = u32::from_be_bytes(self.take(4)?.try_into().ok()?) as usize;
+        if n > 131_072 {
+            return None;
+        }
+        Some(self.take(n)?.to_vec())
+    }
+}
+
+fn table(name: &str, entries: &[u32]) -> String {
+    let mut s = format!(" {name}");
+    for (i, n) in entries.iter().enumerate().filter(|(_, n)| **n != 0) {
+        s += &format!(" {i}:{n}");
+    }
+    s
+}
+
+fn told(ledger: &mut Ledger, (after, reply): (Ledger, Reply)) -> String {
+    *ledger = after;
+    let r = match reply {
+        Reply::Done => "done".to_string(),
+        Reply::Permit(g) => format!("permit {g}"),
+        Reply::Refuse(n) => format!("refuse {n}"),
+    };
+    let tables = table("counts", &ledger.counts) + &table("counters", &ledger.counters);
+    format!("{r} load {} last {}{tables}", ledger.loaded, ledger.last)
+}
+
+fn verdict(v: Verdict) -> String {
+    match v {
+        Verdict::Generation => "accept 1".to_string(),
+        Verdict::Policy { protection, recoverable } => {
+            format!("accept 2 protection {protection} recoverable {}", if recoverable { "yes" } else { "no" })
+        }
+        Verdict::Failed(step) => format!("fail {step}"),
+        Verdict::Refused(n) => format!("refuse {n}"),
+    }
+}
+
+fn subject(s: &mut Script) -> Option<String> {
+    let (certificate, suite, hashes, mut buffer) = (s.number()?, s.number()?, s.run()?, s.run()?);
+    let w = write_subject(certificate, suite, &hashes, &mut buffer);
+    let hex: String = buffer.iter().map(|b| format!("{b:02x}")).collect();
+    Some(match w {
+        Ok(n) => format!("length {n} {hex}"),
+        Err(n) => format!("refuse {n} {hex}"),
+    })
+}
+
+// The answer to one call; none where the script cannot be read on.
+fn answer(letter: u8, s: &mut Script, ledger: &mut Ledger) -> Option<String> {
+    let l = *ledger;
+    let outcome = match letter {
+        b'F' => (Ledger::fresh(), Reply::Done),
+        b'L' => l.load(s.number()?),
+        b'C' => l.clear(s.number()? as usize),
+        b'R' => l.request(&s.run()?, &s.run()?, &s.run()?),
+        b'N' => l.narrow(&s.run()?, &s.run()?, &s.run()?, &s.run()?, &s.run()?),
+        b'X' => l.expand(&s.run()?, &s.run()?, &s.run()?, &s.run()?),
+        b'D' => return Some(verdict(assess(&s.run()?, &s.run()?))),
+        b'S' => return subject(s),
+        _ => return None,
+    };
+    Some(told(ledger, outcome))
+}
+
+fn main() -> std::io::Result<()> {
+    let mut s = Script { bytes: Vec::new(), at: 0 };
+    std::io::stdin().read_to_end(&mut s.bytes)?;
+    let mut out = std::io::BufWriter::new(std::io::stdout());
+    let mut ledger = Ledger::fresh();
+    let mut k = 0u64;
+    while s.at < s.bytes.len() {
+        k += 1;
+        let letter = s.bytes[s.at];
+        s.at += 1;
+        match answer(letter, &mut s, &mut ledger) {
+            Some(line) => writeln!(out, "{k} {line}")?,
+            None => {
+                writeln!(out, "{k} stop")?;
+                break;
+            }
+        }
+    }
+    out.flush()
+}
