@@ -96,13 +96,13 @@ fn whole_request(req: &[u8]) -> bool
 }
 
 // The first fault of a request file: its length, then its records.
-pub fn request_file(req: &[u8]) -> Checked
-    ensures { λ r. ⌜ faultOf r ≡ requestFileFault requestLaidOut (now (req .entry)) ⌝ }
+pub fn request_file(file: &[u8]) -> Checked
+    ensures { λ r. ⌜ faultOf r ≡ requestFileFault requestLaidOut (now (file .entry)) ⌝ }
 {
-    if !whole_request(req) {
+    if !whole_request(file) {
         return Checked::Refused(Refusal::BadLength);
     }
-    request_records(req)
+    request_records(file)
 }
 
 // The same, of a request that has to be a use of permission p.
