@@ -327,11 +327,10 @@ impl Carrying {
 }
 
 impl Ledger {
-    // A charged ledger with the counts that a narrowing leaves.
-    fn carried(self, place: usize, hints: &[u8]) -> Outcome
-        ensures { λ r. ⌜ outcomeOf r ≡ permitted place (recounted (ledgerOf self) (carriedFrom (self .counts) 0 (hintsOf (now (hints .entry))) (replicate groupsMax 0))) ⌝ }
+    // A charged ledger with the counts that a narrowing leaves: each new group takes its source's, of `counts`.
+    fn carried(self, counts: [u32; Ledger::GROUPS], place: usize, hints: &[u8]) -> Outcome
+        ensures { λ r. ⌜ outcomeOf r ≡ permitted place (recounted (ledgerOf self) (carriedFrom counts 0 (hintsOf (now (hints .entry))) (replicate groupsMax 0))) ⌝ }
     {
-        let counts = self.counts;
         let counters = self.counters;
         let table = Carrying::start(counts).carry_all(hints).table;
         Outcome {
@@ -413,7 +412,8 @@ impl Ledger {
         if !narrowing::shows_narrowing(acl, new, hints) {
             return self.refuse(Refusal::NotNarrower);
         }
-        charged.carried(place, hints)
+        let counts = charged.counts;
+        charged.carried(counts, place, hints)
     }
 
     // An expansion that the group at a place grants: charged, and every group count is zero.

@@ -27,7 +27,7 @@ carried-requires c κs = search needs
 
 returns-2 : tie.Need-returns-2
 returns-2 c =
-    let t = c .before in
+    let t = c .before .before in
     let s = t .before in
     let h = s .before .before in
     shown _ _ _ _ _ _ _ _ (s .shows-narrowing .ensures) _ (t .if1 .left) (h .before .before .before .before .before .pre .1) (permit-ledger _ _ _ (h .charge .ensures)) (c .carried .ensures)
