@@ -1,5 +1,7 @@
 // Answers a replay script (docs/REPLAY.md) through the C surface, so that the linked library can be compared with the second
-// program: `second/compare` takes it in the place of the replay program.
+// program: `second/compare` takes it in the place of the replay program. With `--cfg ordinary` it answers through the ordinary Rust
+// program of bench/ordinary instead.
+#[cfg_attr(ordinary, path = "../../bench/ordinary/mod.rs")]
 mod akubolinfe;
 
 use akubolinfe::{assess, write_subject, Ledger, Reply, Verdict};

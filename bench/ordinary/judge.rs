@@ -1,0 +1,108 @@
+//! Judging a request on an ACL: the lowest group that admits it, is certified and unspent, or how far the groups come.
+
+use super::files::{Refusal, Request};
+use super::record::*;
+use super::Ledger;
+
+// The null module key.
+const NULL_KEY: Hash = [1, 0, 0, 0, 0, 0, 0, 0, 0, 0, 0, 0, 0, 0, 0, 0, 0, 0, 0, 0];
+
+/// The group that grants, with the records that follow its first one.
+pub struct Grant<'a> {
+    pub place: usize,
+    pub body: &'a [Record],
+}
+
+/// The groups of an ACL: each one's first record, and the records that follow it up to the end of the file.
+pub fn groups(acl: &[Record]) -> impl Iterator<Item = (&Record, &[Record])> {
+    acl.iter().enumerate().filter(|(_, rec)| rec[0] == 1).map(|(i, rec)| (rec, &acl[i + 1..]))
+}
+
+/// The limits of a group, of the records that follow its first one.
+pub fn limits(body: &[Record]) -> impl Iterator<Item = &Record> {
+    body.iter().take_while(|rec| rec[0] == 2)
+}
+
+/// The actions of a group, of the records that follow its first one.
+pub fn actions(body: &[Record]) -> impl Iterator<Item = &Record> {
+    body.iter().skip_while(|rec| rec[0] == 2).take_while(|rec| rec[0] != 1)
+}
+
+// The module key of a blob: kmhash if present, and KM0 unless AllowNonKm0.
+fn admits_key(km0: &Hash, act: &Record, key: &Hash) -> bool {
+    optional_hash(act, 2, 4).is_none_or(|h| h == key) && (flag(act, 1) || key == km0)
+}
+
+// A direct blob: AllowKmOnly, neither kthash nor ktparams, never under the null key.
+fn admits_direct(act: &Record, key: &Hash) -> bool {
+    flag(act, 0) && !flag(act, 3) && !flag(act, 4) && *key != NULL_KEY
+}
+
+// A token's blob: kthash and ktparams if present; under the null key only with AllowNullKmToken.
+fn admits_token(act: &Record, key: &Hash, rec: &Record) -> bool {
+    optional_hash(act, 3, 24).is_none_or(|h| h == hash(rec, 24))
+        && (!flag(act, 4) || parameters(rec).within(parameters(act)))
+        && (*key != NULL_KEY || flag(act, 5))
+}
+
+fn admits_blob(km0: &Hash, act: &Record, rec: &Record) -> bool {
+    let key = hash(rec, 4);
+    admits_key(km0, act, key) && if flag(rec, 0) { admits_token(act, key, rec) } else { admits_direct(act, key) }
+}
+
+fn admits_archive(act: &Record, rec: &Record) -> bool {
+    be16(act, 24) == be16(rec, 24) && optional_hash(act, 0, 4).is_none_or(|h| h == hash(rec, 4))
+}
+
+// Whether an action admits what a request record asks for.
+fn action_admits(km0: &Hash, rec: &Record, act: &Record) -> bool {
+    match (rec[0], act[0]) {
+        (6, 3) => be16(act, 4) >> rec[4] & 1 == 1,
+        (7, 4) => admits_blob(km0, act, rec),
+        (8, 5) => admits_archive(act, rec),
+        _ => false,
+    }
+}
+
+// Whether a group has no certifier, or a presented certificate has its hash and, where named, its mechanism.
+fn is_certified(group: &Record, certificates: &[Record]) -> bool {
+    let Some(certifier) = optional_hash(group, 0, 4) else { return true };
+    let mechanism = optional_mechanism(group);
+    certificates.iter().any(|c| hash(c, 4) == certifier && mechanism.is_none_or(|m| m == be16(c, 24)))
+}
+
+// Whether a limit leaves room: of a group's own count, of a named counter that is not full, or of the seconds since load.
+fn limit_left(counters: &[u32; COUNTERS], own: u32, elapsed: u64, limit: &Record) -> bool {
+    let maximum = be32(limit, 8);
+    match limit[4] {
+        1 => own < maximum,
+        // Below a maximum of 32 bits a counter cannot be full.
+        2 => counters[usize::from(limit[5])] < maximum,
+        _ => elapsed < u64::from(maximum),
+    }
+}
+
+/// The group that grants a request. Else the clock went back, or the refusal says how far the nearest group came.
+pub fn judge<'a>(ledger: &Ledger, km0: &Hash, acl: &'a [Record], req: &Request) -> Result<Grant<'a>, Refusal> {
+    let time = req.time();
+    if time < ledger.loaded || time < ledger.last {
+        return Err(Refusal::ClockBack);
+    }
+    let elapsed = time - ledger.loaded;
+    let mut nearest = Refusal::NotAdmitted;
+    for (place, (group, body)) in groups(acl).enumerate() {
+        if !actions(body).any(|act| action_admits(km0, req.record, act)) {
+            continue;
+        }
+        if !is_certified(group, req.certificates) {
+            nearest = nearest.max(Refusal::NotCertified);
+            continue;
+        }
+        let own = ledger.counts[place];
+        if own < u32::MAX && limits(body).all(|l| limit_left(&ledger.counters, own, elapsed, l)) {
+            return Ok(Grant { place, body });
+        }
+        nearest = Refusal::Spent;
+    }
+    Err(nearest)
+}
