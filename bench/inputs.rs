@@ -1,0 +1,157 @@
+//! The files that are measured: records written field by field, small ones and the longest that the rules take.
+
+pub const SIGN: u8 = 4;
+pub const REDUCE_ACL: u8 = 2;
+pub const TIME: u64 = 1_000;
+
+const GROUPS: u8 = 16;
+const ACTIONS: u8 = 8;
+const CERTIFICATES: u8 = 32;
+const LISTED: u8 = 32;
+const NEVER_SPENT: u32 = u32::MAX;
+const MECHANISM: u8 = 7;
+
+type Record = [u8; 64];
+
+/// A hash of twenty bytes that no other number gives.
+pub fn hash(n: u8) -> [u8; 20] {
+    let mut h = [0x5a; 20];
+    h[19] = n;
+    h
+}
+
+pub fn km0() -> [u8; 20] {
+    hash(0)
+}
+
+fn record(kind: u8, flags: u8, parts: &[(usize, &[u8])]) -> Record {
+    let mut r = [0; 64];
+    r[0] = kind;
+    r[3] = flags;
+    for (at, bytes) in parts {
+        r[*at..*at + bytes.len()].copy_from_slice(bytes);
+    }
+    r
+}
+
+fn limit(sort: u8, counter: u8, maximum: u32) -> Record {
+    record(2, 0, &[(4, &[sort, counter]), (8, &maximum.to_be_bytes())])
+}
+
+fn permissions(bits: u16) -> Record {
+    record(3, 0, &[(4, &bits.to_be_bytes())])
+}
+
+// A working blob under module key `key`, with a token of the given hash and at least 2 of at most 5 shares.
+fn token_blob(key: u8, token: u8) -> Record {
+    record(4, 0b1_1100, &[(4, &hash(key)), (24, &hash(token)), (44, &[0, 1, 2, 5, 0, 0, 0, 60])])
+}
+
+fn recovery_blob(key: u8, mechanism: u8) -> Record {
+    record(5, 1, &[(4, &hash(key)), (24, &[0, mechanism])])
+}
+
+/// A group of four limits and eight actions, with a certifier that is presented last; `last` are the last action's permission bits, `maximum` the last
+/// limit's.
+fn full_group(g: u8, last: u16, maximum: u32) -> Vec<Record> {
+    let certifier = hash(100 + CERTIFICATES - 1);
+    let mut rows = vec![record(1, 3, &[(4, &certifier), (24, &[0, MECHANISM])])];
+    rows.push(limit(1, 0, NEVER_SPENT));
+    rows.push(limit(2, g, NEVER_SPENT));
+    rows.push(limit(2, 95 - g, NEVER_SPENT));
+    rows.push(limit(3, 0, maximum));
+    for a in 0..ACTIONS - 1 {
+        rows.push(if a % 2 == 0 { token_blob(6, 40 + a) } else { recovery_blob(7, 3) });
+    }
+    rows.push(permissions(last));
+    rows
+}
+
+fn file(rows: &[Record]) -> Vec<u8> {
+    rows.concat()
+}
+
+/// One group that permits Sign and ReduceACL.
+pub fn small_acl() -> Vec<u8> {
+    file(&[record(1, 0, &[]), permissions(1 << SIGN | 1 << REDUCE_ACL)])
+}
+
+/// Sixteen full groups; only the last action of the last group permits Sign and ReduceACL.
+pub fn granted_last() -> Vec<u8> {
+    let bits = |g| if g == GROUPS - 1 { 1 << SIGN | 1 << REDUCE_ACL } else { 1 };
+    file(&(0..GROUPS).flat_map(|g| full_group(g, bits(g), NEVER_SPENT)).collect::<Vec<_>>())
+}
+
+/// Sixteen full groups, each of which permits Sign by its last action and is spent by its last limit.
+pub fn all_spent() -> Vec<u8> {
+    file(&(0..GROUPS).flat_map(|g| full_group(g, 1 << SIGN, 0)).collect::<Vec<_>>())
+}
+
+/// A use of a permission, without certificates.
+pub fn small_request(permission: u8) -> Vec<u8> {
+    file(&[record(6, 0, &[(4, &[permission]), (56, &TIME.to_be_bytes())])])
+}
+
+/// A use of a permission with 32 certificates.
+pub fn full_request(permission: u8) -> Vec<u8> {
+    let mut req = small_request(permission);
+    for c in 0..CERTIFICATES {
+        req.extend(record(9, 0, &[(4, &hash(100 + c)), (24, &[0, MECHANISM])]));
+    }
+    req
+}
+
+/// A hint for each of `groups` groups: its own place, and each of its first `actions` actions by its own place.
+pub fn same_places(groups: u8, actions: u8) -> Vec<u8> {
+    let taken: Vec<u8> = (0..actions).collect();
+    file(&(0..groups).map(|g| record(13, 0, &[(4, &[g]), (8, &taken)])).collect::<Vec<_>>())
+}
+
+pub fn full_hints() -> Vec<u8> {
+    same_places(GROUPS, ACTIONS)
+}
+
+/// The ACL with one bit of its last action added: what makes the last test of a narrowing fail.
+pub fn widened(acl: &[u8]) -> Vec<u8> {
+    let mut new = acl.to_vec();
+    let last = new.len() - 64;
+    new[last + 5] |= 1 << 5;
+    new
+}
+
+/// A bundle that the desk accepts by approach 2, with every field and signature; `listed` module keys, the right one last.
+pub fn bundle(listed: u8) -> Vec<u8> {
+    let equal = |n| match n {
+        2 => 1,
+        5 => 4,
+        9 | 10 => 8,
+        other => other,
+    };
+    let mut rows: Vec<Record> = (1..=13).map(|n| record(10, 0, &[(4, &[n]), (8, &hash(equal(n)))])).collect();
+    rows.extend((1..=listed).map(|n| record(10, 0, &[(4, &[14]), (8, &hash(if n == listed { 6 } else { 200 + n }))])));
+    rows.extend((1..=6).map(|n| record(11, 0, &[(4, &[n, 1])])));
+    rows.push(record(12, 0, &[(4, &[4, 2, 7, 2])]));
+    file(&rows)
+}
+
+pub fn full_bundle() -> Vec<u8> {
+    bundle(LISTED)
+}
+
+/// The officer's group, which permits ExportAsPlain, then one that signs and makes blobs under a softcard.
+pub fn small_key() -> Vec<u8> {
+    let officer = record(1, 1, &[(4, &hash(4))]);
+    file(&[officer, permissions(1 << 10), record(1, 0, &[]), permissions(1 << SIGN), token_blob(6, 40), recovery_blob(7, 3)])
+}
+
+/// Sixteen full groups that the desk accepts: the officer's first, so that recovery blobs may be made.
+pub fn full_key() -> Vec<u8> {
+    let mut acl = granted_last();
+    acl[4..24].copy_from_slice(&hash(4));
+    acl
+}
+
+/// The hashes of the longest subject.
+pub fn four_hashes() -> Vec<u8> {
+    (1..=4).flat_map(hash).collect()
+}

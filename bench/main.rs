@@ -1,0 +1,199 @@
+//! Measures the proved library and the ordinary program on the same files, one after the other in the same run.
+//!
+//! For each case: ROUNDS rounds, in each of which both answer the same number of calls; the median round counts. Every answer of a case is
+//! compared at its end, so that both did the same work. Then the stack of each call of the library.
+mod inputs;
+mod ordinary;
+#[path = "../host/rust/akubolinfe.rs"]
+mod proved;
+mod stack;
+
+use inputs::{REDUCE_ACL, SIGN, TIME};
+use std::hint::black_box;
+use std::time::Instant;
+
+const ROUNDS: u32 = 20;
+
+/// The files of a call, each of any length; those that a call does not take are empty.
+#[derive(Default)]
+struct Files {
+    km0: Vec<u8>,
+    acl: Vec<u8>,
+    req: Vec<u8>,
+    new: Vec<u8>,
+    hints: Vec<u8>,
+    bundle: Vec<u8>,
+    hashes: Vec<u8>,
+}
+
+/// What is measured of one program: `n` calls of a kind, from a ledger on; the answer is the last reply and the ledger, as text.
+trait Side {
+    fn requests(&mut self, f: &Files, n: u32) -> String;
+    fn narrowings(&mut self, f: &Files, n: u32) -> String;
+    fn verdicts(&mut self, f: &Files, n: u32) -> String;
+    fn subjects(&mut self, f: &Files, n: u32) -> String;
+}
+
+// Both programs have the same names, so that what measures one measures the other.
+macro_rules! side {
+    ($name:ident, $program:ident) => {
+        struct $name($program::Ledger);
+
+        impl $name {
+            fn loaded() -> Self {
+                Self($program::Ledger::fresh().load(TIME).0)
+            }
+
+            fn repeat(&mut self, n: u32, call: impl Fn($program::Ledger) -> ($program::Ledger, $program::Reply)) -> String {
+                let mut reply = $program::Reply::Done;
+                for _ in 0..n {
+                    (self.0, reply) = call(black_box(self.0));
+                }
+                format!("{reply:?} {:?}", self.0)
+            }
+        }
+
+        impl Side for $name {
+            fn requests(&mut self, f: &Files, n: u32) -> String {
+                self.repeat(n, |l| l.request(black_box(&f.km0), black_box(&f.acl), black_box(&f.req)))
+            }
+
+            fn narrowings(&mut self, f: &Files, n: u32) -> String {
+                self.repeat(n, |l| {
+                    l.narrow(black_box(&f.km0), black_box(&f.acl), black_box(&f.req), black_box(&f.new), black_box(&f.hints))
+                })
+            }
+
+            fn verdicts(&mut self, f: &Files, n: u32) -> String {
+                let mut verdict = $program::Verdict::Refused(0);
+                for _ in 0..n {
+                    verdict = $program::assess(black_box(&f.bundle), black_box(&f.acl));
+                }
+                format!("{verdict:?}")
+            }
+
+            fn subjects(&mut self, f: &Files, n: u32) -> String {
+                let (mut buffer, mut written) = ([0u8; 137], Ok(0));
+                for _ in 0..n {
+                    written = $program::write_subject(black_box(4), black_box(4), black_box(&f.hashes), black_box(&mut buffer));
+                }
+                format!("{written:?} {buffer:?}")
+            }
+        }
+    };
+}
+
+side!(Proved, proved);
+side!(Ordinary, ordinary);
+
+type Call = fn(&mut dyn Side, &Files, u32) -> String;
+
+struct Case {
+    name: &'static str,
+    calls: u32,
+    expected: &'static str,
+    call: Call,
+    files: Files,
+}
+
+fn asked(acl: Vec<u8>, req: Vec<u8>) -> Files {
+    Files { km0: inputs::km0().to_vec(), acl, req, ..Files::default() }
+}
+
+fn replaced(acl: Vec<u8>, req: Vec<u8>, new: Vec<u8>, hints: Vec<u8>) -> Files {
+    Files { new, hints, ..asked(acl, req) }
+}
+
+fn judged(bundle: Vec<u8>, acl: Vec<u8>) -> Files {
+    Files { bundle, acl, ..Files::default() }
+}
+
+fn request_cases() -> Vec<Case> {
+    let call: Call = |s, f, n| s.requests(f, n);
+    let case = |name, expected, files| Case { name, calls: 1_000_000, expected, call, files };
+    vec![
+        case("Sign, 1 group: permit", "Permit(0)", asked(inputs::small_acl(), inputs::small_request(SIGN))),
+        case("Sign, 16 full groups, the last permits", "Permit(15)", asked(inputs::granted_last(), inputs::full_request(SIGN))),
+        case("Sign, 16 full groups, all spent: 7", "Refuse(7)", asked(inputs::all_spent(), inputs::full_request(SIGN))),
+    ]
+}
+
+fn narrowing_cases() -> Vec<Case> {
+    let call: Call = |s, f, n| s.narrowings(f, n);
+    let case = |name, calls, expected, files| Case { name, calls, expected, call, files };
+    let (small, full) = (inputs::small_acl(), inputs::granted_last());
+    let (small_req, full_req) = (inputs::small_request(REDUCE_ACL), inputs::full_request(REDUCE_ACL));
+    let shown = replaced(full.clone(), full_req.clone(), full.clone(), inputs::full_hints());
+    let wider = replaced(full.clone(), full_req, inputs::widened(&full), inputs::full_hints());
+    vec![
+        case("narrowing, 1 group", 1_000_000, "Permit(0)", replaced(small.clone(), small_req, small, inputs::same_places(1, 1))),
+        case("narrowing, 16 full groups", 400_000, "Permit(15)", shown),
+        case("narrowing, 16 full groups, wider at the end: 8", 400_000, "Refuse(8)", wider),
+    ]
+}
+
+fn desk_cases() -> Vec<Case> {
+    let call: Call = |s, f, n| s.verdicts(f, n);
+    let case = |name, expected, files| Case { name, calls: 1_000_000, expected, call, files };
+    vec![
+        case("verdict, 2 groups", "Policy { protection: 2", judged(inputs::bundle(1), inputs::small_key())),
+        case("verdict, full bundle, 16 full groups", "Policy { protection: 2", judged(inputs::full_bundle(), inputs::full_key())),
+    ]
+}
+
+fn subject_case() -> Case {
+    let files = Files { hashes: inputs::four_hashes(), ..Files::default() };
+    Case { name: "subject, certificate 4, suite 4", calls: 1_000_000, expected: "Ok(137)", call: |s, f, n| s.subjects(f, n), files }
+}
+
+// Nanoseconds per call of one round.
+fn round(side: &mut dyn Side, case: &Case) -> (f64, String) {
+    let n = case.calls / ROUNDS;
+    let began = Instant::now();
+    let answer = (case.call)(side, &case.files, n);
+    (began.elapsed().as_nanos() as f64 / f64::from(n), answer)
+}
+
+fn median(mut times: Vec<f64>) -> f64 {
+    times.sort_by(f64::total_cmp);
+    times[times.len() / 2]
+}
+
+// Measures a case and prints its line; the ratio.
+fn measure(case: &Case) -> f64 {
+    let (mut proved, mut ordinary) = (Proved::loaded(), Ordinary::loaded());
+    let (mut of_proved, mut of_ordinary) = (Vec::new(), Vec::new());
+    for _ in 0..ROUNDS {
+        let (p, answer) = round(&mut proved, case);
+        let (o, same) = round(&mut ordinary, case);
+        assert_eq!(answer, same, "{}", case.name);
+        assert!(answer.starts_with(case.expected), "{}: {answer}", case.name);
+        of_proved.push(p);
+        of_ordinary.push(o);
+    }
+    let (p, o) = (median(of_proved), median(of_ordinary));
+    println!("{:<48} {p:>9.0} {o:>9.0} {:>7.2}", case.name, p / o);
+    p / o
+}
+
+fn load() -> String {
+    let text = std::fs::read_to_string("/proc/loadavg").unwrap_or_default();
+    text.split(' ').take(3).collect::<Vec<_>>().join(" ")
+}
+
+fn measure_stack(cases: &[Case]) {
+    println!("\nstack of a call of the library, in bytes, with the caller's frames (under 4,096: counted as 4,096)");
+    for case in cases {
+        let deep = stack::depth(|| drop((case.call)(&mut Proved::loaded(), &case.files, 1)));
+        println!("{:<48} {deep:>9}", case.name);
+    }
+}
+
+fn main() {
+    let cases: Vec<Case> = request_cases().into_iter().chain(narrowing_cases()).chain(desk_cases()).chain([subject_case()]).collect();
+    println!("load average before: {}; files stay in memory, no buffer is cleared between calls", load());
+    println!("{:<48} {:>9} {:>9} {:>7}", "ns per call, median of 20 rounds", "proved", "ordinary", "ratio");
+    let worst = cases.iter().map(measure).fold(0.0, f64::max);
+    println!("largest ratio {worst:.2}; load average after: {}", load());
+    measure_stack(&cases);
+}
