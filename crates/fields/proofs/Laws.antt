@@ -21,6 +21,18 @@ same-at : (a b : Bytes) (i : ℕ) → i < length a → i < length b → same (dr
 unfolding same
 same-at a b i h k = rw (add-one, drop-cons a i 0, drop-cons b i 0)
 
+and-false : (a : Bool) → (a && false) ≡ false
+and-false true = refl
+and-false false = refl
+
+and-true : (a : Bool) → (a && true) ≡ a
+and-true true = refl
+and-true false = refl
+
+and-assoc : (a b c : Bool) → ((a && b) && c) ≡ (a && (b && c))
+and-assoc true b c = refl
+and-assoc false b c = refl
+
 -- The turns of a loop that tests byte by byte: what is left has the whole's answer.
 module _ (s : Bytes) (i : ℕ) (inv : allZero (drop i s) ≡ allZero s) where
   pub zero-stop : i < length s → (getD s i 0 ≡ 0 → ⊥) → false ≡ allZero s
@@ -33,20 +45,14 @@ module _ (s : Bytes) (i : ℕ) (inv : allZero (drop i s) ≡ allZero s) where
   unfolding allZero
   zero-done h = rw (drop-of-length-le s {i = i} h) at inv
 
-module _ (a b : Bytes) (i : ℕ) (inv : same (drop i a) (drop i b) ≡ same a b) (e : length a ≡ length b) where
-  pub same-stop : i < length a → (getD a i 0 ≡ getD b i 0 → ⊥) → false ≡ same a b
-  same-stop h n = sym (sym inv ∙ same-at a b i h (omega arith) ∙ rw (ne-eqb _ _ n))
+-- The turns of a loop that joins the answers of all bytes: so far, and what is left.
+module _ (a b : Bytes) (i : ℕ) (r : Bool) (inv : (r && same (drop i a) (drop i b)) ≡ same a b) (e : length a ≡ length b) where
+  pub same-next : i < length a → ((r && eqb (getD a i 0) (getD b i 0)) && same (drop (i + 1) a) (drop (i + 1) b)) ≡ same a b
+  same-next h = and-assoc r _ _ ∙ ap (λ (t : Bool). r && t) (sym (same-at a b i h (omega arith))) ∙ inv
 
-  pub same-next : i < length a → getD a i 0 ≡ getD b i 0 → same (drop (i + 1) a) (drop (i + 1) b) ≡ same a b
-  same-next h n = sym (same-at a b i h (omega arith) ∙ rw (eq-eqb _ _ n)) ∙ inv
-
-  pub same-done : length a ≤ i → true ≡ same a b
+  pub same-done : length a ≤ i → r ≡ same a b
   unfolding same
-  same-done h = rw (drop-of-length-le a {i = i} h, drop-of-length-le b {i = i} (omega arith)) at inv
-
-and-false : (a : Bool) → (a && false) ≡ false
-and-false true = refl
-and-false false = refl
+  same-done h = sym (and-true r) ∙ (rw (drop-of-length-le a {i = i} h, drop-of-length-le b {i = i} (omega arith)) at inv)
 
 pub same-length : (a b : Bytes) → (length a ≡ length b → ⊥) → false ≡ same a b
 unfolding same

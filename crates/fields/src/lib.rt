@@ -6,21 +6,21 @@ ghost use lib.ListN.{length};
 ghost use Rattle.rules.specs.Basics.{allZero, same, bit, within, number, blank, flag};
 ghost use Rattle.rules.specs.Layout.{tokenParametersAt};
 
-// Whether two runs of bytes are the same, their lengths too.
+// Whether two runs of bytes are the same, their lengths too. It goes on after the first difference: a loop that never stops early becomes a few
+// wide comparisons.
 pub fn same_bytes(a: &[u8], b: &[u8]) -> bool
     ensures { λ r. ⌜ r ≡ same (now (a .entry)) (now (b .entry)) ⌝ }
 {
     if a.len() != b.len() {
         return false;
     }
+    let mut so_far = true;
     let mut i = 0;
     while i < a.len() {
-        if a[i] != b[i] {
-            return false;
-        }
+        so_far = so_far & (a[i] == b[i]);
         i += 1;
     }
-    true
+    so_far
 }
 
 // Whether every byte is zero.

@@ -1,17 +1,18 @@
 use Prim.Native.Nat.{_≤_, _-_}
 use mathlib.Core.Path.{_≡_, refl}
+use mathlib.Core.Bool.{_&&_}
 use lib.ListN.{length, drop}
 use Rattle.rules.specs.Basics.{same}
-use Rattle.fields.proofs.Laws.{same-length, same-stop, same-next, same-done}
+use Rattle.fields.proofs.Laws.{same-length, same-next, same-done}
 use borrow.Author.Needs.{needs}
 use Rattle.fields.proofs.same_bytes.Statement.{statement}
 use Rattle.fields.proofs.same_bytes.Tie as tie
 
 abbrev Inv-loop : tie.InvT-loop
-Inv-loop a b i₀ i = (i ≤ length a) × (same (drop i a) (drop i b) ≡ same a b)
+Inv-loop a b r₀ i₀ r i = (i ≤ length a) × ((r && same (drop i a) (drop i b)) ≡ same a b)
 
 abbrev μ-loop : tie.MeasureT-loop
-μ-loop a b i₀ i = length a - i
+μ-loop a b r₀ i₀ r i = length a - i
 
 returns : tie.Need-returns Inv-loop μ-loop
 returns c = search (needs, same-length)
@@ -19,14 +20,11 @@ returns c = search (needs, same-length)
 loop-holds : tie.Need-loop-holds Inv-loop μ-loop
 loop-holds c = (search needs, refl)
 
-shared-slice-read-if2 : tie.Need-shared-slice-read-if2 Inv-loop μ-loop
-shared-slice-read-if2 c = search needs
+shared-slice-read-so-far : tie.Need-shared-slice-read-so-far Inv-loop μ-loop
+shared-slice-read-so-far c = search needs
 
-shared-slice-read-if2-2 : tie.Need-shared-slice-read-if2-2 Inv-loop μ-loop
-shared-slice-read-if2-2 c = search needs
-
-returns-2 : tie.Need-returns-2 Inv-loop μ-loop
-returns-2 c = search (needs, same-stop)
+shared-slice-read-so-far-2 : tie.Need-shared-slice-read-so-far-2 Inv-loop μ-loop
+shared-slice-read-so-far-2 c = search needs
 
 add-i : tie.Need-add-i Inv-loop μ-loop
 add-i c = search needs
@@ -37,8 +35,8 @@ loop-less c = search needs
 loop-again : tie.Need-loop-again Inv-loop μ-loop
 loop-again c = (search needs, search (needs, same-next))
 
-returns-3 : tie.Need-returns-3 Inv-loop μ-loop
-returns-3 c = search (needs, same-done)
+returns-2 : tie.Need-returns-2 Inv-loop μ-loop
+returns-2 c = search (needs, same-done)
 
 pub same-bytes-spec : {M : Type 1} → statement M
 same-bytes-spec =
@@ -48,10 +46,9 @@ same-bytes-spec =
     μ-loop
     returns
     loop-holds
-    shared-slice-read-if2
-    shared-slice-read-if2-2
-    returns-2
+    shared-slice-read-so-far
+    shared-slice-read-so-far-2
     add-i
     loop-less
     loop-again
-    returns-3)
+    returns-2)
