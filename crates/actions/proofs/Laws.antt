@@ -12,10 +12,10 @@ use lib.Seq.{length-take-le, take-take}
 use lib.Dec.{eqb}
 use Rattle.rules.specs.Basics.{if_then_else_, Bytes, implies, bit, allBelow, part, number, kind, flag, optional, present, bothSame, unless, firstFault}
 use Rattle.rules.specs.Acl.{blobRuleOf, archiveRuleOf, parametersAt, Action, permissions, makeBlob, makeArchive, actionOf}
-use Rattle.rules.specs.Bundle.{Policy, policyOf}
+use Rattle.rules.specs.Bundle.{Policy}
 use Rattle.rules.specs.Suites.{suiteMechanism}
 use Rattle.rules.specs.Numbers.{notKept}
-use Rattle.rules.specs.Desk.{Step, ACLV3, WB1, WB2, WB3, WB6, moduleKey, permissionsFailure, blobFailure, isMechanism, actionProtection, softParameters, isArchive}
+use Rattle.rules.specs.Desk.{Step, ACLV3, WB1, WB2, WB3, WB6, permissionsFailure, blobFailure, isMechanism, actionProtection, softParameters, isArchive}
 use Rattle.rules.proofs.Laws.{and-left, and-right, and-both, allBelow-at, not-both, decided}
 use Rattle.subject.specs.Writing.{mechanismIn}
 use Rattle.evidence.specs.Given.{given}
@@ -49,14 +49,14 @@ unfolding allBelow
 below-none p = refl
 
 -- ACLV3
-module _ (b : List Bytes) (p : Policy) (bits n : ℕ) (r : Bool) (e : p ≡ policyOf b) (f : bits ≡ n) (is : r ≡ allBelow 16 (admittedBit p bits)) where
-  pub permissions-fail : not r ≡ true → some ACLV3 ≡ permissionsFailure b n
+module _ (p : Policy) (bits n : ℕ) (r : Bool) (f : bits ≡ n) (is : r ≡ allBelow 16 (admittedBit p bits)) where
+  pub permissions-fail : not r ≡ true → some ACLV3 ≡ permissionsFailure p n
   unfolding admittedBit
-  permissions-fail h = let q : allBelow 16 (admittedBit (policyOf b) n) ≡ false = rw (← e, ← f) (sym is ∙ not-true r h) in rw q
+  permissions-fail h = let q : allBelow 16 (admittedBit p n) ≡ false = rw (← f) (sym is ∙ not-true r h) in rw q
 
-  pub permissions-pass : not r ≡ false → none ≡ permissionsFailure b n
+  pub permissions-pass : not r ≡ false → none ≡ permissionsFailure p n
   unfolding admittedBit
-  permissions-pass h = let q : allBelow 16 (admittedBit (policyOf b) n) ≡ true = rw (← e, ← f) (sym is ∙ not-false r h) in rw q
+  permissions-pass h = let q : allBelow 16 (admittedBit p n) ≡ true = rw (← f) (sym is ∙ not-false r h) in rw q
 
 -- A hash that a flag announces.
 pub present-optional : {A : Type 0} (t : Bool) (a : A) → present (optional t a) ≡ t
@@ -74,10 +74,10 @@ module _ (off : ℕ) (rec : Bytes) (r t : Bool) (is : r ≡ t) where
   hash-absent e = rw (← is, e)
 
 -- WB1 to WB6, by the flags
-pub by-flags : (b : List Bytes) (rec : Bytes) (x : Option Step)
-    → x ≡ firstFault (unless (flag 0 rec || flag 3 rec) WB1 ∷ unless (bothSame (moduleKey b) (optional (flag 2 rec) (part 4 20 rec))) WB2 ∷ unless (not (flag 5 rec)) WB3 ∷ unless (implies (flag 3 rec) (flag 4 rec)) WB6 ∷ [])
-    → x ≡ blobFailure b (blobRuleOf rec)
-by-flags b rec x e = rw (present-optional (flag 3 rec) (part 24 20 rec), present-optional (flag 4 rec) (parametersAt 44 rec)) e
+pub by-flags : (hkm : Option Bytes) (rec : Bytes) (x : Option Step)
+    → x ≡ firstFault (unless (flag 0 rec || flag 3 rec) WB1 ∷ unless (bothSame hkm (optional (flag 2 rec) (part 4 20 rec))) WB2 ∷ unless (not (flag 5 rec)) WB3 ∷ unless (implies (flag 3 rec) (flag 4 rec)) WB6 ∷ [])
+    → x ≡ blobFailure hkm (blobRuleOf rec)
+by-flags hkm rec x e = rw (present-optional (flag 3 rec) (part 24 20 rec), present-optional (flag 4 rec) (parametersAt 44 rec)) e
 
 -- `if f(..) { return .. }`, of a test that has to fail
 module _ {F : Type 0} (f : F) (ts : List (Option F)) (x : Option F) (r t : Bool) (e : r ≡ t) where
@@ -94,8 +94,8 @@ pub called : (due m : ℕ) (o : Option ℕ) → mechanismIn due ≡ o → (not (
 called zero m o e = rw (← e)
 called (suc n) m o e = rw (← e, ne-eqb (suc n) 0 (λ z. omega arith))
 
-pub called-under : (p q : Policy) (due m n : ℕ) → p ≡ q → mechanismIn due ≡ suiteMechanism (p .suite) → m ≡ n → (not (eqb due 0) && eqb due m) ≡ isMechanism (suiteMechanism (q .suite)) n
-called-under p q due m n e f g = rw (← g) (called due m (suiteMechanism (q .suite)) (f ∙ ap (λ (z : Policy). suiteMechanism (z .suite)) e))
+pub called-under : (suite due m n : ℕ) → mechanismIn due ≡ suiteMechanism suite → m ≡ n → (not (eqb due 0) && eqb due m) ≡ isMechanism (suiteMechanism suite) n
+called-under suite due m n f g = rw (← g) (called due m (suiteMechanism suite) f)
 
 -- What is made of an action, by the kind of its record.
 pub by-kind : {A : Type 0} (f : Action → A) (r : Bytes) (x : A)

@@ -4,11 +4,10 @@ ghost use mathlib.Core.Path.{_≡_};
 ghost use Prim.Native.Nat.{_+_, _≤_, _<_};
 ghost use lib.ListN.{length};
 ghost use Rattle.rules.specs.Sizes.{recordBytes, hashBytes};
-ghost use Rattle.rules.specs.Basics.{allBelow, bothSame, part, number, flag, optional, records};
+ghost use Rattle.rules.specs.Basics.{allBelow, bothSame, part, number, flag, optional};
 ghost use Rattle.rules.specs.Acl.{blobRuleOf, archiveRuleOf, makeBlob, actionOf};
 ghost use Rattle.rules.specs.Suites.{suiteMechanism};
-ghost use Rattle.rules.specs.Bundle.{policyOf};
-ghost use Rattle.rules.specs.Desk.{classOf, policyAdmits, permissionsFailure, blobFailure, moduleKey, recoveryKey, isMechanism, archiveFailure, actionFailure, actionProtection, isArchive};
+ghost use Rattle.rules.specs.Desk.{classOf, policyAdmits, permissionsFailure, blobFailure, isMechanism, archiveFailure, failureUnder, actionProtection, isArchive};
 ghost use Rattle.facts.specs.Found.{policyAs};
 ghost use Rattle.evidence.specs.Given.{given};
 ghost use Rattle.steps.specs.Steps.{failureOf};
@@ -109,11 +108,10 @@ pub fn optional_hash(f: u16, off: usize, rec: &[u8]) -> &[u8]
 }
 
 // OpPermissions: no permission that is forbidden, or that the policy lacks.
-fn permission_step(bundle: &[u8], rec: &[u8]) -> Failure
+fn permission_step(policy: Policy, rec: &[u8]) -> Failure
     requires { ⌜ length (now rec) ≡ recordBytes ⌝ }
-    ensures { λ r. ⌜ failureOf r ≡ permissionsFailure (records (now (bundle .entry))) (number 4 2 (now (rec .entry))) ⌝ }
+    ensures { λ r. ⌜ failureOf r ≡ permissionsFailure (policyAs policy) (number 4 2 (now (rec .entry))) ⌝ }
 {
-    let policy = facts::policy_of(bundle);
     if !bits_admitted(policy, fields::be16(rec, 4)) {
         return Failure::At(Step::ACLV3);
     }
@@ -121,23 +119,23 @@ fn permission_step(bundle: &[u8], rec: &[u8]) -> Failure
 }
 
 // Whether a MakeBlob action names the trusted module key.
-fn under_module_key(bundle: &[u8], rec: &[u8]) -> bool
+fn under_module_key(hkm: &[u8], rec: &[u8]) -> bool
     requires { ⌜ length (now rec) ≡ recordBytes ⌝ }
-    ensures { λ r. ⌜ r ≡ bothSame (moduleKey (records (now (bundle .entry)))) (blobRuleOf (now (rec .entry)) .kmhash) ⌝ }
+    ensures { λ r. ⌜ r ≡ bothSame (given (now (hkm .entry))) (blobRuleOf (now (rec .entry)) .kmhash) ⌝ }
 {
     let hash = optional_hash(2, 4, rec);
-    evidence::both_same(evidence::module_key(bundle), hash)
+    evidence::both_same(hkm, hash)
 }
 
 // MakeBlob: protected by the module or a token, under the trusted module key, never the null key, and a token with its parameters.
-fn blob_steps(bundle: &[u8], rec: &[u8]) -> Failure
+fn blob_steps(hkm: &[u8], rec: &[u8]) -> Failure
     requires { ⌜ length (now rec) ≡ recordBytes ⌝ }
-    ensures { λ r. ⌜ failureOf r ≡ blobFailure (records (now (bundle .entry))) (blobRuleOf (now (rec .entry))) ⌝ }
+    ensures { λ r. ⌜ failureOf r ≡ blobFailure (given (now (hkm .entry))) (blobRuleOf (now (rec .entry))) ⌝ }
 {
     if !(fields::flag_of(0, rec) | fields::flag_of(3, rec)) {
         return Failure::At(Step::WB1);
     }
-    if !under_module_key(bundle, rec) {
+    if !under_module_key(hkm, rec) {
         return Failure::At(Step::WB2);
     }
     if fields::flag_of(5, rec) {
@@ -150,54 +148,53 @@ fn blob_steps(bundle: &[u8], rec: &[u8]) -> Failure
 }
 
 // Whether an archive action's mechanism is the one that the policy's suite calls for.
-fn called_for(bundle: &[u8], rec: &[u8]) -> bool
+fn called_for(policy: Policy, rec: &[u8]) -> bool
     requires { ⌜ length (now rec) ≡ recordBytes ⌝ }
-    ensures { λ r. ⌜ r ≡ isMechanism (suiteMechanism (policyOf (records (now (bundle .entry))) .suite)) (number 24 2 (now (rec .entry))) ⌝ }
+    ensures { λ r. ⌜ r ≡ isMechanism (suiteMechanism (policyAs policy .suite)) (number 24 2 (now (rec .entry))) ⌝ }
 {
-    let policy = facts::policy_of(bundle);
     let due = subject::recovery_mechanism(policy.suite as u64);
     (due != 0) & (due == fields::be16(rec, 24))
 }
 
 // Whether a MakeArchiveBlob action names the trusted recovery key.
-fn under_recovery_key(bundle: &[u8], rec: &[u8]) -> bool
+fn under_recovery_key(hkre: &[u8], rec: &[u8]) -> bool
     requires { ⌜ length (now rec) ≡ recordBytes ⌝ }
-    ensures { λ r. ⌜ r ≡ bothSame (recoveryKey (records (now (bundle .entry)))) (archiveRuleOf (now (rec .entry)) .kahash) ⌝ }
+    ensures { λ r. ⌜ r ≡ bothSame (given (now (hkre .entry))) (archiveRuleOf (now (rec .entry)) .kahash) ⌝ }
 {
     let hash = optional_hash(0, 4, rec);
-    evidence::both_same(evidence::recovery_key(bundle), hash)
+    evidence::both_same(hkre, hash)
 }
 
 // MakeArchiveBlob: under the trusted recovery key, by the suite's mechanism.
-fn archive_steps(bundle: &[u8], rec: &[u8]) -> Failure
+fn archive_steps(policy: Policy, hkre: &[u8], rec: &[u8]) -> Failure
     requires { ⌜ length (now rec) ≡ recordBytes ⌝ }
-    ensures { λ r. ⌜ failureOf r ≡ archiveFailure (records (now (bundle .entry))) (archiveRuleOf (now (rec .entry))) ⌝ }
+    ensures { λ r. ⌜ failureOf r ≡ archiveFailure (policyAs policy) (given (now (hkre .entry))) (archiveRuleOf (now (rec .entry))) ⌝ }
 {
-    if !evidence::is_there(evidence::recovery_key(bundle)) {
+    if !evidence::is_there(hkre) {
         return Failure::At(Step::RB1);
     }
-    if !under_recovery_key(bundle, rec) {
+    if !under_recovery_key(hkre, rec) {
         return Failure::At(Step::RB2);
     }
-    if !called_for(bundle, rec) {
+    if !called_for(policy, rec) {
         return Failure::At(Step::RB3);
     }
     Failure::Nothing
 }
 
-// The first step that an action fails.
-pub fn action_steps(bundle: &[u8], rec: &[u8]) -> Failure
+// The first step that an action fails, under a policy and the keys that are trusted; an empty part for one that is not.
+pub fn action_steps(policy: Policy, hkm: &[u8], hkre: &[u8], rec: &[u8]) -> Failure
     requires { ⌜ length (now rec) ≡ recordBytes ⌝ }
-    ensures { λ r. ⌜ failureOf r ≡ actionFailure (records (now (bundle .entry))) (actionOf (now (rec .entry))) ⌝ }
+    ensures { λ r. ⌜ failureOf r ≡ failureUnder (policyAs policy) (given (now (hkm .entry))) (given (now (hkre .entry))) (actionOf (now (rec .entry))) ⌝ }
 {
     let kind = rec[0];
     if kind == 3 {
-        return permission_step(bundle, rec);
+        return permission_step(policy, rec);
     }
     if kind == 4 {
-        return blob_steps(bundle, rec);
+        return blob_steps(hkm, rec);
     }
-    archive_steps(bundle, rec)
+    archive_steps(policy, hkre, rec)
 }
 
 // The protection of a MakeBlob action.

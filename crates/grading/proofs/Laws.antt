@@ -11,11 +11,11 @@ use lib.Dec.{eqb}
 use Rattle.rules.specs.Numbers.{notKept}
 use Rattle.rules.specs.Basics.{if_then_else_, Bytes, any, part, kind, flag, optional, present, bothSame, orNext, firstFault, records}
 use Rattle.rules.specs.Acl.{Action, permissions, makeBlob, makeArchive, actionOf, actionsOf, Group, groupOf, groupsOf}
-use Rattle.rules.specs.Bundle.{field}
-use Rattle.rules.specs.Desk.{Step, actionFailure, officersGroup, groupFailure, aclFailure, actionProtection, softParameters, smallest, isArchive, keyProtection, recoverableKey}
+use Rattle.rules.specs.Bundle.{field, Policy, policyOf}
+use Rattle.rules.specs.Desk.{Step, moduleKey, recoveryKey, failureUnder, officersGroup, groupFailure, aclFailure, actionProtection, softParameters, smallest, isArchive, keyProtection, recoverableKey}
 use Rattle.rules.proofs.Rows.{recordsFrom, rows-start, rows-lent, rows-end, lentRecord, lent-record, lentRest, rows-rest, kind-at}
 use Rattle.groups.specs.Parts.{NextAction}
-use Rattle.grading.specs.Groups.{actionsFailure, groupAt}
+use Rattle.grading.specs.Groups.{actionsFailure, Under, groupAt}
 
 -- Where a loop over a group's actions stands: a record that is left there is an action.
 pub record Standing (s : Bytes) (at : ℕ) : Type 0 where
@@ -51,22 +51,22 @@ unfolding actionsFrom actionsOf
 actions-end s at h = ap actionsOf (rows-end s at h)
 
 -- The first step that an action fails.
-module _ (b : List Bytes) (s : Bytes) (at : ℕ) (x : Option Step) (inv : actionsFailure b (actionsFrom s at) ≡ x) where
-  failure-step : Standing s at → 64 ≤ length s - at → orNext (actionFailure b (actionOf (lentRecord s at))) (actionsFailure b (actionsFrom s (at + 64))) ≡ x
+module _ (policy : Policy) (hkm hkre : Option Bytes) (s : Bytes) (at : ℕ) (x : Option Step) (inv : actionsFailure policy hkm hkre (actionsFrom s at) ≡ x) where
+  failure-step : Standing s at → 64 ≤ length s - at → orNext (failureUnder policy hkm hkre (actionOf (lentRecord s at))) (actionsFailure policy hkm hkre (actionsFrom s (at + 64))) ≡ x
   unfolding actionsFailure firstFault
-  failure-step st h = sym (ap (actionsFailure b) (actions-at s at st h)) ∙ inv
+  failure-step st h = sym (ap (actionsFailure policy hkm hkre) (actions-at s at st h)) ∙ inv
 
-  pub failure-stop : (f : Option Step) (t : Bool) → Standing s at → 64 ≤ length s - at → f ≡ actionFailure b (actionOf (lentRecord s at)) → t ≡ present f → t ≡ true → f ≡ x
+  pub failure-stop : (f : Option Step) (t : Bool) → Standing s at → 64 ≤ length s - at → f ≡ failureUnder policy hkm hkre (actionOf (lentRecord s at)) → t ≡ present f → t ≡ true → f ≡ x
   failure-stop none t st h e p y = absurd (false≢true (sym p ∙ y))
   failure-stop (some f) t st h e p y = rw (← e) at (failure-step st h)
 
-  pub failure-next : (f : Option Step) (t : Bool) (r : ℕ) → Standing s at → 64 ≤ length s - at → f ≡ actionFailure b (actionOf (lentRecord s at)) → t ≡ present f → t ≡ false → NextAction s (at + 64) r → actionsFailure b (actionsFrom s r) ≡ x
-  failure-next none t r st h e p y n = ap (actionsFailure b) (actions-after s (at + 64) r n) ∙ rw (← e) at (failure-step st h)
+  pub failure-next : (f : Option Step) (t : Bool) (r : ℕ) → Standing s at → 64 ≤ length s - at → f ≡ failureUnder policy hkm hkre (actionOf (lentRecord s at)) → t ≡ present f → t ≡ false → NextAction s (at + 64) r → actionsFailure policy hkm hkre (actionsFrom s r) ≡ x
+  failure-next none t r st h e p y n = ap (actionsFailure policy hkm hkre) (actions-after s (at + 64) r n) ∙ rw (← e) at (failure-step st h)
   failure-next (some f) t r st h e p y n = absurd (false≢true (sym y ∙ p))
 
   pub failure-done : length s - at < 64 → none ≡ x
   unfolding actionsFailure firstFault
-  failure-done h = sym (ap (actionsFailure b) (actions-end s at h)) ∙ inv
+  failure-done h = sym (ap (actionsFailure policy hkm hkre) (actions-end s at h)) ∙ inv
 
 -- No protection is over 4, "not kept".
 action-most : (a : Action) → actionProtection a ≤ notKept
@@ -279,9 +279,11 @@ module _ (b : List Bytes) (head : Bytes) (rest : List Bytes) where
     unfolding recoverableKey any
     recovery-officer y = rw (begun-one one, sym is ∙ y)
 
-    pub failure-checked : (x : Option Step) → t ≡ false → x ≡ actionsFailure b (actionsOf rest) → x ≡ aclFailure b (groupAt head rest)
+    pub failure-checked : (policy : Policy) (hkm hkre : Option Bytes) (x : Option Step) → Under policy hkm hkre b → t ≡ false
+        → x ≡ actionsFailure policy hkm hkre (actionsOf rest) → x ≡ aclFailure b (groupAt head rest)
     unfolding aclFailure firstFault actionsFailure
-    failure-checked x y e = e ∙ rw (begun-one one, sym is ∙ y) (alone (actionsFailure b (actionsOf rest)))
+    failure-checked policy hkm hkre x u y e =
+        (rw (u .policy-is, u .hkm-is, u .hkre-is) at e) ∙ rw (begun-one one, sym is ∙ y) (alone (actionsFailure (policyOf b) (moduleKey b) (recoveryKey b) (actionsOf rest)))
       where
         alone : (o : Option Step) → o ≡ orNext o none
         alone none = refl

@@ -8,8 +8,11 @@ ghost use Rattle.rules.specs.Basics.{any, part, flag, optional, bothSame, recor
 ghost use Rattle.rules.specs.Acl.{actionsOf, aclOf};
 ghost use Rattle.rules.specs.Bundle.{field};
 ghost use Rattle.rules.specs.Desk.{smallest, isArchive, aclFailure, keyProtection, recoverableKey};
+ghost use Rattle.facts.specs.Found.{policyAs};
+ghost use Rattle.evidence.specs.Given.{given};
 ghost use Rattle.steps.specs.Steps.{failureOf};
-ghost use Rattle.grading.specs.Groups.{actionsFailure, groupAt};
+ghost use Rattle.grading.specs.Groups.{actionsFailure, Under, groupAt};
+use facts::Policy;
 use steps::Failure;
 
 // The weaker of two protections.
@@ -32,12 +35,12 @@ fn is_officers(bundle: &[u8], head: &[u8]) -> bool
 }
 
 // The first step that an action of a group fails. `rest` are the records that follow the group's first.
-fn group_action_steps(bundle: &[u8], rest: &[u8]) -> Failure
-    ensures { λ r. ⌜ failureOf r ≡ actionsFailure (records (now (bundle .entry))) (actionsOf (records (now (rest .entry)))) ⌝ }
+fn group_action_steps(policy: Policy, hkm: &[u8], hkre: &[u8], rest: &[u8]) -> Failure
+    ensures { λ r. ⌜ failureOf r ≡ actionsFailure (policyAs policy) (given (now (hkm .entry))) (given (now (hkre .entry))) (actionsOf (records (now (rest .entry)))) ⌝ }
 {
     let mut at = groups::next_action(rest, 0);
     while 64 <= rest.len() - at {
-        let f = actions::action_steps(bundle, &rest[at..at + 64]);
+        let f = actions::action_steps(policy, hkm, hkre, &rest[at..at + 64]);
         if steps::is_failure(f) {
             return f;
         }
@@ -74,8 +77,15 @@ fn has_archive(rest: &[u8]) -> bool
 }
 
 // The first step that the group fails which begins at a record; none where the record begins no group.
-fn group_steps(bundle: &[u8], head: &[u8], rest: &[u8]) -> Failure
-    requires { ⌜ length (now head) ≡ recordBytes ⌝ }
+fn group_steps(
+    bundle: &[u8],
+    policy: Policy,
+    hkm: &[u8],
+    hkre: &[u8],
+    head: &[u8],
+    rest: &[u8],
+) -> Failure
+    requires { ⌜ (length (now head) ≡ recordBytes) × Under (policyAs policy) (given (now hkm)) (given (now hkre)) (records (now bundle)) ⌝ }
     ensures { λ r. ⌜ failureOf r ≡ aclFailure (records (now (bundle .entry))) (groupAt (now (head .entry)) (records (now (rest .entry)))) ⌝ }
 {
     if head[0] != 1 {
@@ -84,7 +94,7 @@ fn group_steps(bundle: &[u8], head: &[u8], rest: &[u8]) -> Failure
     if is_officers(bundle, head) {
         return Failure::Nothing;
     }
-    group_action_steps(bundle, rest)
+    group_action_steps(policy, hkm, hkre, rest)
 }
 
 // The protection of that group.
@@ -115,19 +125,37 @@ fn group_recovers(bundle: &[u8], head: &[u8], rest: &[u8]) -> bool
     has_archive(rest)
 }
 
-// The first step that an ACL fails, in record order.
-pub fn acl_steps(bundle: &[u8], acl: &[u8]) -> Failure
+// The first step that an ACL fails, in record order, under the bundle's policy and the keys that it vouches for.
+fn acl_steps_under(bundle: &[u8], policy: Policy, hkm: &[u8], hkre: &[u8], acl: &[u8]) -> Failure
+    requires { ⌜ Under (policyAs policy) (given (now hkm)) (given (now hkre)) (records (now bundle)) ⌝ }
     ensures { λ r. ⌜ failureOf r ≡ aclFailure (records (now (bundle .entry))) (aclOf (now (acl .entry))) ⌝ }
 {
     let mut at = 0;
     while 64 <= acl.len() - at {
-        let f = group_steps(bundle, &acl[at..at + 64], &acl[at + 64..]);
+        let f = group_steps(
+            bundle,
+            policy,
+            hkm,
+            hkre,
+            &acl[at..at + 64],
+            &acl[at + 64..],
+        );
         if steps::is_failure(f) {
             return f;
         }
         at += 64;
     }
     Failure::Nothing
+}
+
+// The first step that an ACL fails, in record order. Policy and keys are looked for once, not for each action.
+pub fn acl_steps(bundle: &[u8], acl: &[u8]) -> Failure
+    ensures { λ r. ⌜ failureOf r ≡ aclFailure (records (now (bundle .entry))) (aclOf (now (acl .entry))) ⌝ }
+{
+    let policy = facts::policy_of(bundle);
+    let hkm = evidence::module_key(bundle);
+    let hkre = evidence::recovery_key(bundle);
+    acl_steps_under(bundle, policy, hkm, hkre, acl)
 }
 
 // The key's protection: the weakest of all MakeBlob actions that are checked, not of the first.

@@ -17,7 +17,7 @@ use Rattle.rules.specs.Narrow.{noWider, actionsNoWider, answers, isAnswe
 use Rattle.rules.specs.Gate.{Answer, done, permit, refuse, Outcome, lowest, judge, request, load, clear, narrow, expand}
 use Rattle.rules.specs.Suites.{suite}
 use Rattle.rules.specs.Bundle.{bundleRecordLaidOut, orderOf, bundleInPlace, bundleHasRoom, bundleRecordFault, listedAfter, bundleEnd, bundleFault, firstRecord, numbered, field, lists, listed, signatureOutcome, policyRecord, policyOf}
-use Rattle.rules.specs.Desk.{kmVouched, kmFipsVouched, kreVouched, Step, WB1, WB2, WB6, byPolicy, Verdict, accepted, failed, moduleKey, recoveryKey, classOf, policyAdmits, actionFailure, aclFailure, actionProtection, smallest, keyProtection, recoverableKey, fullFailure, basicFailure, deskFault, desk}
+use Rattle.rules.specs.Desk.{kmVouched, kmFipsVouched, kreVouched, Step, WB1, WB2, WB6, byPolicy, Verdict, accepted, failed, moduleKey, recoveryKey, classOf, policyAdmits, failureUnder, aclFailure, actionProtection, smallest, keyProtection, recoverableKey, fullFailure, basicFailure, deskFault, desk}
 use Rattle.rules.specs.Subject.{SubjectReply, written, unwritten, subject, subjectFault, subjectReply, subjectBuffer}
 use Rattle.rules.proofs.Samples.{rec, hash, openGroup, signGroup, limited, certifiedGroup, sign, decrypt, otherMechanism, counting, reducible, expandable, reduce, enlarge, hint, bundle, uncertifiedBundle, blob, cardset, softcard, archive}
 
@@ -125,5 +125,5 @@ Hold rows = map (λ e. e .computed) rows ≡ map (λ e. e .expected) rows
 
 -- Both tables hold: the starred one, and the one that guards the definitions.
 pub examples-hold : Hold starred × Hold guards
-unfolding starred guards any all allZero same numberFrom ascii allBelow within chunks records fits firstFault recordFault eachFault scan header zeroUnless mechanismAt tokenParametersAt tokenParametersIf certifierMechanism counterOfSort groupLaidOut limitLaidOut permissionsLaidOut blobActionLaidOut archiveActionLaidOut useLaidOut blobRequestLaidOut recoveryLaidOut certificateLaidOut factLaidOut signatureLaidOut policyLaidOut hintLaidOut actionOf limitsOf actionsOf groupsOf among limitInPlace actionLaidOut inPlace hasRoom afterRecord aclRecordFault aclFault wantedOf certificatesOf requestFrom requestLaidOut useOf certificateRecord certificateFault certificatesFault requestFault hintRecord hintFault hintsFault limitLeft serves admitsUse admitsWorking admitsRecovery admits raisedBy charge noWider actionsNoWider answers isAnswered narrowsFrom lowest judge request clear narrow expand suite bundleRecordLaidOut orderOf bundleInPlace bundleHasRoom bundleRecordFault listedAfter bundleEnd bundleFault firstRecord numbered field lists listed signatureOutcome policyRecord policyOf kmVouched kmFipsVouched kreVouched moduleKey recoveryKey classOf policyAdmits actionFailure aclFailure actionProtection smallest keyProtection recoverableKey fullFailure basicFailure deskFault desk subject subjectFault subjectReply subjectBuffer
+unfolding starred guards any all allZero same numberFrom ascii allBelow within chunks records fits firstFault recordFault eachFault scan header zeroUnless mechanismAt tokenParametersAt tokenParametersIf certifierMechanism counterOfSort groupLaidOut limitLaidOut permissionsLaidOut blobActionLaidOut archiveActionLaidOut useLaidOut blobRequestLaidOut recoveryLaidOut certificateLaidOut factLaidOut signatureLaidOut policyLaidOut hintLaidOut actionOf limitsOf actionsOf groupsOf among limitInPlace actionLaidOut inPlace hasRoom afterRecord aclRecordFault aclFault wantedOf certificatesOf requestFrom requestLaidOut useOf certificateRecord certificateFault certificatesFault requestFault hintRecord hintFault hintsFault limitLeft serves admitsUse admitsWorking admitsRecovery admits raisedBy charge noWider actionsNoWider answers isAnswered narrowsFrom lowest judge request clear narrow expand suite bundleRecordLaidOut orderOf bundleInPlace bundleHasRoom bundleRecordFault listedAfter bundleEnd bundleFault firstRecord numbered field lists listed signatureOutcome policyRecord policyOf kmVouched kmFipsVouched kreVouched moduleKey recoveryKey classOf policyAdmits failureUnder aclFailure actionProtection smallest keyProtection recoverableKey fullFailure basicFailure deskFault desk subject subjectFault subjectReply subjectBuffer
 examples-hold = (refl, refl)

@@ -14,7 +14,7 @@ use Rattle.rules.specs.Narrow.{noWider, actionsNoWider, answers, isAnswered, na
 use Rattle.rules.specs.Gate.{Answer, permit, refuse, lowest, judge, request, clear, narrow, expand}
 use Rattle.rules.specs.Suites.{suite}
 use Rattle.rules.specs.Bundle.{bundleRecordLaidOut, orderOf, bundleInPlace, bundleHasRoom, bundleRecordFault, listedAfter, bundleEnd, bundleFault, firstRecord, numbered, field, lists, listed, signatureOutcome, policyRecord, policyOf}
-use Rattle.rules.specs.Desk.{kmVouched, kmFipsVouched, kreVouched, Grade, byPolicy, accepted, moduleKey, recoveryKey, classOf, policyAdmits, actionFailure, aclFailure, actionProtection, smallest, keyProtection, recoverableKey, fullFailure, basicFailure, deskFault, desk}
+use Rattle.rules.specs.Desk.{kmVouched, kmFipsVouched, kreVouched, Grade, byPolicy, accepted, moduleKey, recoveryKey, classOf, policyAdmits, failureUnder, aclFailure, actionProtection, smallest, keyProtection, recoverableKey, fullFailure, basicFailure, deskFault, desk}
 use Rattle.rules.proofs.Samples.{rec, timed, hash, openGroup, limited, sign, reduce, hint, bundle, blob, cardset, archive}
 use Rattle.theorems.specs.Demands.{Call, requesting, narrowing, State, outcome, after, byOfficer, officerSigned, asked, Allowed, EveryPermit}
 use Rattle.theorems.proofs.Demand3.{demand-3}
@@ -60,7 +60,7 @@ start = record { ledger = freshLedger; acl = useful }
 pub witness : (desk bundle useful ≡ accepted (byPolicy grade))
     × (replies start calls ≡ (permit 0 ∷ permit 0 ∷ refuse 8 ∷ permit 0 ∷ permit 0 ∷ refuse 7 ∷ refuse 4 ∷ []))
     × (map (officerSigned (records bundle)) calls ≡ (false ∷ false ∷ false ∷ false ∷ false ∷ false ∷ false ∷ []))
-unfolding outcome after byOfficer any all same numberFrom ascii allBelow within allZero chunks records fits firstFault recordFault eachFault scan header zeroUnless mechanismAt tokenParametersAt tokenParametersIf certifierMechanism counterOfSort groupLaidOut limitLaidOut permissionsLaidOut blobActionLaidOut archiveActionLaidOut useLaidOut blobRequestLaidOut recoveryLaidOut certificateLaidOut factLaidOut signatureLaidOut policyLaidOut hintLaidOut actionOf limitsOf actionsOf groupsOf among limitInPlace actionLaidOut inPlace hasRoom afterRecord aclRecordFault aclFault wantedOf certificatesOf requestFrom requestLaidOut useOf certificateRecord certificateFault certificatesFault requestFault hintRecord hintFault hintsFault limitLeft serves admitsUse admitsWorking admitsRecovery admits raisedBy charge noWider actionsNoWider answers isAnswered narrowsFrom lowest judge request clear narrow expand suite bundleRecordLaidOut orderOf bundleInPlace bundleHasRoom bundleRecordFault listedAfter bundleEnd bundleFault firstRecord numbered field lists listed signatureOutcome policyRecord policyOf kmVouched kmFipsVouched kreVouched moduleKey recoveryKey classOf policyAdmits actionFailure aclFailure actionProtection smallest keyProtection recoverableKey fullFailure basicFailure deskFault desk
+unfolding outcome after byOfficer any all same numberFrom ascii allBelow within allZero chunks records fits firstFault recordFault eachFault scan header zeroUnless mechanismAt tokenParametersAt tokenParametersIf certifierMechanism counterOfSort groupLaidOut limitLaidOut permissionsLaidOut blobActionLaidOut archiveActionLaidOut useLaidOut blobRequestLaidOut recoveryLaidOut certificateLaidOut factLaidOut signatureLaidOut policyLaidOut hintLaidOut actionOf limitsOf actionsOf groupsOf among limitInPlace actionLaidOut inPlace hasRoom afterRecord aclRecordFault aclFault wantedOf certificatesOf requestFrom requestLaidOut useOf certificateRecord certificateFault certificatesFault requestFault hintRecord hintFault hintsFault limitLeft serves admitsUse admitsWorking admitsRecovery admits raisedBy charge noWider actionsNoWider answers isAnswered narrowsFrom lowest judge request clear narrow expand suite bundleRecordLaidOut orderOf bundleInPlace bundleHasRoom bundleRecordFault listedAfter bundleEnd bundleFault firstRecord numbered field lists listed signatureOutcome policyRecord policyOf kmVouched kmFipsVouched kreVouched moduleKey recoveryKey classOf policyAdmits failureUnder aclFailure actionProtection smallest keyProtection recoverableKey fullFailure basicFailure deskFault desk
 witness = (refl, refl, refl)
 
 -- .. and so demand 3 covers what they are permitted.

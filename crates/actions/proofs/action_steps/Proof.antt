@@ -1,5 +1,6 @@
-use Rattle.rules.specs.Basics.{records}
-use Rattle.rules.specs.Desk.{actionFailure}
+use Rattle.facts.specs.Found.{policyAs}
+use Rattle.evidence.specs.Given.{given}
+use Rattle.rules.specs.Desk.{failureUnder}
 use Rattle.rules.proofs.Choices.{picks}
 use Rattle.actions.proofs.Laws.{by-kind}
 use borrow.Author.Needs.{needs}
@@ -13,22 +14,22 @@ permission-step-requires : tie.Need-permission-step-requires
 permission-step-requires c κs = search needs
 
 returns : tie.Need-returns
-unfolding actionFailure
-returns c = let a = c .before .before .before .before .before .args in by-kind (actionFailure (records (a .bundle .now))) (a .rec .now) _ (search (needs, picks))
+unfolding failureUnder
+returns c = let a = c .before .before .before .before .before .before .args in by-kind (failureUnder (policyAs (a .policy)) (given (a .hkm .now)) (given (a .hkre .now))) (a .rec .now) _ (search (needs, picks))
 
 blob-steps-requires : tie.Need-blob-steps-requires
 blob-steps-requires c κs = search needs
 
 returns-2 : tie.Need-returns-2
-unfolding actionFailure
-returns-2 c = let a = c .before .before .before .before .before .before .args in by-kind (actionFailure (records (a .bundle .now))) (a .rec .now) _ (search (needs, picks))
+unfolding failureUnder
+returns-2 c = let a = c .before .before .before .before .before .before .before .args in by-kind (failureUnder (policyAs (a .policy)) (given (a .hkm .now)) (given (a .hkre .now))) (a .rec .now) _ (search (needs, picks))
 
 archive-steps-requires : tie.Need-archive-steps-requires
 archive-steps-requires c κs = search needs
 
 returns-3 : tie.Need-returns-3
-unfolding actionFailure
-returns-3 c = let a = c .before .before .before .before .before .before .args in by-kind (actionFailure (records (a .bundle .now))) (a .rec .now) _ (search (needs, picks))
+unfolding failureUnder
+returns-3 c = let a = c .before .before .before .before .before .before .before .args in by-kind (failureUnder (policyAs (a .policy)) (given (a .hkm .now)) (given (a .hkre .now))) (a .rec .now) _ (search (needs, picks))
 
 pub action-steps-spec : {M : Type 1} → statement M
 action-steps-spec =

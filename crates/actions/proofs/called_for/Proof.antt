@@ -3,9 +3,6 @@ use borrow.Author.Needs.{needs}
 use Rattle.actions.proofs.called_for.Statement.{statement}
 use Rattle.actions.proofs.called_for.Tie as tie
 
-policy-of-requires : tie.Need-policy-of-requires
-policy-of-requires c κs = search needs
-
 cast-recovery-mechanism : tie.Need-cast-recovery-mechanism
 cast-recovery-mechanism c = search needs
 
@@ -16,13 +13,12 @@ be16-requires : tie.Need-be16-requires
 be16-requires c κs = search needs
 
 returns : tie.Need-returns
-returns c = called-under _ _ (c .before .recovery-mechanism .result) _ _ (c .before .before .before .policy-of .ensures) (c .before .recovery-mechanism .ensures) (c .be16 .ensures)
+returns c = called-under _ (c .before .recovery-mechanism .result) _ _ (c .before .recovery-mechanism .ensures) (c .be16 .ensures)
 
 pub called-for-spec : {M : Type 1} → statement M
 called-for-spec =
     tie.close
     (tie.spec
-    policy-of-requires
     cast-recovery-mechanism
     recovery-mechanism-requires
     be16-requires

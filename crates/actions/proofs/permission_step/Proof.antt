@@ -3,9 +3,6 @@ use borrow.Author.Needs.{needs}
 use Rattle.actions.proofs.permission_step.Statement.{statement}
 use Rattle.actions.proofs.permission_step.Tie as tie
 
-policy-of-requires : tie.Need-policy-of-requires
-policy-of-requires c κs = search needs
-
 be16-requires : tie.Need-be16-requires
 be16-requires c κs = search needs
 
@@ -13,11 +10,11 @@ bits-admitted-requires : tie.Need-bits-admitted-requires
 bits-admitted-requires c κs = search needs
 
 returns : tie.Need-returns
-returns c = permissions-fail _ _ _ _ _ (c .before .before .before .policy-of .ensures) (c .before .before .be16 .ensures) (c .before .bits-admitted .ensures) (c .if1 .taken)
+returns c = permissions-fail _ _ _ _ (c .before .before .be16 .ensures) (c .before .bits-admitted .ensures) (c .if1 .taken)
 
 returns-2 : tie.Need-returns-2
-returns-2 c = permissions-pass _ _ _ _ _ (c .before .before .before .policy-of .ensures) (c .before .before .be16 .ensures) (c .before .bits-admitted .ensures) (c .if1 .left)
+returns-2 c = permissions-pass _ _ _ _ (c .before .before .be16 .ensures) (c .before .bits-admitted .ensures) (c .if1 .left)
 
 pub permission-step-spec : {M : Type 1} → statement M
 permission-step-spec =
-    tie.close (tie.spec policy-of-requires be16-requires bits-admitted-requires returns returns-2)
+    tie.close (tie.spec be16-requires bits-admitted-requires returns returns-2)

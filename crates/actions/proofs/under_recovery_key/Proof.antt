@@ -6,9 +6,6 @@ use Rattle.actions.proofs.under_recovery_key.Tie as tie
 optional-hash-requires : tie.Need-optional-hash-requires
 optional-hash-requires c κs = search needs
 
-recovery-key-requires : tie.Need-recovery-key-requires
-recovery-key-requires c κs = search needs
-
 both-same-requires : tie.Need-both-same-requires
 both-same-requires c κs = search needs
 
@@ -17,4 +14,4 @@ returns c = search (needs, same-is)
 
 pub under-recovery-key-spec : {M : Type 1} → statement M
 under-recovery-key-spec =
-    tie.close (tie.spec optional-hash-requires recovery-key-requires both-same-requires returns)
+    tie.close (tie.spec optional-hash-requires both-same-requires returns)

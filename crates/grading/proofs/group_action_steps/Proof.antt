@@ -3,6 +3,8 @@ use mathlib.Core.Path.{_≡_, ap}
 use lib.ListN.{length}
 use Rattle.rules.specs.Basics.{any, records}
 use Rattle.rules.specs.Acl.{actionsOf}
+use Rattle.facts.specs.Found.{policyAs}
+use Rattle.evidence.specs.Given.{given}
 use Rattle.grading.specs.Groups.{actionsFailure}
 use Rattle.grading.proofs.Laws.{Standing, standing, actionsFrom, actions-start, failure-stop, failure-next, failure-done}
 use borrow.Author.Needs.{needs}
@@ -10,16 +12,18 @@ use Rattle.grading.proofs.group_action_steps.Statement.{statement}
 use Rattle.grading.proofs.group_action_steps.Tie as tie
 
 abbrev Inv-loop : tie.InvT-loop
-Inv-loop bundle rest at₀ at = Standing rest at × (actionsFailure (records bundle) (actionsFrom rest at) ≡ actionsFailure (records bundle) (actionsOf (records rest)))
+Inv-loop policy hkm hkre rest at₀ at =
+    Standing rest at
+    × (actionsFailure (policyAs policy) (given hkm) (given hkre) (actionsFrom rest at) ≡ actionsFailure (policyAs policy) (given hkm) (given hkre) (actionsOf (records rest)))
 
 abbrev μ-loop : tie.MeasureT-loop
-μ-loop bundle rest at₀ at = length rest - at
+μ-loop policy hkm hkre rest at₀ at = length rest - at
 
 next-action-requires : tie.Need-next-action-requires Inv-loop μ-loop
 next-action-requires c κs = search needs
 
 loop-holds : tie.Need-loop-holds Inv-loop μ-loop
-loop-holds c = (standing _ _ _ (c .next-action .ensures), ap (actionsFailure _) (actions-start _ _ (c .next-action .ensures)))
+loop-holds c = (standing _ _ _ (c .next-action .ensures), ap (actionsFailure _ _ _) (actions-start _ _ (c .next-action .ensures)))
 
 sub-loop : tie.Need-sub-loop Inv-loop μ-loop
 sub-loop c = search needs

@@ -6,14 +6,14 @@ use Rattle.rules.specs.Acl.{groupsOf}
 use Rattle.rules.specs.Desk.{aclFailure}
 use Rattle.grading.proofs.Laws.{groupsFrom, groups-start, acl-stop, acl-next, acl-done}
 use borrow.Author.Needs.{needs}
-use Rattle.grading.proofs.acl_steps.Statement.{statement}
-use Rattle.grading.proofs.acl_steps.Tie as tie
+use Rattle.grading.proofs.acl_steps_under.Statement.{statement}
+use Rattle.grading.proofs.acl_steps_under.Tie as tie
 
 abbrev Inv-loop : tie.InvT-loop
-Inv-loop bundle acl at₀ at = (at ≤ length acl) × (aclFailure (records bundle) (groupsFrom acl at) ≡ aclFailure (records bundle) (groupsOf (records acl)))
+Inv-loop bundle policy hkm hkre acl at₀ at = (at ≤ length acl) × (aclFailure (records bundle) (groupsFrom acl at) ≡ aclFailure (records bundle) (groupsOf (records acl)))
 
 abbrev μ-loop : tie.MeasureT-loop
-μ-loop bundle acl at₀ at = length acl - at
+μ-loop bundle policy hkm hkre acl at₀ at = length acl - at
 
 loop-holds : tie.Need-loop-holds Inv-loop μ-loop
 loop-holds c = (search needs, ap (aclFailure _) (groups-start _))
@@ -61,13 +61,16 @@ loop-less : tie.Need-loop-less Inv-loop μ-loop
 loop-less c = search needs
 
 loop-again : tie.Need-loop-again Inv-loop μ-loop
-loop-again c = (search needs, search (needs, acl-next))
+loop-again c =
+    let g = c .before .before in
+    let t = g .before .before .before in
+    (search needs, acl-next _ _ _ _ (t .before .loop .inv .1) _ _ (t .loop-test .taken) (g .group-steps .ensures) (c .before .is-failure .ensures) (c .if1 .left))
 
 returns-2 : tie.Need-returns-2 Inv-loop μ-loop
 returns-2 c = search (needs, acl-done)
 
-pub acl-steps-spec : {M : Type 1} → statement M
-acl-steps-spec =
+pub acl-steps-under-spec : {M : Type 1} → statement M
+acl-steps-under-spec =
     tie.close
     (tie.spec
     Inv-loop
