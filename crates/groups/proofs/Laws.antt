@@ -12,7 +12,7 @@ use lib.Dec.{eqb}
 use Rattle.rules.specs.Basics.{Bytes, all, part, kind, records}
 use Rattle.rules.specs.Acl.{Limit, limitOf, limitsOf, Action, actionOf, actionsOf, Group, groupOf, groupsOf}
 use Rattle.rules.proofs.Rows.{recordsFrom, rows-at, rows-end, rows-start, rows-rest, rows-lent, kind-at, lentRecord, lent-record, lentRest, lent-rest, first, no-rows}
-use Rattle.groups.specs.Parts.{leading, inGroup, isLimit, NextAction, FromGroup, firstLimits, firstActions}
+use Rattle.groups.specs.Parts.{leading, inGroup, isLimit, NextAction, GroupAt, FromGroup, firstLimits, firstActions}
 
 -- a list of one
 snoc-cons : {A : Type 0} (xs : List A) (x : A) (ys : List A) → (xs ++ (x ∷ [])) ++ ys ≡ xs ++ (x ∷ ys)
@@ -135,34 +135,35 @@ module _ (s : Bytes) (at left : ℕ) (x : List Group) (inv : drop left (groupsOf
   unfolding groupsOf
   from-skip h n = sym (ap (λ (z : List Bytes). drop left (groupsOf z)) (rows-at s at h) ∙ rw (kind-at s at, ne-eqb (getD s at 0) 1 n)) ∙ inv
 
-  from-here : left ≡ 0 → groupsOf (records (lentRest s at)) ≡ x
-  from-here e = ap groupsOf (rows-rest s at) ∙ rw e at inv
-
   pub from-next : 64 ≤ length s - at → getD s at 0 ≡ 1 → (left ≡ 0 → ⊥) → drop (left - 1) (groupsOf (recordsFrom s (at + 64))) ≡ x
   unfolding groupsOf
   from-next h e n =
       sym (ap (λ (z : List Bytes). drop left (groupsOf z)) (rows-at s at h) ∙ rw (kind-at s at, eq-eqb (getD s at 0) 1 e) (drop-more left _ _ n)) ∙ inv
 
-  from-none : length s - at < 64 → groupsOf (records []) ≡ x
-  unfolding groupsOf
-  from-none h =
-      ap groupsOf (no-rows [] (omega arith)) ∙ sym (drop-nil left) ∙ sym (ap (λ (z : List Bytes). drop left (groupsOf z)) (rows-end s at h)) ∙ inv
-
 -- what was found
-module _ (s : Bytes) (g at left : ℕ) (inv : drop left (groupsOf (recordsFrom s at)) ≡ drop g (groupsOf (records s))) where
-  pub found-here : 64 ≤ length s - at → getD s at 0 ≡ 1 → left ≡ 0 → FromGroup s g (lentRest s at)
-  found-here h k e =
+module _ (s : Bytes) (from g at left : ℕ) (inv : drop left (groupsOf (recordsFrom s at)) ≡ drop g (groupsOf (records (drop from s)))) where
+  pub found-here : at ≤ length s → getD s at 0 ≡ 1 → left ≡ 0 → GroupAt s from g at
+  unfolding recordsFrom
+  found-here l k e = record { same = rw e at inv; inside = l; head = λ h. k }
+
+  pub found-none : length s - at < 64 → GroupAt s from g (length s)
+  unfolding groupsOf
+  found-none h =
+      let z : groupsOf (records (drop (length s) s)) ≡ [] = ap groupsOf (no-rows (drop (length s) s) (omega (arith, length-drop (length s) s))) in
       record {
-        same = from-here s at left (drop g (groupsOf (records s))) inv e;
-        head = λ l. ap (λ (r : Bytes). getD r 0 0) (lent-rest s at) ∙ getD-drop at s 0 0 ∙ ap (λ (n : ℕ). getD s n 0) (add-zero at) ∙ k;
+        same = z ∙ sym (drop-nil left) ∙ sym (ap (λ (y : List Bytes). drop left (groupsOf y)) (rows-end s at h)) ∙ inv;
+        inside = omega arith;
+        head = λ h. absurd (omega arith);
       }
 
-  pub found-none : length s - at < 64 → FromGroup s g []
-  found-none h =
-      record {
-        same = from-none s at left (drop g (groupsOf (records s))) inv h;
-        head = λ l. absurd (omega arith);
-      }
+-- the part from there on: its first record begins a group
+pub begins : (s : Bytes) (from g r : ℕ) → GroupAt s from g r → 64 ≤ length (lentRest s r) → getD (lentRest s r) 0 0 ≡ 1
+begins s from g r e l =
+    ap (λ (z : Bytes). getD z 0 0) (lent-rest s r) ∙ getD-drop r s 0 0 ∙ ap (λ (n : ℕ). getD s n 0) (add-zero r) ∙ e .head (omega (arith, length-drop r s, ap length (lent-rest s r)))
+
+pub from-place : (s : Bytes) (g r : ℕ) → GroupAt s 0 g r → FromGroup s g (lentRest s r)
+unfolding recordsFrom
+from-place s g r e = record { same = ap groupsOf (rows-rest s r) ∙ e .same; head = begins s 0 g r e }
 
 -- The records after a group's first one.
 module _ (acl : Bytes) (g : ℕ) (r : Bytes) (e : FromGroup acl g r) where

@@ -37,6 +37,13 @@ pub record NextAction (s : Bytes) (at r : ℕ) : Type 0 where
   pub no-group : 64 ≤ length s - r → getD s r 0 ≡ 1 → ⊥
   pub no-limit : 64 ≤ length s - r → getD s r 0 ≡ 2 → ⊥
 
+-- Where group g stands, of those from the byte `at` on: what is left from there are the groups without the first g, and a record that stands there
+-- begins one. (Where there are fewer groups the file's end serves.)
+pub record GroupAt (acl : Bytes) (at g r : ℕ) : Type 0 where
+  pub same : groupsOf (records (drop r acl)) ≡ drop g (groupsOf (records (drop at acl)))
+  pub inside : r ≤ length acl
+  pub head : 64 ≤ length acl - r → getD acl r 0 ≡ 1
+
 -- An ACL from one of its groups on: the same groups are left, and the first record is that group's.
 pub record FromGroup (acl : Bytes) (g : ℕ) (r : Bytes) : Type 0 where
   pub same : groupsOf (records r) ≡ drop g (groupsOf (records acl))

@@ -5,26 +5,35 @@ ghost use Prim.Native.Nat.{_≤_};
 ghost use lib.ListN.{length, drop};
 ghost use Rattle.rules.specs.Basics.{records};
 ghost use Rattle.rules.specs.Acl.{limitsOf, actionsOf, aclOf};
-ghost use Rattle.groups.specs.Parts.{NextAction, FromGroup, firstLimits, firstActions, limitRecords, groupRecords};
+ghost use Rattle.groups.specs.Parts.{NextAction, GroupAt, FromGroup, firstLimits, firstActions, limitRecords, groupRecords};
+
+// Where group g stands, of those from the byte `at` on; the end of the file where there are fewer. A search can so go on where one before it ended.
+pub fn group_at(acl: &[u8], at: usize, g: usize) -> usize
+    requires { ⌜ at ≤ length (now acl) ⌝ }
+    ensures { λ r. ⌜ GroupAt (now (acl .entry)) at g r ⌝ }
+{
+    let mut left = g;
+    let mut i = at;
+    while 64 <= acl.len() - i {
+        if acl[i] != 1 {
+            i += 64;
+            continue;
+        }
+        if left == 0 {
+            return i;
+        }
+        left -= 1;
+        i += 64;
+    }
+    acl.len()
+}
 
 // The ACL from its group g on; empty where there is none.
 pub fn from_group(acl: &[u8], g: usize) -> &[u8]
     ensures { λ r. ⌜ FromGroup (now (acl .entry)) g (now r) ⌝ }
 {
-    let mut left = g;
-    let mut at = 0;
-    while 64 <= acl.len() - at {
-        if acl[at] != 1 {
-            at += 64;
-            continue;
-        }
-        if left == 0 {
-            return &acl[at..];
-        }
-        left -= 1;
-        at += 64;
-    }
-    &acl[0..0]
+    let at = group_at(acl, 0, g);
+    &acl[at..]
 }
 
 // The records that follow the first one of group g; empty where there is no such group.

@@ -8,43 +8,52 @@ use mathlib.Core.Option.{Option, none, some}
 use mathlib.Core.Bool.{Bool, true, false, not, _&&_}
 use borrow.Author.Tests.{eq-eqb, ne-eqb, not-true, not-false, lt-leb, le-leb, ltb-true, ltb-false}
 use lib.ListN.{length, take, drop, getD, getElem?, length-drop}
-use lib.Seq.{getD-take, drop-nil}
+use lib.Seq.{getD-take, drop-nil, drop-drop}
 use lib.Dec.{eqb, leb, ltb}
 use Rattle.rules.specs.Basics.{Bytes, part, byte, kind, records}
 use Rattle.rules.specs.Acl.{Group, groupOf, groupsOf}
 use Rattle.rules.specs.Request.{Hint, hintOf, hintsOf}
 use Rattle.rules.specs.Narrow.{groupNarrows, narrowsSource, narrowsFrom, narrows}
 use Rattle.rules.proofs.Rows.{recordsFrom, rows-start, rows-at, rows-lent, rows-end, rows-rest, lentRecord, lent-record, lentRest, kind-at, no-rows}
-use Rattle.groups.specs.Parts.{FromGroup}
+use Rattle.groups.specs.Parts.{GroupAt}
 use Rattle.narrowing.specs.Groups.{recordsNarrow}
 
 -- the first of what is left after some
-get-none : {A : Type 0} (xs : List A) (i : ℕ) → drop i xs ≡ [] → getElem? xs i ≡ none
-get-none [] i e = refl
-get-none (x ∷ xs) zero e = absurd (omega (arith, ap length e))
-get-none (x ∷ xs) (suc i) e = get-none xs i e
+get-drop : {A : Type 0} (xs : List A) (i : ℕ) → getElem? (drop i xs) 0 ≡ getElem? xs i
+get-drop [] i = ap (λ (z : List _). getElem? z 0) (drop-nil i)
+get-drop (x ∷ xs) zero = refl
+get-drop (x ∷ xs) (suc i) = get-drop xs i
 
-get-some : {A : Type 0} (xs : List A) (i : ℕ) (y : A) (ys : List A) → drop i xs ≡ y ∷ ys → getElem? xs i ≡ some y
-get-some [] i y ys e = absurd (omega (arith, ap length (sym (drop-nil i) ∙ e)))
-get-some (x ∷ xs) zero y ys e = cc
-get-some (x ∷ xs) (suc i) y ys e = get-some xs i y ys e
+-- A source, the first of what is left of the old ACL.
+pub source-missing : (r : Bytes) (n : Group) (hints : List ℕ) → length r < 64 → false ≡ narrowsSource n hints (getElem? (groupsOf (records r)) 0)
+unfolding groupsOf
+source-missing r n hints h = sym (rw (no-rows r h))
 
-module _ (old : Bytes) (source : ℕ) (r : Bytes) (e : FromGroup old source r) where
-  pub source-missing : (n : Group) (hints : List ℕ) → length r < 64 → false ≡ narrowsSource n hints (getElem? (groupsOf (records old)) source)
-  unfolding groupsOf
-  source-missing n hints h =
-      let z : drop source (groupsOf (records old)) ≡ [] = sym (e .same) ∙ ap groupsOf (no-rows r h) in
-      sym (rw (get-none (groupsOf (records old)) source z))
+pub source-there : (r n : Bytes) (ns : List Bytes) (hints : List ℕ) (t : Bool) → (64 ≤ length r → getD r 0 0 ≡ 1) → 64 ≤ length r
+    → t ≡ recordsNarrow n ns hints (take 64 r) (records (take (length r - 64) (drop 64 r))) → t ≡ narrowsSource (groupOf n ns) hints (getElem? (groupsOf (records r)) 0)
+unfolding groupsOf recordsNarrow
+source-there r n ns hints t e h p =
+    let b : records (take (length r - 64) (drop 64 r)) ≡ recordsFrom r 64 = rows-rest r 64 in
+    let k : eqb (kind (take 64 r)) 1 ≡ true = eq-eqb (kind (take 64 r)) 1 (getD-take 64 r 0 0 (omega arith) ∙ e h) in
+    let f : records r ≡ take 64 r ∷ recordsFrom r 64 = sym (rows-start r) ∙ rows-at r 0 (omega arith) in
+    let z : groupsOf (records r) ≡ groupOf (take 64 r) (recordsFrom r 64) ∷ groupsOf (recordsFrom r 64) = ap groupsOf f ∙ rw k in
+    p ∙ rw b (sym (rw z))
 
-  pub source-there : (n : Bytes) (ns : List Bytes) (hints : List ℕ) (t : Bool) → 64 ≤ length r → t ≡ recordsNarrow n ns hints (take 64 r) (records (take (length r - 64) (drop 64 r)))
-      → t ≡ narrowsSource (groupOf n ns) hints (getElem? (groupsOf (records old)) source)
-  unfolding groupsOf recordsNarrow
-  source-there n ns hints t h p =
-      let b : records (take (length r - 64) (drop 64 r)) ≡ recordsFrom r 64 = rows-rest r 64 in
-      let k : eqb (kind (take 64 r)) 1 ≡ true = eq-eqb (kind (take 64 r)) 1 (getD-take 64 r 0 0 (omega arith) ∙ e .head h) in
-      let f : records r ≡ take 64 r ∷ recordsFrom r 64 = sym (rows-start r) ∙ rows-at r 0 (omega arith) in
-      let z : drop source (groupsOf (records old)) ≡ groupOf (take 64 r) (recordsFrom r 64) ∷ groupsOf (recordsFrom r 64) = sym (e .same) ∙ ap groupsOf f ∙ rw k in
-      p ∙ rw b (sym (rw (get-some (groupsOf (records old)) source (groupOf (take 64 r) (recordsFrom r 64)) (groupsOf (recordsFrom r 64)) z)))
+-- It is looked for from where the one before was found.
+module _ (old : Bytes) (low from w place : ℕ) (inv : groupsOf (recordsFrom old from) ≡ drop low (groupsOf (records old))) (f : low ≤ w) (e : GroupAt old from (w - low) place) where
+  left-from : groupsOf (recordsFrom old place) ≡ drop w (groupsOf (records old))
+  unfolding recordsFrom
+  left-from =
+      let k : low + (w - low) ≡ w = omega arith in
+      e .same ∙ ap (drop (w - low)) inv ∙ drop-drop (w - low) low (groupsOf (records old)) ∙ ap (λ (n : ℕ). drop n (groupsOf (records old))) k
+
+  pub source-found : (n : Group) (hints : List ℕ) (t : Bool) → t ≡ narrowsSource n hints (getElem? (groupsOf (records (lentRest old place))) 0) → t ≡ narrowsSource n hints (getElem? (groupsOf (records old)) w)
+  source-found n hints t p =
+      p ∙ ap (narrowsSource n hints) (ap (λ (z : List Group). getElem? z 0) (ap groupsOf (rows-rest old place) ∙ left-from) ∙ get-drop (groupsOf (records old)) w)
+
+  pub left-next : (r : ℕ) → GroupAt old place 1 r → groupsOf (recordsFrom old r) ≡ drop (w + 1) (groupsOf (records old))
+  unfolding recordsFrom
+  left-next r d = d .same ∙ ap (drop 1) left-from ∙ drop-drop 1 w (groupsOf (records old))
 
 -- the hints from a place on: shut, so that a search reads the file and the place off it
 unfoldable pub hintsFrom : Bytes → ℕ → List Hint
@@ -86,20 +95,20 @@ module _ (olds : List Group) (new hints : Bytes) (low at h : ℕ) (x : Bool) (in
       pub source-falls : (w : ℕ) → w ≡ byte 4 (lentRecord hints h) → w < low → false ≡ x
       source-falls w d f = rw (lt-leb low (byte 4 (lentRecord hints h)) (omega arith)) at step
 
-      module _ (w : ℕ) (d : w ≡ byte 4 (lentRecord hints h)) (f : low ≤ w) (t : Bool) (e : t ≡ narrowsSource (groupOf (lentRecord new at) (records (lentRest new (at + 64)))) (part 8 8 (lentRecord hints h)) (getElem? olds (byte 4 (lentRecord hints h)))) where
+      module _ (w : ℕ) (d : w ≡ byte 4 (lentRecord hints h)) (f : low ≤ w) (t : Bool) (e : t ≡ narrowsSource (groupOf (lentRecord new at) (records (lentRest new (at + 64)))) (part 8 8 (lentRecord hints h)) (getElem? olds w)) where
         here : t ≡ narrowsSource front (hint .actions) (getElem? olds (hint .source))
-        here = e ∙ ap (λ (z : List Bytes). narrowsSource (groupOf (lentRecord new at) z) (hint .actions) (getElem? olds (hint .source))) (rows-rest new (at + 64))
+        here = (rw d at e) ∙ ap (λ (z : List Bytes). narrowsSource (groupOf (lentRecord new at) z) (hint .actions) (getElem? olds (hint .source))) (rows-rest new (at + 64))
 
         pub source-wider : not t ≡ true → false ≡ x
         source-wider y =
             let q : narrowsSource front (hint .actions) (getElem? olds (hint .source)) ≡ false = sym here ∙ not-true t y in
             rw (le-leb low (byte 4 (lentRecord hints h)) (omega arith), q) at step
 
-        pub source-kept : (n : ℕ) → n ≡ byte 4 (lentRecord hints h) + 1 → not t ≡ false → narrowsFrom olds n (groupsOf (recordsFrom new (at + 64))) (hintsFrom hints (h + 64)) ≡ x
-        source-kept n p y =
+        pub source-kept : not t ≡ false → narrowsFrom olds (w + 1) (groupsOf (recordsFrom new (at + 64))) (hintsFrom hints (h + 64)) ≡ x
+        source-kept y =
             let q : narrowsSource front (hint .actions) (getElem? olds (hint .source)) ≡ true = sym here ∙ not-false t y in
             let z : narrowsFrom olds (suc (byte 4 (lentRecord hints h))) (groupsOf (recordsFrom new (at + 64))) (hintsFrom hints (h + 64)) ≡ x = rw (le-leb low (byte 4 (lentRecord hints h)) (omega arith), q) at step in
-            rw (p, add-one) z
+            rw (d, add-one) z
 
   pub hints-spent : length new - at < 64 → ltb (length hints - h) 64 ≡ x
   unfolding narrowsFrom groupsOf hintsFrom

@@ -1,7 +1,7 @@
 // Whether hints show that a new ACL is a narrowing of an old one. Each function decodes whatever bytes stand there.
 ghost use mathlib.Core.Path.{_≡_};
 ghost use Prim.Native.Nat.{_+_, _-_, _≤_, _<_};
-ghost use lib.ListN.{length, getElem?};
+ghost use lib.ListN.{length, getD, getElem?};
 ghost use Rattle.rules.specs.Sizes.{recordBytes};
 ghost use Rattle.rules.specs.Basics.{any, all, within, implies, part, number, flag, optional, records};
 ghost use Rattle.rules.specs.Acl.{parametersOf, blobRuleOf, archiveRuleOf, limitOf, limitsOf, actionOf, actionsOf, groupOf, aclOf};
@@ -249,23 +249,24 @@ fn group_narrows(new: &[u8], new_body: &[u8], hints: &[u8], old: &[u8], old_body
         & actions_no_wider(new_body, hints, old_body)
 }
 
-// A new group against the source that its hint names.
-fn source_narrows(new: &[u8], body: &[u8], hints: &[u8], old: &[u8], source: u8) -> bool
-    requires { ⌜ length (now new) ≡ recordBytes ⌝ }
-    ensures { λ r. ⌜ r ≡ narrowsSource (groupOf (now (new .entry)) (records (now (body .entry)))) (now (hints .entry)) (getElem? (aclOf (now (old .entry))) source) ⌝ }
+// A new group against its source, the first of what is left of the old ACL; nothing where the hint names no group.
+fn source_narrows(new: &[u8], body: &[u8], hints: &[u8], rest: &[u8]) -> bool
+    requires { ⌜ (length (now new) ≡ recordBytes) × (64 ≤ length (now rest) → getD (now rest) 0 0 ≡ 1) ⌝ }
+    ensures { λ r. ⌜ r ≡ narrowsSource (groupOf (now (new .entry)) (records (now (body .entry)))) (now (hints .entry)) (getElem? (aclOf (now (rest .entry))) 0) ⌝ }
 {
-    let rest = groups::from_group(old, source as usize);
     if rest.len() < 64 {
         return false;
     }
     group_narrows(new, body, hints, &rest[0..64], &rest[64..])
 }
 
-// Whether hints show that the new ACL is a narrowing of the old: one for each new group and no more, with sources that rise strictly.
+// Whether hints show that the new ACL is a narrowing of the old: one for each new group and no more, with sources that rise strictly. So a source is
+// looked for from where the one before it was found.
 pub fn shows_narrowing(old: &[u8], new: &[u8], hints: &[u8]) -> bool
     ensures { λ r. ⌜ r ≡ narrows (aclOf (now (old .entry))) (aclOf (now (new .entry))) (hintsOf (now (hints .entry))) ⌝ }
 {
     let mut low: u16 = 0;
+    let mut from = 0;
     let mut h = 0;
     let mut at = 0;
     while 64 <= new.len() - at {
@@ -277,20 +278,21 @@ pub fn shows_narrowing(old: &[u8], new: &[u8], hints: &[u8]) -> bool
             return false;
         }
         let hint = &hints[h..h + 64];
-        let source = hint[4];
-        if wide(source) < low {
+        let source = wide(hint[4]);
+        if source < low {
             return false;
         }
+        let place = groups::group_at(old, from, (source - low) as usize);
         if !source_narrows(
             &new[at..at + 64],
             &new[at + 64..],
             &hint[8..16],
-            old,
-            source,
+            &old[place..],
         ) {
             return false;
         }
-        low = wide(source) + 1;
+        from = groups::group_at(old, place, 1);
+        low = source + 1;
         h += 64;
         at += 64;
     }

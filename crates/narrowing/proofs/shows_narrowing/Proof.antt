@@ -1,26 +1,31 @@
 use Prim.Native.Nat.{_+_, _≤_, _-_}
-use mathlib.Core.Path.{_≡_, refl, ap}
-use lib.ListN.{length}
+use mathlib.Core.Path.{_≡_, ap}
+use lib.ListN.{length, drop}
 use Rattle.rules.specs.Acl.{groupsOf, aclOf}
 use Rattle.rules.specs.Request.{hintsOf}
 use Rattle.rules.specs.Narrow.{narrowsFrom, narrows}
-use Rattle.rules.proofs.Rows.{recordsFrom}
-use Rattle.narrowing.proofs.Sources.{hintsFrom, hints-start, groups-skip, hint-lacking, source-falls, source-wider, source-kept, hints-spent}
+use Rattle.rules.proofs.Rows.{recordsFrom, rows-start}
+use Rattle.groups.proofs.Laws.{begins}
+use Rattle.narrowing.proofs.Sources.{hintsFrom, hints-start, groups-skip, hint-lacking, source-falls, source-found, source-wider, source-kept, left-next, hints-spent}
 use borrow.Author.Needs.{needs}
 use Rattle.narrowing.proofs.shows_narrowing.Statement.{statement}
 use Rattle.narrowing.proofs.shows_narrowing.Tie as tie
 
 abbrev Inv-loop : tie.InvT-loop
-Inv-loop old new hints low₀ h₀ at₀ low h at = (at ≤ length new) × ((h ≤ length hints) × (narrowsFrom (aclOf old) low (groupsOf (recordsFrom new at)) (hintsFrom hints h) ≡ narrows (aclOf old) (aclOf new) (hintsOf hints)))
+Inv-loop old new hints low₀ from₀ h₀ at₀ low from h at =
+    (at ≤ length new)
+    × ((h ≤ length hints)
+    × ((narrowsFrom (aclOf old) low (groupsOf (recordsFrom new at)) (hintsFrom hints h) ≡ narrows (aclOf old) (aclOf new) (hintsOf hints))
+    × ((from ≤ length old) × (groupsOf (recordsFrom old from) ≡ drop low (aclOf old)))))
 
 abbrev μ-loop : tie.MeasureT-loop
-μ-loop old new hints low₀ h₀ at₀ low h at = length new - at
+μ-loop old new hints low₀ from₀ h₀ at₀ low from h at = length new - at
 
 loop-holds : tie.Need-loop-holds Inv-loop μ-loop
 unfolding recordsFrom
 loop-holds c =
     let a = c .before .before .before .args in
-    (search needs, (search needs, ap (narrowsFrom (aclOf (a .old .now)) 0 (aclOf (a .new .now))) (hints-start (a .hints .now))))
+    (search needs, (search needs, (ap (narrowsFrom (aclOf (a .old .now)) 0 (aclOf (a .new .now))) (hints-start (a .hints .now)), (search needs, ap groupsOf (rows-start (a .old .now))))))
 
 sub-loop : tie.Need-sub-loop Inv-loop μ-loop
 sub-loop c = search needs
@@ -35,7 +40,10 @@ loop-less : tie.Need-loop-less Inv-loop μ-loop
 loop-less c = search needs
 
 loop-again : tie.Need-loop-again Inv-loop μ-loop
-loop-again c = (search needs, (search needs, search (needs, groups-skip)))
+loop-again c =
+    let l = c .before .before in
+    let i = l .before .loop .inv in
+    (search needs, (search needs, (groups-skip _ _ _ _ _ _ _ (i .1 .1 .0) (l .loop-test .taken) (c .if1 .taken), i .1 .1 .1)))
 
 sub-if2 : tie.Need-sub-if2 Inv-loop μ-loop
 sub-if2 c = search needs
@@ -44,7 +52,7 @@ returns : tie.Need-returns Inv-loop μ-loop
 returns c =
     let e = c .before in
     let l = e .before .before in
-    hint-lacking _ _ _ _ _ _ _ (l .before .loop .inv .1 .1) (l .loop-test .taken) (e .if1 .left) (c .if2 .taken)
+    hint-lacking _ _ _ _ _ _ _ (l .before .loop .inv .1 .1 .0) (l .loop-test .taken) (e .if1 .left) (c .if2 .taken)
 
 add-hint : tie.Need-add-hint Inv-loop μ-loop
 add-hint c = search needs
@@ -58,8 +66,8 @@ part-hint-start c = search needs
 part-hint-end : tie.Need-part-hint-end Inv-loop μ-loop
 part-hint-end c = search needs
 
-shared-slice-read-source : tie.Need-shared-slice-read-source Inv-loop μ-loop
-shared-slice-read-source c = search needs
+shared-slice-read-wide : tie.Need-shared-slice-read-wide Inv-loop μ-loop
+shared-slice-read-wide c = search needs
 
 wide-requires : tie.Need-wide-requires Inv-loop μ-loop
 wide-requires c κs = search needs
@@ -70,7 +78,13 @@ returns-2 c =
     let g = w .before .before .before in
     let e = g .before in
     let l = e .before .before in
-    source-falls _ _ _ _ _ _ _ (l .before .loop .inv .1 .1) (l .loop-test .taken) (e .if1 .left) (g .if2 .left) _ (w .wide .ensures .0) (c .if3 .taken)
+    source-falls _ _ _ _ _ _ _ (l .before .loop .inv .1 .1 .0) (l .loop-test .taken) (e .if1 .left) (g .if2 .left) _ (w .wide .ensures .0) (c .if3 .taken)
+
+cast-group-at : tie.Need-cast-group-at Inv-loop μ-loop
+cast-group-at c = search needs
+
+group-at-requires : tie.Need-group-at-requires Inv-loop μ-loop
+group-at-requires c κs = search needs
 
 add-source-narrows : tie.Need-add-source-narrows Inv-loop μ-loop
 add-source-narrows c = search needs
@@ -105,21 +119,33 @@ part-source-narrows-start-3 c = search needs
 part-source-narrows-end-3 : tie.Need-part-source-narrows-end-3 Inv-loop μ-loop
 part-source-narrows-end-3 c = search needs
 
+sub-source-narrows-4 : tie.Need-sub-source-narrows-4 Inv-loop μ-loop
+sub-source-narrows-4 c = search needs
+
+part-source-narrows-start-4 : tie.Need-part-source-narrows-start-4 Inv-loop μ-loop
+part-source-narrows-start-4 c = search needs
+
+part-source-narrows-end-4 : tie.Need-part-source-narrows-end-4 Inv-loop μ-loop
+part-source-narrows-end-4 c = search needs
+
 source-narrows-requires : tie.Need-source-narrows-requires Inv-loop μ-loop
-source-narrows-requires c κs = search needs
+source-narrows-requires c κs = (search needs, begins _ _ _ _ (c .before .before .before .before .group-at .ensures))
 
 returns-3 : tie.Need-returns-3 Inv-loop μ-loop
 returns-3 c =
     let s = c .before in
-    let f = s .before .before .before .before in
+    let p = s .before .before .before .before .before in
+    let f = p .before in
     let w = f .before in
     let g = w .before .before .before in
     let e = g .before in
     let l = e .before .before in
-    source-wider _ _ _ _ _ _ _ (l .before .loop .inv .1 .1) (l .loop-test .taken) (e .if1 .left) (g .if2 .left) _ (w .wide .ensures .0) (f .if3 .left) _ (s .source-narrows .ensures) (c .if4 .taken)
+    let i = l .before .loop .inv .1 .1 in
+    let t = source-found _ _ _ _ _ (i .1 .1) (f .if3 .left) (p .group-at .ensures) _ _ _ (s .source-narrows .ensures) in
+    source-wider _ _ _ _ _ _ _ (i .0) (l .loop-test .taken) (e .if1 .left) (g .if2 .left) _ (w .wide .ensures .0) (f .if3 .left) _ t (c .if4 .taken)
 
-wide-requires-2 : tie.Need-wide-requires-2 Inv-loop μ-loop
-wide-requires-2 c κs = search needs
+group-at-requires-2 : tie.Need-group-at-requires-2 Inv-loop μ-loop
+group-at-requires-2 c κs = c .before .before .before .before .before .before .group-at .ensures .inside
 
 add-low : tie.Need-add-low Inv-loop μ-loop
 add-low c = search needs
@@ -137,19 +163,23 @@ loop-again-2 : tie.Need-loop-again-2 Inv-loop μ-loop
 loop-again-2 c =
     let k = c .before in
     let s = k .before in
-    let f = s .before .before .before .before in
+    let p = s .before .before .before .before .before in
+    let f = p .before in
     let w = f .before in
     let g = w .before .before .before in
     let e = g .before in
     let l = e .before .before in
-    let n = source-kept _ _ _ _ _ _ _ (l .before .loop .inv .1 .1) (l .loop-test .taken) (e .if1 .left) (g .if2 .left) _ (w .wide .ensures .0) (f .if3 .left) _ (s .source-narrows .ensures) _ (ap (λ z. z + 1) (c .wide2 .ensures .0)) (k .if4 .left) in
-    (search needs, (search needs, n))
+    let i = l .before .loop .inv .1 .1 in
+    let t = source-found _ _ _ _ _ (i .1 .1) (f .if3 .left) (p .group-at .ensures) _ _ _ (s .source-narrows .ensures) in
+    let n = source-kept _ _ _ _ _ _ _ (i .0) (l .loop-test .taken) (e .if1 .left) (g .if2 .left) _ (w .wide .ensures .0) (f .if3 .left) _ t (k .if4 .left) in
+    let m = left-next _ _ _ _ _ (i .1 .1) (f .if3 .left) (p .group-at .ensures) _ (c .group-at2 .ensures) in
+    (search needs, (search needs, (n, (c .group-at2 .ensures .inside, m))))
 
 sub-result : tie.Need-sub-result Inv-loop μ-loop
 sub-result c = search needs
 
 returns-4 : tie.Need-returns-4 Inv-loop μ-loop
-returns-4 c = hints-spent _ _ _ _ _ _ _ (c .before .loop .inv .1 .1) (c .loop-test .left)
+returns-4 c = hints-spent _ _ _ _ _ _ _ (c .before .loop .inv .1 .1 .0) (c .loop-test .left)
 
 pub shows-narrowing-spec : {M : Type 1} → statement M
 shows-narrowing-spec =
@@ -169,9 +199,11 @@ shows-narrowing-spec =
     sub-hint
     part-hint-start
     part-hint-end
-    shared-slice-read-source
+    shared-slice-read-wide
     wide-requires
     returns-2
+    cast-group-at
+    group-at-requires
     add-source-narrows
     sub-source-narrows
     part-source-narrows-start
@@ -183,9 +215,12 @@ shows-narrowing-spec =
     sub-source-narrows-3
     part-source-narrows-start-3
     part-source-narrows-end-3
+    sub-source-narrows-4
+    part-source-narrows-start-4
+    part-source-narrows-end-4
     source-narrows-requires
     returns-3
-    wide-requires-2
+    group-at-requires-2
     add-low
     add-h
     add-at-2

@@ -3,11 +3,8 @@ use borrow.Author.Needs.{needs}
 use Rattle.narrowing.proofs.source_narrows.Statement.{statement}
 use Rattle.narrowing.proofs.source_narrows.Tie as tie
 
-from-group-requires : tie.Need-from-group-requires
-from-group-requires c κs = search needs
-
 returns : tie.Need-returns
-returns c = source-missing _ _ _ (c .before .from-group .ensures) _ _ (c .if1 .taken)
+returns c = source-missing _ _ _ (c .if1 .taken)
 
 sub-group-narrows : tie.Need-sub-group-narrows
 sub-group-narrows c = search needs
@@ -31,13 +28,12 @@ group-narrows-requires : tie.Need-group-narrows-requires
 group-narrows-requires c κs = search needs
 
 returns-2 : tie.Need-returns-2
-returns-2 c = let e = c .before .before .before in source-there _ _ _ (e .before .from-group .ensures) _ _ _ _ (e .if1 .left) (c .group-narrows .ensures)
+returns-2 c = let e = c .before .before .before in source-there _ _ _ _ _ (e .before .before .before .before .before .pre .1) (e .if1 .left) (c .group-narrows .ensures)
 
 pub source-narrows-spec : {M : Type 1} → statement M
 source-narrows-spec =
     tie.close
     (tie.spec
-    from-group-requires
     returns
     sub-group-narrows
     part-group-narrows-start
