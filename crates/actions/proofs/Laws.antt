@@ -63,15 +63,21 @@ pub present-optional : {A : Type 0} (t : Bool) (a : A) → present (optional t a
 present-optional true a = refl
 present-optional false a = refl
 
-module _ (off : ℕ) (rec : Bytes) (r t : Bool) (is : r ≡ t) where
-  pub hash-there : length rec ≡ 64 → off + 20 ≤ 64 → r ≡ true → given (take (off + 20 - off) (drop off rec)) ≡ optional t (part off 20 rec)
-  hash-there l h e =
+same-as-none : (o : Option Bytes) → false ≡ bothSame o none
+same-as-none none = refl
+same-as-none (some x) = refl
+
+module _ (off : ℕ) (rec : Bytes) (o : Option Bytes) (r t : Bool) (is : r ≡ t) where
+  pub named-there : (s : Bool) → length rec ≡ 64 → off + 20 ≤ 64 → not r ≡ false → s ≡ bothSame o (given (take (off + 20 - off) (drop off rec)))
+      → s ≡ bothSame o (optional t (part off 20 rec))
+  named-there s l h e q =
       let k : off + 20 - off ≡ 20 = omega arith in
       let m : length (part off 20 rec) ≡ 20 = length-take-le 20 (drop off rec) (omega (arith, length-drop off rec)) in
-      rw (k, ← is, e) (given-some (part off 20 rec) (λ z. omega arith))
+      let g : given (take (off + 20 - off) (drop off rec)) ≡ some (part off 20 rec) = rw k (given-some (part off 20 rec) (λ z. omega arith)) in
+      rw (← is, not-false r e) (q ∙ ap (bothSame o) g)
 
-  pub hash-absent : r ≡ false → none ≡ optional t (part off 20 rec)
-  hash-absent e = rw (← is, e)
+  pub named-not : not r ≡ true → false ≡ bothSame o (optional t (part off 20 rec))
+  named-not e = rw (← is, not-true r e) (same-as-none o)
 
 -- WB1 to WB6, by the flags
 pub by-flags : (hkm : Option Bytes) (rec : Bytes) (x : Option Step)

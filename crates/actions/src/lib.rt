@@ -96,15 +96,15 @@ fn bits_admitted(policy: Policy, bits: u16) -> bool
     true
 }
 
-// A hash that flag f announces; an empty part where the flag is clear.
-pub fn optional_hash(f: u16, off: usize, rec: &[u8]) -> &[u8]
+// Whether a record names a key by the hash that flag f announces: the key is there, the flag is set, and the hash is the key's.
+pub fn names_key(key: &[u8], f: u16, off: usize, rec: &[u8]) -> bool
     requires { ⌜ (f < 16) × (length (now rec) ≡ recordBytes) × (off + hashBytes ≤ recordBytes) ⌝ }
-    ensures { λ r. ⌜ given (now r) ≡ optional (flag f (now (rec .entry))) (part off hashBytes (now (rec .entry))) ⌝ }
+    ensures { λ r. ⌜ r ≡ bothSame (given (now (key .entry))) (optional (flag f (now (rec .entry))) (part off hashBytes (now (rec .entry)))) ⌝ }
 {
-    if fields::flag_of(f, rec) {
-        return &rec[off..off + sizes::HASH];
+    if !fields::flag_of(f, rec) {
+        return false;
     }
-    &rec[0..0]
+    evidence::both_same(key, &rec[off..off + sizes::HASH])
 }
 
 // OpPermissions: no permission that is forbidden, or that the policy lacks.
@@ -123,8 +123,7 @@ fn under_module_key(hkm: &[u8], rec: &[u8]) -> bool
     requires { ⌜ length (now rec) ≡ recordBytes ⌝ }
     ensures { λ r. ⌜ r ≡ bothSame (given (now (hkm .entry))) (blobRuleOf (now (rec .entry)) .kmhash) ⌝ }
 {
-    let hash = optional_hash(2, 4, rec);
-    evidence::both_same(hkm, hash)
+    names_key(hkm, 2, 4, rec)
 }
 
 // MakeBlob: protected by the module or a token, under the trusted module key, never the null key, and a token with its parameters.
@@ -161,8 +160,7 @@ fn under_recovery_key(hkre: &[u8], rec: &[u8]) -> bool
     requires { ⌜ length (now rec) ≡ recordBytes ⌝ }
     ensures { λ r. ⌜ r ≡ bothSame (given (now (hkre .entry))) (archiveRuleOf (now (rec .entry)) .kahash) ⌝ }
 {
-    let hash = optional_hash(0, 4, rec);
-    evidence::both_same(hkre, hash)
+    names_key(hkre, 0, 4, rec)
 }
 
 // MakeArchiveBlob: under the trusted recovery key, by the suite's mechanism.

@@ -15,6 +15,7 @@ use Rattle.rules.specs.Bundle.{field, Policy, policyOf}
 use Rattle.rules.specs.Desk.{Step, moduleKey, recoveryKey, failureUnder, officersGroup, groupFailure, aclFailure, actionProtection, softParameters, smallest, isArchive, keyProtection, recoverableKey}
 use Rattle.rules.proofs.Rows.{recordsFrom, rows-start, rows-lent, rows-end, lentRecord, lent-record, lentRest, rows-rest, kind-at}
 use Rattle.groups.specs.Parts.{NextAction}
+use Rattle.evidence.specs.Given.{given}
 use Rattle.grading.specs.Groups.{actionsFailure, Under, groupAt}
 
 -- Where a loop over a group's actions stands: a record that is left there is an action.
@@ -49,6 +50,10 @@ actions-at s at st h =
 pub actions-end : (s : Bytes) (at : ℕ) → length s - at < 64 → actionsFrom s at ≡ []
 unfolding actionsFrom actionsOf
 actions-end s at h = ap actionsOf (rows-end s at h)
+
+-- a key that a part of the bundle stands for
+pub named-by : (a : Bytes) (o p : Option Bytes) (r : Bool) → given a ≡ o → r ≡ bothSame (given a) p → r ≡ bothSame o p
+named-by a o p r e g = rw (← e) g
 
 -- The first step that an action fails.
 module _ (policy : Policy) (hkm hkre : Option Bytes) (s : Bytes) (at : ℕ) (x : Option Step) (inv : actionsFailure policy hkm hkre (actionsFrom s at) ≡ x) where

@@ -30,8 +30,7 @@ fn is_officers(bundle: &[u8], head: &[u8]) -> bool
     requires { ⌜ length (now head) ≡ recordBytes ⌝ }
     ensures { λ r. ⌜ r ≡ bothSame (field 4 (records (now (bundle .entry)))) (optional (flag 0 (now (head .entry))) (part 4 hashBytes (now (head .entry)))) ⌝ }
 {
-    let officer = evidence::field_of(4, bundle);
-    evidence::both_same(officer, actions::optional_hash(0, 4, head))
+    actions::names_key(evidence::field_of(4, bundle), 0, 4, head)
 }
 
 // The first step that an action of a group fails. `rest` are the records that follow the group's first.
