@@ -2,6 +2,7 @@
 
 pub const SIGN: u8 = 4;
 pub const REDUCE_ACL: u8 = 2;
+pub const EXPAND_ACL: u8 = 12;
 pub const TIME: u64 = 1_000;
 
 const GROUPS: u8 = 16;
@@ -76,10 +77,20 @@ pub fn small_acl() -> Vec<u8> {
     file(&[record(1, 0, &[]), permissions(1 << SIGN | 1 << REDUCE_ACL)])
 }
 
-/// Sixteen full groups; only the last action of the last group permits Sign and ReduceACL.
+/// Sixteen full groups; only the last action of the last group has these permissions.
+fn last_of_all(bits: u16) -> Vec<u8> {
+    let last = |g| if g == GROUPS - 1 { bits } else { 1 };
+    file(&(0..GROUPS).flat_map(|g| full_group(g, last(g), NEVER_SPENT)).collect::<Vec<_>>())
+}
+
+/// Sixteen full groups; only the last one permits Sign and ReduceACL.
 pub fn granted_last() -> Vec<u8> {
-    let bits = |g| if g == GROUPS - 1 { 1 << SIGN | 1 << REDUCE_ACL } else { 1 };
-    file(&(0..GROUPS).flat_map(|g| full_group(g, bits(g), NEVER_SPENT)).collect::<Vec<_>>())
+    last_of_all(1 << SIGN | 1 << REDUCE_ACL)
+}
+
+/// Sixteen full groups; only the last one permits ExpandACL.
+pub fn expandable() -> Vec<u8> {
+    last_of_all(1 << EXPAND_ACL)
 }
 
 /// Sixteen full groups, each of which permits Sign by its last action and is spent by its last limit.

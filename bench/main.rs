@@ -8,7 +8,7 @@ mod ordinary;
 mod proved;
 mod stack;
 
-use inputs::{REDUCE_ACL, SIGN, TIME};
+use inputs::{EXPAND_ACL, REDUCE_ACL, SIGN, TIME};
 use std::hint::black_box;
 use std::time::Instant;
 
@@ -181,19 +181,30 @@ fn load() -> String {
     text.split(' ').take(3).collect::<Vec<_>>().join(" ")
 }
 
-fn measure_stack(cases: &[Case]) {
-    println!("\nstack of a call of the library, in bytes, with the caller's frames (under 4,096: counted as 4,096)");
-    for case in cases {
-        let deep = stack::depth(|| drop((case.call)(&mut Proved::loaded(), &case.files, 1)));
-        println!("{:<48} {deep:>9}", case.name);
-    }
+// The stack of one call on the longest files, of every function of the library.
+fn measure_stack() {
+    let (km0, full) = (inputs::km0(), inputs::granted_last());
+    let ledger = proved::Ledger::fresh();
+    let print = |name: &str, depth: usize| println!("{name:<48} {depth:>9}");
+    println!("\nstack of a call of the library, in bytes (below 4,096: shown as 4,096)");
+    print("fresh", stack::depth(|| proved::Ledger::fresh()));
+    print("load", stack::depth(|| ledger.load(TIME)));
+    print("clear", stack::depth(|| ledger.clear(95)));
+    print("request", stack::depth(|| ledger.request(&km0, &full, &inputs::full_request(SIGN))));
+    let (narrow, expand) = (inputs::full_request(REDUCE_ACL), inputs::full_request(EXPAND_ACL));
+    print("narrow", stack::depth(|| ledger.narrow(&km0, &full, &narrow, &full, &inputs::full_hints())));
+    let wide = inputs::expandable();
+    print("expand", stack::depth(|| ledger.expand(&km0, &wide, &expand, &full)));
+    print("desk", stack::depth(|| proved::assess(&inputs::full_bundle(), &inputs::full_key())));
+    let mut buffer = [0; 137];
+    print("subject", stack::depth(|| proved::write_subject(4, 4, &inputs::four_hashes(), &mut buffer)));
 }
 
 fn main() {
     let cases: Vec<Case> = request_cases().into_iter().chain(narrowing_cases()).chain(desk_cases()).chain([subject_case()]).collect();
-    println!("load average before: {}; files stay in memory, no buffer is cleared between calls", load());
+    println!("load average before: {}; files stay in memory, caches and buffers are not cleared between calls", load());
     println!("{:<48} {:>9} {:>9} {:>7}", "ns per call, median of 20 rounds", "proved", "ordinary", "ratio");
     let worst = cases.iter().map(measure).fold(0.0, f64::max);
     println!("largest ratio {worst:.2}; load average after: {}", load());
-    measure_stack(&cases);
+    measure_stack();
 }

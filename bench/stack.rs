@@ -28,9 +28,10 @@ fn depth_here(call: &mut dyn FnMut()) -> usize {
 }
 
 /// The same, on a thread whose stack has room for what is filled.
-pub fn depth(mut call: impl FnMut() + Send) -> usize {
+pub fn depth<T>(mut call: impl FnMut() -> T + Send) -> usize {
+    let mut silent = move || drop(std::hint::black_box(call()));
     std::thread::scope(|s| {
-        let made = std::thread::Builder::new().stack_size(4 * REACH).spawn_scoped(s, move || depth_here(&mut call));
+        let made = std::thread::Builder::new().stack_size(4 * REACH).spawn_scoped(s, move || depth_here(&mut silent));
         made.expect("a thread").join().expect("a depth")
     })
 }

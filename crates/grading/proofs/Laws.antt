@@ -13,7 +13,7 @@ use Rattle.rules.specs.Basics.{if_then_else_, Bytes, any, part, kind, flag, opt
 use Rattle.rules.specs.Acl.{Action, permissions, makeBlob, makeArchive, actionOf, actionsOf, Group, groupOf, groupsOf}
 use Rattle.rules.specs.Bundle.{field, Policy, policyOf}
 use Rattle.rules.specs.Desk.{Step, moduleKey, recoveryKey, failureUnder, officersGroup, groupFailure, aclFailure, actionProtection, softParameters, smallest, isArchive, keyProtection, recoverableKey}
-use Rattle.rules.proofs.Rows.{recordsFrom, rows-start, rows-lent, rows-end, lentRecord, lent-record, lentRest, rows-rest, kind-at}
+use Rattle.rules.proofs.Rows.{recordsFrom, rows-start, rows-at, rows-lent, rows-end, lentRecord, lent-record, lentRest, rows-rest, kind-at}
 use Rattle.groups.specs.Parts.{NextAction}
 use Rattle.evidence.specs.Given.{given}
 use Rattle.grading.specs.Groups.{actionsFailure, Under, groupAt}
@@ -199,6 +199,11 @@ recovery-more : (b : List Bytes) (gs hs : List Group) → recoverableKey b (gs +
 unfolding recoverableKey
 recovery-more b gs hs = any-more (λ g. officersGroup b g || any isArchive (g .actions)) gs hs
 
+-- a record that begins no group is passed over
+pub groups-past : (s : Bytes) (at : ℕ) → 64 ≤ length s - at → (getD s at 0 ≡ 1 → ⊥) → groupsFrom s (at + 64) ≡ groupsFrom s at
+unfolding groupsFrom groupsOf
+groups-past s at h n = sym (ap groupsOf (rows-at s at h) ∙ rw (kind-at s at, ne-eqb (getD s at 0) 1 n))
+
 -- The first step that an ACL fails.
 module _ (b : List Bytes) (s : Bytes) (at : ℕ) (x : Option Step) (inv : aclFailure b (groupsFrom s at) ≡ x) where
   acl-step : 64 ≤ length s - at → orNext (aclFailure b (here s at)) (aclFailure b (groupsFrom s (at + 64))) ≡ x
@@ -218,6 +223,9 @@ module _ (b : List Bytes) (s : Bytes) (at : ℕ) (x : Option Step) (inv : aclFai
 
 -- The key's protection: what was found, and what is left.
 module _ (b : List Bytes) (s : Bytes) (at found x : ℕ) (inv : min found (keyProtection b (groupsFrom s at)) ≡ x) where
+  pub key-past : 64 ≤ length s - at → (getD s at 0 ≡ 1 → ⊥) → min found (keyProtection b (groupsFrom s (at + 64))) ≡ x
+  key-past h n = ap (λ (gs : List Group). min found (keyProtection b gs)) (groups-past s at h n) ∙ inv
+
   pub key-next : (p found′ : ℕ) → 64 ≤ length s - at → p ≡ keyProtection b (here s at) → found′ ≡ min found p → min found′ (keyProtection b (groupsFrom s (at + 64))) ≡ x
   key-next p found′ h e d =
       let a : keyProtection b (groupsFrom s at) ≡ min p (keyProtection b (groupsFrom s (at + 64))) =

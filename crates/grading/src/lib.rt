@@ -131,6 +131,10 @@ fn acl_steps_under(bundle: &[u8], policy: Policy, hkm: &[u8], hkre: &[u8], acl: 
 {
     let mut at = 0;
     while 64 <= acl.len() - at {
+        if acl[at] != 1 {
+            at += 64;
+            continue;
+        }
         let f = group_steps(
             bundle,
             policy,
@@ -164,6 +168,10 @@ pub fn key_protection(bundle: &[u8], acl: &[u8]) -> u8
     let mut found = actions::NOT_KEPT;
     let mut at = 0;
     while 64 <= acl.len() - at {
+        if acl[at] != 1 {
+            at += 64;
+            continue;
+        }
         found = weaker(
             found,
             group_protection(bundle, &acl[at..at + 64], &acl[at + 64..]),
@@ -179,6 +187,10 @@ pub fn is_recoverable(bundle: &[u8], acl: &[u8]) -> bool
 {
     let mut at = 0;
     while 64 <= acl.len() - at {
+        if acl[at] != 1 {
+            at += 64;
+            continue;
+        }
         if group_recovers(bundle, &acl[at..at + 64], &acl[at + 64..]) {
             return true;
         }

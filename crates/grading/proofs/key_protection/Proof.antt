@@ -1,10 +1,10 @@
 use Prim.Native.Nat.{_≤_, _-_, min}
-use mathlib.Core.Path.{_≡_, ap}
+use mathlib.Core.Path.{_≡_}
 use lib.ListN.{length}
 use Rattle.rules.specs.Basics.{records}
 use Rattle.rules.specs.Acl.{groupsOf}
 use Rattle.rules.specs.Desk.{keyProtection}
-use Rattle.grading.proofs.Laws.{groupsFrom, key-start, key-next, key-done}
+use Rattle.grading.proofs.Laws.{groupsFrom, key-start, key-past, key-next, key-done}
 use borrow.Author.Needs.{needs}
 use Rattle.grading.proofs.key_protection.Statement.{statement}
 use Rattle.grading.proofs.key_protection.Tie as tie
@@ -20,6 +20,21 @@ loop-holds c = (search needs, (search needs, key-start _ _))
 
 sub-loop : tie.Need-sub-loop Inv-loop μ-loop
 sub-loop c = search needs
+
+shared-slice-read-if1 : tie.Need-shared-slice-read-if1 Inv-loop μ-loop
+shared-slice-read-if1 c = search needs
+
+add-at : tie.Need-add-at Inv-loop μ-loop
+add-at c = search needs
+
+loop-less : tie.Need-loop-less Inv-loop μ-loop
+loop-less c = search needs
+
+loop-again : tie.Need-loop-again Inv-loop μ-loop
+loop-again c =
+    let l = c .before .before in
+    let i = l .before .loop .inv in
+    (search needs, (search needs, key-past _ _ _ _ _ (i .1 .1) (l .loop-test .taken) (c .if1 .taken)))
 
 add-group-protection : tie.Need-add-group-protection Inv-loop μ-loop
 add-group-protection c = search needs
@@ -51,15 +66,15 @@ group-protection-requires c κs = search needs
 weaker-requires : tie.Need-weaker-requires Inv-loop μ-loop
 weaker-requires c κs = search needs
 
-add-at : tie.Need-add-at Inv-loop μ-loop
-add-at c = search needs
+add-at-2 : tie.Need-add-at-2 Inv-loop μ-loop
+add-at-2 c = search needs
 
-loop-less : tie.Need-loop-less Inv-loop μ-loop
-loop-less c = search needs
+loop-less-2 : tie.Need-loop-less-2 Inv-loop μ-loop
+loop-less-2 c = search needs
 
-loop-again : tie.Need-loop-again Inv-loop μ-loop
-loop-again c =
-    let l = c .before .before .before .before in
+loop-again-2 : tie.Need-loop-again-2 Inv-loop μ-loop
+loop-again-2 c =
+    let l = c .before .before .before .before .before .before in
     (search needs, (search needs, key-next _ _ _ _ _ (l .before .loop .inv .1 .1) _ _ (l .loop-test .taken) (c .before .group-protection .ensures) (c .weaker .ensures)))
 
 returns : tie.Need-returns Inv-loop μ-loop
@@ -73,6 +88,10 @@ key-protection-spec =
     μ-loop
     loop-holds
     sub-loop
+    shared-slice-read-if1
+    add-at
+    loop-less
+    loop-again
     add-group-protection
     sub-group-protection
     part-group-protection-start
@@ -83,7 +102,7 @@ key-protection-spec =
     part-group-protection-end-2
     group-protection-requires
     weaker-requires
-    add-at
-    loop-less
-    loop-again
+    add-at-2
+    loop-less-2
+    loop-again-2
     returns)
