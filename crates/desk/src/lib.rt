@@ -65,16 +65,6 @@ fn protection_of(n: u8) -> Protection
     Protection::NotKept
 }
 
-// The first fault of two readings, one after the other.
-fn first_fault(a: Checked, b: Checked) -> Checked
-    ensures { λ r. ⌜ faultOf r ≡ orNext (faultOf a) (faultOf b) ⌝ }
-{
-    match a {
-        Checked::Sound => b,
-        Checked::Refused(r) => Checked::Refused(r),
-    }
-}
-
 // Whether the policy names a suite.
 fn suite_known(bundle: &[u8]) -> Checked
     ensures { λ r. ⌜ faultOf r ≡ suiteFault (records (now (bundle .entry))) ⌝ }
@@ -93,9 +83,9 @@ fn read_both(bundle: &[u8], acl: &[u8]) -> Checked
     if !(files::whole(sizes::BUNDLE_RECORDS, bundle) & files::whole(sizes::ACL_RECORDS, acl)) {
         return Checked::Refused(Refusal::BadLength);
     }
-    first_fault(
+    files::first_fault(
         bundle::bundle_records(bundle),
-        first_fault(acl::acl_records(acl), suite_known(bundle)),
+        files::first_fault(acl::acl_records(acl), suite_known(bundle)),
     )
 }
 

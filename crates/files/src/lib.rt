@@ -1,8 +1,8 @@
 // What every reader of a file answers with, and the test of a file's length.
 ghost use mathlib.Core.Path.{_≡_};
 ghost use Prim.Native.Nat.{_≤_};
-ghost use Rattle.rules.specs.Basics.{fits};
-ghost use Rattle.files.specs.Refusals.{refusalNumber};
+ghost use Rattle.rules.specs.Basics.{fits, orNext};
+ghost use Rattle.files.specs.Refusals.{refusalNumber, faultOf};
 
 // A refusal of document 01's table; refusalNumber gives its number there.
 pub enum Refusal {
@@ -41,6 +41,16 @@ pub fn number(r: Refusal) -> u8
         Refusal::ShortBuffer => 9,
         Refusal::OutOfRange => 10,
         Refusal::UnknownSuite => 11,
+    }
+}
+
+// The first fault of two readings, one after the other.
+pub fn first_fault(a: Checked, b: Checked) -> Checked
+    ensures { λ r. ⌜ faultOf r ≡ orNext (faultOf a) (faultOf b) ⌝ }
+{
+    match a {
+        Checked::Sound => b,
+        Checked::Refused(r) => Checked::Refused(r),
     }
 }
 

@@ -5,7 +5,7 @@ ghost use mathlib.Core.Option.{none};
 ghost use Prim.Native.Nat.{_≤_, _<_};
 ghost use lib.ListN.{length, getD, set, replicate, drop};
 ghost use Rattle.rules.specs.Sizes.{fullCount, groupsMax};
-ghost use Rattle.rules.specs.Basics.{all, records, orNext};
+ghost use Rattle.rules.specs.Basics.{all, records};
 ghost use Rattle.rules.specs.Acl.{limitsOf, aclOf, aclFault};
 ghost use Rattle.rules.specs.Request.{requestOf, requestFault, useOf, reduceAcl, expandAcl, hintsOf, hintsFault};
 ghost use Rattle.rules.specs.Ledger.{freshLedger, raised, raisedBy, recounted};
@@ -357,16 +357,6 @@ impl Ledger {
     }
 }
 
-// What was found first, of two.
-fn first_of(a: Checked, b: Checked) -> Checked
-    ensures { λ r. ⌜ faultOf r ≡ orNext (faultOf a) (faultOf b) ⌝ }
-{
-    match a {
-        Checked::Refused(r) => Checked::Refused(r),
-        Checked::Sound => b,
-    }
-}
-
 // The first fault of a narrowing's files.
 fn narrow_files(km0: &[u8], acl: &[u8], req: &[u8], new: &[u8], hints: &[u8]) -> Checked
     ensures { λ r. ⌜ faultOf r ≡ narrowFiles (now (km0 .entry)) (now (acl .entry)) (now (req .entry)) (now (new .entry)) (now (hints .entry)) ⌝ }
@@ -377,9 +367,9 @@ fn narrow_files(km0: &[u8], acl: &[u8], req: &[u8], new: &[u8], hints: &[u8]) ->
     if !fit {
         return Checked::Refused(Refusal::BadLength);
     }
-    let replacement = first_of(acl::acl_records(new), request::hint_records(hints));
-    let rest = first_of(request::use_records(REDUCE_ACL, req), replacement);
-    first_of(acl::acl_records(acl), rest)
+    let replacement = files::first_fault(acl::acl_records(new), request::hint_records(hints));
+    let rest = files::first_fault(request::use_records(REDUCE_ACL, req), replacement);
+    files::first_fault(acl::acl_records(acl), rest)
 }
 
 // The first fault of an expansion's files.
@@ -390,8 +380,8 @@ fn expand_files(km0: &[u8], acl: &[u8], req: &[u8], new: &[u8]) -> Checked
     if !fit {
         return Checked::Refused(Refusal::BadLength);
     }
-    let rest = first_of(request::use_records(EXPAND_ACL, req), acl::acl_records(new));
-    first_of(acl::acl_records(acl), rest)
+    let rest = files::first_fault(request::use_records(EXPAND_ACL, req), acl::acl_records(new));
+    files::first_fault(acl::acl_records(acl), rest)
 }
 
 impl Ledger {

@@ -22,14 +22,14 @@ use-records-requires c κs = search needs
 acl-records-requires : tie.Need-acl-records-requires
 acl-records-requires c κs = search needs
 
-first-of-requires : tie.Need-first-of-requires
-first-of-requires c κs = search needs
+first-fault-requires : tie.Need-first-fault-requires
+first-fault-requires c κs = search needs
 
 acl-records-requires-2 : tie.Need-acl-records-requires-2
 acl-records-requires-2 c κs = search needs
 
-first-of-requires-2 : tie.Need-first-of-requires-2
-first-of-requires-2 c κs = search needs
+first-fault-requires-2 : tie.Need-first-fault-requires-2
+first-fault-requires-2 c κs = search needs
 
 returns-2 : tie.Need-returns-2
 returns-2 c =
@@ -40,8 +40,8 @@ returns-2 c =
     let i = u .before in
     let w = i .before in
     let e = both-are _ _ _ _ (w .before .lengths-fit .ensures) (w .whole .ensures) in
-    let r = fault-next _ _ _ _ _ (f1 .first-of .ensures) (u .use-records .ensures) (fault-last _ _ (a1 .acl-records .ensures)) in
-    fault-later _ _ _ _ _ e (i .if1 .left) (fault-next _ _ _ _ _ (c .first-of2 .ensures) (a2 .acl-records2 .ensures) r)
+    let r = fault-next _ _ _ _ _ (f1 .first-fault .ensures) (u .use-records .ensures) (fault-last _ _ (a1 .acl-records .ensures)) in
+    fault-later _ _ _ _ _ e (i .if1 .left) (fault-next _ _ _ _ _ (c .first-fault2 .ensures) (a2 .acl-records2 .ensures) r)
 
 pub expand-files-spec : {M : Type 1} → statement M
 expand-files-spec =
@@ -52,7 +52,7 @@ expand-files-spec =
     returns
     use-records-requires
     acl-records-requires
-    first-of-requires
+    first-fault-requires
     acl-records-requires-2
-    first-of-requires-2
+    first-fault-requires-2
     returns-2)

@@ -27,20 +27,20 @@ acl-records-requires c κs = search needs
 hint-records-requires : tie.Need-hint-records-requires
 hint-records-requires c κs = search needs
 
-first-of-requires : tie.Need-first-of-requires
-first-of-requires c κs = search needs
+first-fault-requires : tie.Need-first-fault-requires
+first-fault-requires c κs = search needs
 
 use-records-requires : tie.Need-use-records-requires
 use-records-requires c κs = search needs
 
-first-of-requires-2 : tie.Need-first-of-requires-2
-first-of-requires-2 c κs = search needs
+first-fault-requires-2 : tie.Need-first-fault-requires-2
+first-fault-requires-2 c κs = search needs
 
 acl-records-requires-2 : tie.Need-acl-records-requires-2
 acl-records-requires-2 c κs = search needs
 
-first-of-requires-3 : tie.Need-first-of-requires-3
-first-of-requires-3 c κs = search needs
+first-fault-requires-3 : tie.Need-first-fault-requires-3
+first-fault-requires-3 c κs = search needs
 
 returns-2 : tie.Need-returns-2
 returns-2 c =
@@ -54,9 +54,9 @@ returns-2 c =
     let w = i .before in
     let v = w .before in
     let e = both-are _ _ _ _ (both-are _ _ _ _ (v .before .lengths-fit .ensures) (v .whole .ensures)) (w .whole2 .ensures) in
-    let n = fault-next _ _ _ _ _ (f1 .first-of .ensures) (a1 .acl-records .ensures) (fault-last _ _ (h .hint-records .ensures)) in
-    let r = fault-next _ _ _ _ _ (f2 .first-of2 .ensures) (u .use-records .ensures) n in
-    fault-later _ _ _ _ _ e (i .if1 .left) (fault-next _ _ _ _ _ (c .first-of3 .ensures) (a2 .acl-records2 .ensures) r)
+    let n = fault-next _ _ _ _ _ (f1 .first-fault .ensures) (a1 .acl-records .ensures) (fault-last _ _ (h .hint-records .ensures)) in
+    let r = fault-next _ _ _ _ _ (f2 .first-fault2 .ensures) (u .use-records .ensures) n in
+    fault-later _ _ _ _ _ e (i .if1 .left) (fault-next _ _ _ _ _ (c .first-fault3 .ensures) (a2 .acl-records2 .ensures) r)
 
 pub narrow-files-spec : {M : Type 1} → statement M
 narrow-files-spec =
@@ -68,9 +68,9 @@ narrow-files-spec =
     returns
     acl-records-requires
     hint-records-requires
-    first-of-requires
+    first-fault-requires
     use-records-requires
-    first-of-requires-2
+    first-fault-requires-2
     acl-records-requires-2
-    first-of-requires-3
+    first-fault-requires-3
     returns-2)

@@ -1,6 +1,6 @@
 use borrow.Author.Needs.{needs}
-use Rattle.desk.proofs.first_fault.Statement.{statement}
-use Rattle.desk.proofs.first_fault.Tie as tie
+use Rattle.files.proofs.first_fault.Statement.{statement}
+use Rattle.files.proofs.first_fault.Tie as tie
 
 enum-told : tie.Need-enum-told
 enum-told c = search needs
