@@ -1,22 +1,21 @@
 -- Narrowing and expansion: the first fault of their files, and what a permit comes to.
-use Prim.Native.Nat.{ℕ, _≤_, _/_, _%_, _*_}
-use native.Mathlib.Omega.{arith}
+use Prim.Native.Nat.{ℕ, _≤_}
 use mathlib.Core.Path.{_≡_, refl, sym, _∙_, ap}
 use mathlib.Core.List.{List, [], _∷_}
 use mathlib.Core.Option.{Option, none, some}
 use mathlib.Core.Bool.{Bool, true, false, _&&_, not}
-use borrow.Author.Tests.{not-true, not-false, leb-true}
-use lib.ListN.{length, replicate, length-map}
-use lib.Dec.{eqb, leb}
-use Rattle.rules.specs.Sizes.{recordBytes, groupsMax, aclRecords, hintRecords}
-use Rattle.rules.specs.Numbers.{badLength, notNarrower}
-use Rattle.rules.specs.Basics.{if_then_else_, Bytes, orNext, firstFault, fits, records}
+use borrow.Author.Tests.{not-true, not-false}
+use lib.ListN.{length, replicate}
+use Rattle.rules.specs.Sizes.{groupsMax}
+use Rattle.rules.specs.Numbers.{notNarrower}
+use Rattle.rules.specs.Basics.{if_then_else_, Bytes, orNext, firstFault}
 use Rattle.rules.specs.Acl.{Group}
-use Rattle.rules.specs.Request.{Hint, hintOf, hintsOf, useOf, reduceAcl, expandAcl}
+use Rattle.rules.specs.Request.{Hint, hintsOf, useOf, reduceAcl, expandAcl}
 use Rattle.rules.specs.Ledger.{Ledger, recounted, carried}
 use Rattle.rules.specs.Narrow.{narrows}
-use Rattle.rules.specs.Gate.{Outcome, refused, permitted, narrowed, expanded, lengthsFit, narrowFiles, expandFiles}
-use Rattle.rules.proofs.Laws.{and-right, fault-none-every, unless-passed, chunks-length}
+use Rattle.rules.specs.Gate.{Outcome, refused, permitted, narrowed, expanded, narrowFiles, expandFiles}
+use Rattle.rules.proofs.Laws.{fault-none-every}
+use Rattle.rules.proofs.Few.{narrow-few}
 use Rattle.gate.specs.Outcomes.{carriedFrom}
 use Rattle.gate.proofs.Settling.{sound-request}
 use Rattle.gate.proofs.Carries.{carried-is}
@@ -43,18 +42,8 @@ pub permit-ledger : (o : Outcome) (k : ℕ) (m : Ledger) → o ≡ permitted k m
 permit-ledger o k m e = ap (λ (x : Outcome). x .ledger) e
 
 -- What sound files tell: the request has a record, the hints are few.
-hints-few : (hints : Bytes) → fits hintRecords hints ≡ true → length (hintsOf hints) ≤ groupsMax
-unfolding records fits
-hints-few hints e =
-    let a = leb-true (length hints) (hintRecords * recordBytes) (and-right (eqb (length hints % recordBytes) 0) (leb (length hints) (hintRecords * recordBytes)) e) in
-    let b : length (hintsOf hints) ≡ length hints / 64 = length-map (records hints) hintOf ∙ chunks-length (length hints / 64) hints in
-    omega arith
-
 pub narrow-sound : (km0 acl req new hints : Bytes) → narrowFiles km0 acl req new hints ≡ none → (64 ≤ length req) × (length (hintsOf hints) ≤ groupsMax)
-narrow-sound km0 acl req new hints e =
-    let h = fault-none-every _ e in
-    let t = unless-passed (lengthsFit km0 acl req && fits aclRecords new && fits hintRecords hints) badLength (h .0) in
-    (sound-request (useOf reduceAcl) req (h .1 .1 .0), hints-few hints (and-right (lengthsFit km0 acl req && fits aclRecords new) (fits hintRecords hints) t))
+narrow-sound km0 acl req new hints e = (sound-request (useOf reduceAcl) req (fault-none-every _ e .1 .1 .0), narrow-few km0 acl req new hints e)
 
 pub expand-sound : (km0 acl req new : Bytes) → expandFiles km0 acl req new ≡ none → 64 ≤ length req
 expand-sound km0 acl req new e = let h = fault-none-every _ e in sound-request (useOf expandAcl) req (h .1 .1 .0)

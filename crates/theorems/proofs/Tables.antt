@@ -1,23 +1,21 @@
 -- Every call keeps the lengths of the ledger's tables, 16 and 96. Two wrong products that this rules out: one whose narrowing hands back as many counts
 -- as there are new groups, and one whose expansion drops the counts.
-use Prim.Native.Nat.{ℕ, _+_, _-_, _*_, _≤_, _/_, _%_}
+use Prim.Native.Nat.{ℕ, _+_, _-_, _≤_}
 use native.Mathlib.Omega.{arith}
 use mathlib.Core.Path.{_≡_, refl, _∙_}
 use mathlib.Core.List.{List, [], _∷_, map}
 use mathlib.Core.Option.{Option, none, some}
-use mathlib.Core.Bool.{Bool, true, false, _&&_}
+use mathlib.Core.Bool.{Bool, true, false}
 use lib.ListN.{length, getD, replicate, length-set, length-append, length-replicate, length-map}
-use lib.Dec.{eqb, leb, ltb}
-use borrow.Author.Tests.{leb-true}
-use Rattle.rules.specs.Sizes.{recordBytes, groupsMax, countersMax, aclRecords, hintRecords}
-use Rattle.rules.specs.Numbers.{badLength}
-use Rattle.rules.specs.Basics.{Bytes, records, fits}
+use lib.Dec.{ltb}
+use Rattle.rules.specs.Sizes.{groupsMax, countersMax}
+use Rattle.rules.specs.Basics.{Bytes}
 use Rattle.rules.specs.Acl.{Group, aclOf}
-use Rattle.rules.specs.Request.{Request, requestOf, Hint, hintOf, hintsOf}
+use Rattle.rules.specs.Request.{Request, requestOf, Hint, hintsOf}
 use Rattle.rules.specs.Ledger.{Ledger, freshLedger, charge, carried}
 use Rattle.rules.specs.Narrow.{narrows}
-use Rattle.rules.specs.Gate.{Outcome, Judgement, granted, denied, judge, permitted, unlessFault, settle, lengthsFit, requestFiles, request, clear, narrowFiles, narrowed, narrow, expandFiles, expanded, expand}
-use Rattle.rules.proofs.Laws.{and-right, unless-passed, fault-none-every, chunks-length}
+use Rattle.rules.specs.Gate.{Outcome, Judgement, granted, denied, judge, permitted, unlessFault, settle, requestFiles, request, clear, narrowFiles, narrowed, narrow, expandFiles, expanded, expand}
+use Rattle.rules.proofs.Few.{narrow-few}
 use Rattle.theorems.specs.Demands.{Call, requesting, loading, clearing, narrowing, expanding, State, outcome, after, afterAll}
 use Rattle.theorems.proofs.Permit.{called}
 use Rattle.theorems.proofs.Counters.{raisedBy-length}
@@ -44,14 +42,6 @@ called-sized fault l km0 gs q onPermit h f = pick fault (judge l km0 gs q) f
     pick none (granted k g) f = f k (charge l k g (q .time)) refl (charge-sized l k g (q .time) h)
     pick none (denied d) f = h
 
--- a hints file of at most 16 records has as many hints
-hints-few : (hints : Bytes) → fits hintRecords hints ≡ true → length (hintsOf hints) ≤ groupsMax
-unfolding records fits
-hints-few hints e =
-    let a = leb-true (length hints) (hintRecords * recordBytes) (and-right (eqb (length hints % recordBytes) 0) (leb (length hints) (hintRecords * recordBytes)) e) in
-    let b : length (hintsOf hints) ≡ length hints / 64 = length-map (records hints) hintOf ∙ chunks-length (length hints / 64) hints in
-    omega arith
-
 carried-sized : (counts : List ℕ) (hints : List Hint) → length hints ≤ groupsMax → length (carried counts hints) ≡ groupsMax
 carried-sized counts hints h =
     let a = length-map hints (λ (x : Hint). getD counts (x .source) 0) in
@@ -65,14 +55,9 @@ narrow-sized l km0 acl req new hints h =
     called-sized (narrowFiles km0 acl req new hints) l km0 (aclOf acl) (requestOf req) (narrowed l (aclOf acl) (aclOf new) (hintsOf hints)) h
     (λ k m e s. pick k m e s (narrows (aclOf acl) (aclOf new) (hintsOf hints)) refl)
   where
-    few : narrowFiles km0 acl req new hints ≡ none → length (hintsOf hints) ≤ groupsMax
-    few e =
-        let t = unless-passed (lengthsFit km0 acl req && fits aclRecords new && fits hintRecords hints) badLength (fault-none-every _ e .0) in
-        hints-few hints (and-right (lengthsFit km0 acl req && fits aclRecords new) (fits hintRecords hints) t)
-
     pick : (k : ℕ) (m : Ledger) → narrowFiles km0 acl req new hints ≡ none → Sized m → (b : Bool) → narrows (aclOf acl) (aclOf new) (hintsOf hints) ≡ b
         → Sized (narrowed l (aclOf acl) (aclOf new) (hintsOf hints) k m .ledger)
-    pick k m e s true d = rw d (record { groups = carried-sized (m .counts) (hintsOf hints) (few e); named = s .named })
+    pick k m e s true d = rw d (record { groups = carried-sized (m .counts) (hintsOf hints) (narrow-few km0 acl req new hints e); named = s .named })
     pick k m e s false d = rw d h
 
 pub call-sized : (s : State) (c : Call) → Sized (s .ledger) → Sized (outcome s c .ledger)
