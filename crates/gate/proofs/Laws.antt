@@ -52,19 +52,19 @@ module _ (before : List ℕ) (s : Bytes) (at : ℕ) (h : 64 ≤ length s - at) (
       and-left (limitHasRoom before (limitOf (part at 64 s))) (all (limitHasRoom before) (limitsOf (recordsFrom s (at + 64)))) d in
       rw (byte-at s at 4 (omega arith), byte-at s at 5 (omega arith)) at f
 
-  pub room-next : (b : List ℕ) → b ≡ before → all (limitHasRoom before) (limitsOf (recordsFrom s at)) ≡ true → all (limitHasRoom b) (limitsOf (recordsFrom s (at + 64))) ≡ true
+  pub room-next : all (limitHasRoom before) (limitsOf (recordsFrom s at)) ≡ true → all (limitHasRoom before) (limitsOf (recordsFrom s (at + 64))) ≡ true
   unfolding all
-  room-next b c e =
+  room-next e =
       let d : all (limitHasRoom before) (limitOf (part at 64 s) ∷ limitsOf (recordsFrom s (at + 64))) ≡ true = rw limits-at at e in
-      rw c (and-right (limitHasRoom before (limitOf (part at 64 s))) (all (limitHasRoom before) (limitsOf (recordsFrom s (at + 64)))) d)
+      and-right (limitHasRoom before (limitOf (part at 64 s))) (all (limitHasRoom before) (limitsOf (recordsFrom s (at + 64)))) d
 
-  pub raised-next : (b table next x : List ℕ) → b ≡ before → raisedBy before (limitsOf (recordsFrom s at)) table ≡ x → next ≡ raisedOnce before table (getD s (at + 4) 0) (getD s (at + 5) 0)
-      → raisedBy b (limitsOf (recordsFrom s (at + 64))) next ≡ x
+  pub raised-next : (table next x : List ℕ) → raisedBy before (limitsOf (recordsFrom s at)) table ≡ x → next ≡ raisedOnce before table (getD s (at + 4) 0) (getD s (at + 5) 0)
+      → raisedBy before (limitsOf (recordsFrom s (at + 64))) next ≡ x
   unfolding raisedBy
-  raised-next b table next x c e d =
+  raised-next table next x e d =
       let b4 = byte-at s at 4 (omega arith) in
       let b5 = byte-at s at 5 (omega arith) in
-      rw (c, d) (sym (ap (λ (l : List Limit). raisedBy before l table) limits-at ∙ rw (b4, b5)) ∙ e)
+      rw d (sym (ap (λ (l : List Limit). raisedBy before l table) limits-at ∙ rw (b4, b5)) ∙ e)
 
 module _ (before : List ℕ) (s : Bytes) (at : ℕ) (table x : List ℕ) (inv : raisedBy before (limitsOf (recordsFrom s at)) table ≡ x) where
   pub raised-stop : 64 ≤ length s - at → (getD s at 0 ≡ 2 → ⊥) → table ≡ x

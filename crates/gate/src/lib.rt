@@ -4,7 +4,7 @@ ghost use mathlib.Core.Bool.{true};
 ghost use mathlib.Core.Option.{none};
 ghost use Prim.Native.Nat.{_≤_, _<_};
 ghost use lib.ListN.{length, getD, set, replicate, drop};
-ghost use Rattle.rules.specs.Sizes.{fullCount, groupsMax};
+ghost use Rattle.rules.specs.Sizes.{fullCount, groupsMax, countersMax};
 ghost use Rattle.rules.specs.Basics.{all, records};
 ghost use Rattle.rules.specs.Acl.{limitsOf, aclOf, aclFault};
 ghost use Rattle.rules.specs.Request.{requestOf, requestFault, useOf, reduceAcl, expandAcl, hintsOf, hintsFault};
@@ -39,26 +39,24 @@ pub struct Outcome {
     pub reply: Reply,
 }
 
-// The named counters before a charge, and as it raises them.
+// The named counters as a charge raises them.
 struct Raising {
-    before: [u32; Ledger::COUNTERS],
     table: [u32; Ledger::COUNTERS],
 }
 
 impl Raising {
     fn start(counters: [u32; Ledger::COUNTERS]) -> Self
-        ensures { λ r. ⌜ (r .before ≡ counters) × (r .table ≡ counters) ⌝ }
+        ensures { λ r. ⌜ r .table ≡ counters ⌝ }
     {
         Self {
-            before: counters,
             table: counters,
         }
     }
 
     // A limit of sort 2 raises its counter to 1 more than it was before the charge. Another limit, or a number past the table, raises nothing.
-    fn raise(mut self, sort: u8, counter: u8) -> Self
-        requires { ⌜ hasRoom (self .before) sort counter ≡ true ⌝ }
-        ensures { λ r. ⌜ (r .before ≡ self .before) × (r .table ≡ raisedOnce (self .before) (self .table) sort counter) ⌝ }
+    fn raise(mut self, before: &[u32], sort: u8, counter: u8) -> Self
+        requires { ⌜ (length (now before) ≡ countersMax) × (hasRoom (now before) sort counter ≡ true) ⌝ }
+        ensures { λ r. ⌜ r .table ≡ raisedOnce (now (before .entry)) (self .table) sort counter ⌝ }
     {
         if sort != 2 {
             return self;
@@ -67,15 +65,15 @@ impl Raising {
         if Ledger::COUNTERS <= i {
             return self;
         }
-        let n = self.before[i];
+        let n = before[i];
         self.table[i] = n + 1;
         self
     }
 
     // Each counter that the limits of a group name, of the records that follow the group's first one, is raised.
-    fn raise_all(self, body: &[u8]) -> Self
-        requires { ⌜ all (limitHasRoom (self .before)) (limitsOf (records (now body))) ≡ true ⌝ }
-        ensures { λ r. ⌜ r .table ≡ raisedBy (self .before) (limitsOf (records (now (body .entry)))) (self .table) ⌝ }
+    fn raise_all(self, before: &[u32], body: &[u8]) -> Self
+        requires { ⌜ (length (now before) ≡ countersMax) × (all (limitHasRoom (now before)) (limitsOf (records (now body))) ≡ true) ⌝ }
+        ensures { λ r. ⌜ r .table ≡ raisedBy (now (before .entry)) (limitsOf (records (now (body .entry)))) (self .table) ⌝ }
     {
         let mut now = self;
         let mut at = 0;
@@ -85,7 +83,7 @@ impl Raising {
             }
             let sort = body[at + 4];
             let counter = body[at + 5];
-            now = now.raise(sort, counter);
+            now = now.raise(before, sort, counter);
             at += 64;
         }
         now
@@ -174,7 +172,7 @@ impl Ledger {
         let counts = self.counts;
         let counters = self.counters;
         let raised = raise_count(counts, place);
-        let named = Raising::start(counters).raise_all(body).table;
+        let named = Raising::start(counters).raise_all(&counters, body).table;
         Outcome {
             ledger: Ledger {
                 counts: raised,

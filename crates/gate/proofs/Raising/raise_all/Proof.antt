@@ -13,10 +13,10 @@ use Rattle.gate.proofs.Raising.raise_all.Statement.{statement}
 use Rattle.gate.proofs.Raising.raise_all.Tie as tie
 
 abbrev Inv-loop : tie.InvT-loop
-Inv-loop body now₀ at₀ now at = (at ≤ length body) × ((all (limitHasRoom (now .before)) (limitsOf (recordsFrom body at)) ≡ true) × (raisedBy (now .before) (limitsOf (recordsFrom body at)) (now .table) ≡ raisedBy (now₀ .before) (limitsOf (records body)) (now₀ .table)))
+Inv-loop before body now₀ at₀ now at = (at ≤ length body) × ((all (limitHasRoom before) (limitsOf (recordsFrom body at)) ≡ true) × (raisedBy before (limitsOf (recordsFrom body at)) (now .table) ≡ raisedBy before (limitsOf (records body)) (now₀ .table)))
 
 abbrev μ-loop : tie.MeasureT-loop
-μ-loop body now₀ at₀ now at = length body - at
+μ-loop before body now₀ at₀ now at = length body - at
 
 loop-holds : tie.Need-loop-holds Inv-loop μ-loop
 unfolding recordsFrom
@@ -48,7 +48,8 @@ raise-requires c κs =
     let e = c .before .before in
     let l = e .before .before in
     let o = l .before .loop in
-    room-here (o .now .before) (l .before .before .before .args .body .now) (o .at) (l .loop-test .taken) (e .if1 .left) (l .before .loop .inv .1 .0)
+    let a = l .before .before .before .before .args in
+    (search needs, room-here (a .before .now) (a .body .now) (o .at) (l .loop-test .taken) (e .if1 .left) (o .inv .1 .0))
 
 add-at : tie.Need-add-at Inv-loop μ-loop
 add-at c = search needs
@@ -62,12 +63,13 @@ loop-again c =
     let l = e .before .before in
     let o = l .before .loop in
     let i = o .inv in
-    let s = l .before .before .before .args .body .now in
+    let a = l .before .before .before .before .args in
+    let s = a .body .now in
     let h = l .loop-test .taken in (
       search needs,
       (
-        room-next (o .now .before) s (o .at) h (e .if1 .left) _ (c .raise .ensures .0) (i .1 .0),
-        raised-next (o .now .before) s (o .at) h (e .if1 .left) _ _ _ _ (c .raise .ensures .0) (i .1 .1) (c .raise .ensures .1),
+        room-next (a .before .now) s (o .at) h (e .if1 .left) (i .1 .0),
+        raised-next (a .before .now) s (o .at) h (e .if1 .left) _ _ _ (i .1 .1) (c .raise .ensures),
       ),
     )
 
