@@ -48,9 +48,7 @@ impl Raising {
     fn start(counters: [u32; Ledger::COUNTERS]) -> Self
         ensures { λ r. ⌜ r .table ≡ counters ⌝ }
     {
-        Self {
-            table: counters,
-        }
+        Self { table: counters }
     }
 
     // A limit of sort 2 raises its counter to 1 more than it was before the charge. Another limit, or a number past the table, raises nothing.
