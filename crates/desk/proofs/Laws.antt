@@ -1,7 +1,7 @@
 -- What the parts of the desk's answer say of the whole.
 use Prim.Native.Nat.{ℕ, _≤_, _<_, min}
 use native.Mathlib.Omega.{arith}
-use mathlib.Core.Path.{_≡_, refl, sym, _∙_, ap, ap₂}
+use mathlib.Core.Path.{_≡_, refl, sym, _∙_, ap}
 use mathlib.Core.List.{List, [], _∷_}
 use mathlib.Core.Option.{Option, none, some}
 use mathlib.Core.Bool.{Bool, true, false, not, _&&_}
@@ -9,16 +9,17 @@ use borrow.Author.Tests.{eq-eqb, ne-eqb, le-leb, lt-leb, not-true, not-false}
 use lib.Dec.{eqb, leb}
 use Rattle.rules.specs.Sizes.{bundleRecords, aclRecords}
 use Rattle.rules.specs.Numbers.{badLength, unknownSuite}
-use Rattle.rules.specs.Basics.{if_then_else_, Bytes, unless, orNext, firstFault, fits, records}
+use Rattle.rules.specs.Basics.{if_then_else_, Bytes, orNext, firstFault, fits, records}
 use Rattle.rules.specs.Suites.{isSuite}
 use Rattle.rules.specs.Acl.{Action, permissions, makeBlob, makeArchive, Group, aclOf, aclFault}
 use Rattle.rules.specs.Bundle.{Policy, policyOf, bundleFault}
-use Rattle.rules.specs.Desk.{Step, KV3, Verdict, Grade, Acceptance, accepted, failed, faulty, byGeneration, byPolicy, actionProtection, softParameters, smallest, officersGroup, keyProtection, recoverableKey, beforeAcl, aclFailure, afterAcl, fullFailure, basicFailure, gradeOf, unlessFailed, unlessFaulty, attested, deskFault, desk}
+use Rattle.rules.specs.Desk.{Step, KV3, Acceptance, byGeneration, byPolicy, actionProtection, softParameters, smallest, officersGroup, keyProtection, recoverableKey, beforeAcl, aclFailure, fullFailure, basicFailure, gradeOf, unlessFailed, attested, deskFault, desk}
 use Rattle.steps.specs.declared.Failure.{Failure}
 use Rattle.steps.specs.declared.Failure.the-variants.{Nothing, At}
 use Rattle.steps.specs.Steps.{failureOf, csrFailure}
 use Rattle.desk.specs.Replies as replies
-use Rattle.desk.specs.Replies.{Reply, Named, protectionNumber, namedBy, namedFor, replyOf, replyFor, verdictFrom, suiteFault, gradeFailure}
+use Rattle.desk.specs.Replies.{Reply, protectionNumber, namedBy, namedFor, replyOf, replyFor, verdictFrom, suiteFault, gradeFailure}
+use Rattle.grading.specs.Grades.{Graded, aclGraded}
 use Rattle.grading.proofs.Laws.{protection-most}
 use Rattle.desk.specs.declared.Protection.{Protection}
 use Rattle.desk.specs.declared.Acceptance as code
@@ -118,13 +119,25 @@ unfolding desk
 faulty-files bundle acl n e = rw (← e)
 
 -- what goes into an acceptance under approach 2
-module _ (b : List Bytes) (gs : List Group) (n : ℕ) (e : n ≡ keyProtection b gs) where
-  pub protection-bounds : (1 ≤ n) × (n ≤ 4)
-  protection-bounds = let l = protection-least b gs in let m = protection-most b gs in (omega arith, omega arith)
+module _ (b : List Bytes) (gs : List Group) (g : Graded) (e : g ≡ aclGraded b gs) where
+  failure-is : g .failure ≡ aclFailure b gs
+  unfolding aclGraded
+  failure-is = ap (λ (x : Graded). x .failure) e
 
-  pub full-from : (o : Option Step) → o ≡ orNext (beforeAcl b) (orNext (aclFailure b gs) (gradeFailure b n)) → o ≡ fullFailure b gs
-  full-from o q = q ∙ ap (λ (k : ℕ). orNext (beforeAcl b) (orNext (aclFailure b gs) (gradeFailure b k))) e ∙ full-is b gs
+  protection-is : g .protection ≡ keyProtection b gs
+  unfolding aclGraded
+  protection-is = ap (λ (x : Graded). x .protection) e
 
-  pub named-from : (p : Protection) (r : Bool) → protectionNumber p ≡ n → r ≡ recoverableKey b gs
-      → namedBy (record { approach = 2; protection = p; recoverable = r }) ≡ namedFor (byPolicy (gradeOf b gs))
-  named-from p r q f = rw (q, e, f)
+  recoverable-is : g .recoverable ≡ recoverableKey b gs
+  unfolding aclGraded
+  recoverable-is = ap (λ (x : Graded). x .recoverable) e
+
+  pub protection-bounds : (1 ≤ g .protection) × (g .protection ≤ 4)
+  protection-bounds = let p = protection-is in let l = protection-least b gs in let m = protection-most b gs in (omega arith, omega arith)
+
+  pub full-from : (o : Option Step) → o ≡ orNext (beforeAcl b) (orNext (g .failure) (gradeFailure b (g .protection))) → o ≡ fullFailure b gs
+  full-from o q = q ∙ rw (failure-is, protection-is) (full-is b gs)
+
+  pub named-from : (p : Protection) → protectionNumber p ≡ g .protection
+      → namedBy (record { approach = 2; protection = p; recoverable = g .recoverable }) ≡ namedFor (byPolicy (gradeOf b gs))
+  named-from p q = rw (q, protection-is, recoverable-is)

@@ -3,12 +3,13 @@ ghost use mathlib.Core.Path.{_≡_};
 ghost use Prim.Native.Nat.{_≤_};
 ghost use Rattle.rules.specs.Basics.{orNext, records};
 ghost use Rattle.rules.specs.Acl.{aclOf};
-ghost use Rattle.rules.specs.Desk.{beforeAcl, aclFailure, fullFailure, basicFailure, gradeOf, byGeneration, byPolicy, unlessFailed, deskFault, attested, desk};
+ghost use Rattle.rules.specs.Desk.{beforeAcl, fullFailure, basicFailure, gradeOf, byGeneration, byPolicy, unlessFailed, deskFault, attested, desk};
 ghost use Rattle.files.specs.Refusals.{faultOf};
 ghost use Rattle.steps.specs.Steps.{failureOf};
 ghost use Rattle.desk.specs.Replies.{protectionNumber, replyOf, replyFor, verdictFrom, suiteFault, gradeFailure};
 use files::Checked;
 use files::Refusal;
+use grading::Grade;
 use steps::Failure;
 use steps::Step;
 
@@ -100,17 +101,13 @@ fn grade_steps(bundle: &[u8], protection: u8) -> Failure
     steps::csr_step(bundle)
 }
 
-// Approach 2, whole: the first failing step, for a key of that protection.
-fn full_steps(bundle: &[u8], acl: &[u8], protection: u8) -> Failure
-    ensures { λ r. ⌜ failureOf r ≡ orNext (beforeAcl (records (now (bundle .entry)))) (orNext (aclFailure (records (now (bundle .entry))) (aclOf (now (acl .entry)))) (gradeFailure (records (now (bundle .entry))) protection)) ⌝ }
+// Approach 2, whole: the first failing step, for an ACL that comes to that grade.
+fn full_steps(bundle: &[u8], grade: Grade) -> Failure
+    ensures { λ r. ⌜ failureOf r ≡ orNext (beforeAcl (records (now (bundle .entry)))) (orNext (failureOf (grade .failure)) (gradeFailure (records (now (bundle .entry))) (grade .protection))) ⌝ }
 {
-    steps::first_of(
-        steps::bundle_steps(bundle),
-        steps::first_of(
-            grading::acl_steps(bundle, acl),
-            grade_steps(bundle, protection),
-        ),
-    )
+    let of_acl = grade.failure;
+    let after = steps::first_of(of_acl, grade_steps(bundle, grade.protection));
+    steps::first_of(steps::bundle_steps(bundle), after)
 }
 
 // The acceptance, unless a step fails.
@@ -127,12 +124,12 @@ fn unless_failed(f: Failure, a: Acceptance) -> Verdict
 fn judge_policy(bundle: &[u8], acl: &[u8]) -> Verdict
     ensures { λ r. ⌜ replyOf r ≡ replyFor (unlessFailed (fullFailure (records (now (bundle .entry))) (aclOf (now (acl .entry)))) (byPolicy (gradeOf (records (now (bundle .entry))) (aclOf (now (acl .entry)))))) ⌝ }
 {
-    let protection = grading::key_protection(bundle, acl);
-    let failure = full_steps(bundle, acl, protection);
+    let grade = grading::acl_grade(bundle, acl);
+    let failure = full_steps(bundle, grade);
     let acceptance = Acceptance {
         approach: 2,
-        protection: protection_of(protection),
-        recoverable: grading::is_recoverable(bundle, acl),
+        protection: protection_of(grade.protection),
+        recoverable: grade.recoverable,
     };
     unless_failed(failure, acceptance)
 }

@@ -1,6 +1,6 @@
 // The attestation steps that look at a bundle alone. A run of steps answers with the first that fails.
 ghost use mathlib.Core.Path.{_≡_};
-ghost use Rattle.rules.specs.Basics.{present, orNext, records};
+ghost use Rattle.rules.specs.Basics.{orNext, records};
 ghost use Rattle.rules.specs.Desk.{beforeAcl, basicFailure};
 ghost use Rattle.steps.specs.Steps.{failureOf, warrantFailure, stateFailure, worldFailure, keyFailure, csrFailure};
 
@@ -42,16 +42,6 @@ pub fn first_of(a: Failure, b: Failure) -> Failure
     match a {
         Failure::Nothing => b,
         Failure::At(s) => Failure::At(s),
-    }
-}
-
-// Whether a run of steps failed.
-pub fn is_failure(f: Failure) -> bool
-    ensures { λ r. ⌜ r ≡ present (failureOf f) ⌝ }
-{
-    match f {
-        Failure::Nothing => false,
-        Failure::At(_) => true,
     }
 }
 

@@ -8,37 +8,34 @@ use borrow.Author.Needs.{needs}
 use Rattle.desk.proofs.judge_policy.Statement.{statement}
 use Rattle.desk.proofs.judge_policy.Tie as tie
 
-key-protection-requires : tie.Need-key-protection-requires
-key-protection-requires c κs = search needs
+acl-grade-requires : tie.Need-acl-grade-requires
+acl-grade-requires c κs = search needs
 
 full-steps-requires : tie.Need-full-steps-requires
 full-steps-requires c κs = search needs
 
 protection-of-requires : tie.Need-protection-of-requires
-protection-of-requires c κs = let bounds = protection-bounds _ _ _ (c .before .key-protection .ensures) in search needs
-
-is-recoverable-requires : tie.Need-is-recoverable-requires
-is-recoverable-requires c κs = search needs
+protection-of-requires c κs = let bounds = protection-bounds _ _ _ (c .before .acl-grade .ensures) in search needs
 
 unless-failed-requires : tie.Need-unless-failed-requires
 unless-failed-requires c κs = search needs
 
 returns : tie.Need-returns
 returns c =
-    let b = records (c .before .before .before .before .before .before .before .args .bundle .now) in
-    let gs = aclOf (c .before .before .before .before .before .before .before .args .acl .now) in
-    let e = c .before .before .before .before .key-protection .ensures in
+    let s = c .before .before .before .before .before .before in
+    let b = records (s .args .bundle .now) in
+    let gs = aclOf (s .args .acl .now) in
+    let e = c .before .before .before .acl-grade .ensures in
     ap replyOf (c .unless-failed .ensures)
-    ∙ verdict-of (c .before .before .before .full-steps .result) _ (byPolicy (gradeOf b gs)) _ (full-from b gs _ e _ (c .before .before .before .full-steps .ensures))
-    (named-from b gs _ e (c .before .before .protection-of .result) _ (c .before .before .protection-of .ensures) (c .before .is-recoverable .ensures))
+    ∙ verdict-of (c .before .before .full-steps .result) _ (byPolicy (gradeOf b gs)) _ (full-from b gs _ e _ (c .before .before .full-steps .ensures))
+    (named-from b gs _ e (c .before .protection-of .result) (c .before .protection-of .ensures))
 
 pub judge-policy-spec : {M : Type 1} → statement M
 judge-policy-spec =
     tie.close
     (tie.spec
-    key-protection-requires
+    acl-grade-requires
     full-steps-requires
     protection-of-requires
-    is-recoverable-requires
     unless-failed-requires
     returns)

@@ -1,0 +1,35 @@
+use Rattle.grading.proofs.Laws.{acl-from}
+use borrow.Author.Needs.{needs}
+use Rattle.grading.proofs.acl_grade.Statement.{statement}
+use Rattle.grading.proofs.acl_grade.Tie as tie
+
+field-of-requires : tie.Need-field-of-requires
+field-of-requires c κs = search needs
+
+policy-of-requires : tie.Need-policy-of-requires
+policy-of-requires c κs = search needs
+
+module-key-requires : tie.Need-module-key-requires
+module-key-requires c κs = search needs
+
+recovery-key-requires : tie.Need-recovery-key-requires
+recovery-key-requires c κs = search needs
+
+groups-grade-requires : tie.Need-groups-grade-requires
+groups-grade-requires c κs = search needs
+
+returns : tie.Need-returns
+returns c =
+    acl-from _ _ _ _ _ _ _ (c .before .before .before .before .field-of .ensures) (c .before .before .before .policy-of .ensures)
+    (c .before .before .module-key .ensures) (c .before .recovery-key .ensures) (c .groups-grade .ensures)
+
+pub acl-grade-spec : {M : Type 1} → statement M
+acl-grade-spec =
+    tie.close
+    (tie.spec
+    field-of-requires
+    policy-of-requires
+    module-key-requires
+    recovery-key-requires
+    groups-grade-requires
+    returns)

@@ -1,0 +1,17 @@
+use Rattle.grading.specs.Grades.{both}
+use borrow.Author.Needs.{needs}
+use Rattle.grading.proofs.joined.Statement.{statement}
+use Rattle.grading.proofs.joined.Tie as tie
+
+first-of-requires : tie.Need-first-of-requires
+first-of-requires c κs = search needs
+
+weaker-requires : tie.Need-weaker-requires
+weaker-requires c κs = search needs
+
+returns : tie.Need-returns
+unfolding both
+returns c = rw (c .before .before .before .first-of .ensures, c .before .before .weaker .ensures)
+
+pub joined-spec : {M : Type 1} → statement M
+joined-spec = tie.close (tie.spec first-of-requires weaker-requires returns)

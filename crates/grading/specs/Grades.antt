@@ -1,0 +1,66 @@
+-- What an ACL comes to at the desk, part by part.
+use Prim.Native.Nat.{ℕ, min}
+use mathlib.Core.List.{List, [], _∷_}
+use mathlib.Core.Option.{Option, none}
+use mathlib.Core.Bool.{Bool, true, false, _||_}
+use Rattle.rules.specs.Numbers.{notKept}
+use Rattle.rules.specs.Basics.{if_then_else_, Bytes, bothSame, orNext}
+use Rattle.rules.specs.Acl.{Action, Group}
+use Rattle.rules.specs.Bundle.{Policy}
+use Rattle.rules.specs.Desk.{Step, failureUnder, aclFailure, actionProtection, keyProtection, isArchive, recoverableKey}
+use Rattle.steps.specs.Steps.{failureOf}
+use Rattle.grading.specs.declared.Grade.{Grade}
+
+-- the first failing step, the protection, whether the key is recoverable
+pub record Graded : Type 0 where
+  pub failure : Option Step
+  pub protection : ℕ
+  pub recoverable : Bool
+
+-- what the code finds
+abbrev pub gradedAs : Grade → Graded
+gradedAs g = record { failure = failureOf (g .failure); protection = g .protection; recoverable = g .recoverable }
+
+-- "ACL, in record order", "the key's is the smallest": two parts, one after the other
+unfoldable pub both : Graded → Graded → Graded
+both x y =
+    record {
+      failure = orNext (x .failure) (y .failure);
+      protection = min (x .protection) (y .protection);
+      recoverable = x .recoverable || y .recoverable;
+    }
+
+-- "with no MakeBlob checked, 4, not kept"
+abbrev pub nothing : Graded
+nothing = record { failure = none; protection = notKept; recoverable = false }
+
+-- "marks the key recoverable and is skipped (ACLV1)"
+abbrev pub skipped : Graded
+skipped = record { failure = none; protection = notKept; recoverable = true }
+
+-- all parts, one after the other
+unfoldable pub inOrder : {A : Type 0} → (A → Graded) → List A → Graded
+inOrder f [] = nothing
+inOrder f (x ∷ xs) = both (f x) (inOrder f xs)
+
+-- "Else per action": one action, under a policy and the trusted keys ..
+unfoldable pub actionGraded : Policy → Option Bytes → Option Bytes → Action → Graded
+actionGraded policy hkm hkre a =
+    record { failure = failureUnder policy hkm hkre a; protection = actionProtection a; recoverable = isArchive a }
+
+-- .. and all of a group's
+unfoldable pub actionsGraded : Policy → Option Bytes → Option Bytes → List Action → Graded
+actionsGraded policy hkm hkre list = inOrder (actionGraded policy hkm hkre) list
+
+-- a group, under the officer's key too ..
+unfoldable pub groupGraded : Option Bytes → Policy → Option Bytes → Option Bytes → Group → Graded
+groupGraded officer policy hkm hkre g =
+    if bothSame officer (g .certifier) then skipped else actionsGraded policy hkm hkre (g .actions)
+
+-- .. and all of an ACL's
+unfoldable pub groupsGraded : Option Bytes → Policy → Option Bytes → Option Bytes → List Group → Graded
+groupsGraded officer policy hkm hkre gs = inOrder (groupGraded officer policy hkm hkre) gs
+
+-- an ACL, by the desk's definitions
+unfoldable pub aclGraded : List Bytes → List Group → Graded
+aclGraded b gs = record { failure = aclFailure b gs; protection = keyProtection b gs; recoverable = recoverableKey b gs }
