@@ -6,11 +6,11 @@ use mathlib.Core.List.{List, [], _∷_}
 use mathlib.Core.Option.{Option, none, some}
 use mathlib.Core.Bool.{Bool, true, false, _&&_}
 use borrow.Author.Tests.{eq-eqb, ne-eqb, ltb-true}
-use lib.ListN.{length, take, drop, getD, set}
+use lib.ListN.{length, take, drop, getD, set, length-set}
 use lib.Seq.{set-out, getD-take, getD-drop}
 use lib.Dec.{eqb, ltb}
 use Rattle.rules.specs.Sizes.{fullCount}
-use Rattle.rules.specs.Basics.{Bytes, all, part, byte, records}
+use Rattle.rules.specs.Basics.{Bytes, if_then_else_, all, part, byte, records}
 use Rattle.rules.specs.Acl.{Limit, limitOf, limitsOf}
 use Rattle.rules.specs.Ledger.{raised, raisedBy}
 use Rattle.rules.proofs.Laws.{and-left, and-right}
@@ -31,6 +31,13 @@ module _ (before table : List ℕ) (sort counter : ℕ) where
 
   pub raise-here : sort ≡ 2 → set table counter (getD before counter 0 + 1) ≡ raisedOnce before table sort counter
   raise-here e = sym (rw (eq-eqb sort 2 e))
+
+  pub raised-length : (next : List ℕ) (k : ℕ) → length table ≡ k → next ≡ raisedOnce before table sort counter → length next ≡ k
+  raised-length next k l e = ap length e ∙ pick (eqb sort 2)
+    where
+      pick : (b : Bool) → length (if b then raised before counter table else table) ≡ k
+      pick true = length-set table counter (getD before counter 0 + 1) ∙ l
+      pick false = l
 
 pub room-left : (before : List ℕ) (sort counter : ℕ) → hasRoom before sort counter ≡ true → sort ≡ 2 → getD before counter 0 < fullCount
 room-left before sort counter h e = ltb-true (getD before counter 0) fullCount (rw (eq-eqb sort 2 e) at h)

@@ -39,65 +39,50 @@ pub struct Outcome {
     pub reply: Reply,
 }
 
-// The named counters as a charge raises them.
-struct Raising {
-    table: [u32; Ledger::COUNTERS],
+// A limit of sort 2 raises its counter to 1 more than it was before the charge. Another limit, or a number past the table, raises nothing.
+fn raise_one(
+    table: &mut [u32; Ledger::COUNTERS],
+    before: &[u32; Ledger::COUNTERS],
+    sort: u8,
+    counter: u8,
+)
+    requires { ⌜ (length (now table) ≡ countersMax) × (hasRoom (now before) sort counter ≡ true) ⌝ }
+    ensures { λ _. ⌜ now (table .exit) ≡ raisedOnce (now (before .entry)) (now (table .entry)) sort counter ⌝ }
+{
+    if sort != 2 {
+        return;
+    }
+    let i = counter as usize;
+    if Ledger::COUNTERS <= i {
+        return;
+    }
+    table[i] = before[i] + 1;
 }
 
-impl Raising {
-    fn start(counters: [u32; Ledger::COUNTERS]) -> Self
-        ensures { λ r. ⌜ r .table ≡ counters ⌝ }
-    {
-        Self { table: counters }
-    }
-
-    // A limit of sort 2 raises its counter to 1 more than it was before the charge. Another limit, or a number past the table, raises nothing.
-    fn raise(mut self, before: &[u32], sort: u8, counter: u8) -> Self
-        requires { ⌜ (length (now before) ≡ countersMax) × (hasRoom (now before) sort counter ≡ true) ⌝ }
-        ensures { λ r. ⌜ r .table ≡ raisedOnce (now (before .entry)) (self .table) sort counter ⌝ }
-    {
-        if sort != 2 {
-            return self;
+// Each counter that the limits of a group name, of the records that follow the group's first one, is raised.
+fn raise_named(table: &mut [u32; Ledger::COUNTERS], before: &[u32; Ledger::COUNTERS], body: &[u8])
+    requires { ⌜ (length (now table) ≡ countersMax) × (all (limitHasRoom (now before)) (limitsOf (records (now body))) ≡ true) ⌝ }
+    ensures { λ _. ⌜ now (table .exit) ≡ raisedBy (now (before .entry)) (limitsOf (records (now (body .entry)))) (now (table .entry)) ⌝ }
+{
+    let mut at = 0;
+    while 64 <= body.len() - at {
+        if body[at] != 2 {
+            return;
         }
-        let i = counter as usize;
-        if Ledger::COUNTERS <= i {
-            return self;
-        }
-        let n = before[i];
-        self.table[i] = n + 1;
-        self
-    }
-
-    // Each counter that the limits of a group name, of the records that follow the group's first one, is raised.
-    fn raise_all(self, before: &[u32], body: &[u8]) -> Self
-        requires { ⌜ (length (now before) ≡ countersMax) × (all (limitHasRoom (now before)) (limitsOf (records (now body))) ≡ true) ⌝ }
-        ensures { λ r. ⌜ r .table ≡ raisedBy (now (before .entry)) (limitsOf (records (now (body .entry)))) (self .table) ⌝ }
-    {
-        let mut now = self;
-        let mut at = 0;
-        while 64 <= body.len() - at {
-            if body[at] != 2 {
-                return now;
-            }
-            let sort = body[at + 4];
-            let counter = body[at + 5];
-            now = now.raise(before, sort, counter);
-            at += 64;
-        }
-        now
+        raise_one(table, before, body[at + 4], body[at + 5]);
+        at += 64;
     }
 }
 
-// The group counts after a charge.
-fn raise_count(mut counts: [u32; Ledger::GROUPS], place: usize) -> [u32; Ledger::GROUPS]
-    requires { ⌜ getD counts place 0 < fullCount ⌝ }
-    ensures { λ r. ⌜ r ≡ raised counts place counts ⌝ }
+// A charged group has its own count plus 1.
+fn raise_count(counts: &mut [u32; Ledger::GROUPS], place: usize)
+    requires { ⌜ (length (now counts) ≡ groupsMax) × (getD (now counts) place 0 < fullCount) ⌝ }
+    ensures { λ _. ⌜ now (counts .exit) ≡ raised (now (counts .entry)) place (now (counts .entry)) ⌝ }
 {
     if Ledger::GROUPS <= place {
-        return counts;
+        return;
     }
     counts[place] = counts[place] + 1;
-    counts
 }
 
 impl Ledger {
@@ -163,21 +148,16 @@ impl Ledger {
 
     // A charge of the group at a place, whose limits are in `body`: own count and each named counter plus 1, last time set. The group is unspent, so
     // that neither is full.
-    fn charge(self, place: usize, time: u64, body: &[u8]) -> Outcome
+    fn charge(mut self, place: usize, when: u64, body: &[u8]) -> Outcome
         requires { ⌜ (getD (self .counts) place 0 < fullCount) × (all (limitHasRoom (self .counters)) (limitsOf (records (now body))) ≡ true) ⌝ }
-        ensures { λ r. ⌜ outcomeOf r ≡ permitted place (chargedWith (ledgerOf self) place (limitsOf (records (now (body .entry)))) time) ⌝ }
+        ensures { λ r. ⌜ outcomeOf r ≡ permitted place (chargedWith (ledgerOf self) place (limitsOf (records (now (body .entry)))) when) ⌝ }
     {
-        let counts = self.counts;
-        let counters = self.counters;
-        let raised = raise_count(counts, place);
-        let named = Raising::start(counters).raise_all(&counters, body).table;
+        let before = self.counters;
+        raise_named(&mut self.counters, &before, body);
+        raise_count(&mut self.counts, place);
+        self.last = when;
         Outcome {
-            ledger: Ledger {
-                counts: raised,
-                counters: named,
-                loaded: self.loaded,
-                last: time,
-            },
+            ledger: self,
             reply: Reply::Permit(place),
         }
     }

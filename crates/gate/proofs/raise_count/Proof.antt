@@ -9,8 +9,8 @@ returns c = search (needs, count-past)
 mul-counts : tie.Need-mul-counts
 mul-counts c = search needs
 
-array-read-counts : tie.Need-array-read-counts
-array-read-counts c = search needs
+element-copy-out-counts : tie.Need-element-copy-out-counts
+element-copy-out-counts c = search needs
 
 add-counts : tie.Need-add-counts
 add-counts c = search needs
@@ -18,8 +18,8 @@ add-counts c = search needs
 mul-counts-2 : tie.Need-mul-counts-2
 mul-counts-2 c = search needs
 
-array-write-counts : tie.Need-array-write-counts
-array-write-counts c = search needs
+element-write-counts : tie.Need-element-write-counts
+element-write-counts c = search needs
 
 returns-2 : tie.Need-returns-2
 returns-2 c = search needs
@@ -30,8 +30,8 @@ raise-count-spec =
     (tie.spec
     returns
     mul-counts
-    array-read-counts
+    element-copy-out-counts
     add-counts
     mul-counts-2
-    array-write-counts
+    element-write-counts
     returns-2)
