@@ -304,18 +304,13 @@ impl Carrying {
 
 impl Ledger {
     // A charged ledger with the counts that a narrowing leaves: each new group takes its source's, of `counts`.
-    fn carried(self, counts: [u32; Ledger::GROUPS], place: usize, hints: &[u8]) -> Outcome
+    fn carried(mut self, counts: [u32; Ledger::GROUPS], place: usize, hints: &[u8]) -> Outcome
         ensures { λ r. ⌜ outcomeOf r ≡ permitted place (recounted (ledgerOf self) (carriedFrom counts 0 (hintsOf (now (hints .entry))) (replicate groupsMax 0))) ⌝ }
     {
-        let counters = self.counters;
         let table = Carrying::start(counts).carry_all(hints).table;
+        self.counts = table;
         Outcome {
-            ledger: Ledger {
-                counts: table,
-                counters,
-                loaded: self.loaded,
-                last: self.last,
-            },
+            ledger: self,
             reply: Reply::Permit(place),
         }
     }

@@ -2,15 +2,12 @@ use borrow.Author.Needs.{needs}
 use Rattle.gate.proofs.Ledger.carried.Statement.{statement}
 use Rattle.gate.proofs.Ledger.carried.Tie as tie
 
--- src/lib.rt:335:21
 start-requires : tie.Need-start-requires
 start-requires c κs = search needs
 
--- src/lib.rt:335:21
 carry-all-requires : tie.Need-carry-all-requires
 carry-all-requires c κs = search needs
 
--- src/lib.rt:330:5
 returns : tie.Need-returns
 returns c = let s = c .before .before in rw (c .before .carry-all .ensures, s .start .ensures .0, s .start .ensures .1)
 
