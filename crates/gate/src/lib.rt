@@ -211,9 +211,15 @@ impl Ledger {
         requires { ⌜ 64 ≤ length (now req) ⌝ }
         ensures { λ r. ⌜ Decides r (judgedAs (judge (ledgerOf self) (now (km0 .entry)) (aclOf (now (acl .entry))) (requestOf (now (req .entry))))) ⌝ }
     {
-        let counts = self.counts;
-        let counters = self.counters;
-        decided(judging::judge_request(&counts, &counters, self.loaded, self.last, km0, acl, req))
+        decided(judging::judge_request(
+            &self.counts,
+            &self.counters,
+            self.loaded,
+            self.last,
+            km0,
+            acl,
+            req,
+        ))
     }
 
     // What becomes of a request whose files are sound: the lowest group that grants is charged, or the refusal says how far the groups came.

@@ -276,9 +276,9 @@ fn judge_groups(
 }
 
 // The judgement of a request: a time that does not go back, then the groups.
-pub fn judge_request(
-    counts: &[u32],
-    counters: &[u32],
+pub fn judge_request<'a>(
+    counts: &'a [u32],
+    counters: &'a [u32],
     loaded: u64,
     last: u64,
     km0: &[u8],
