@@ -255,16 +255,9 @@ fn judge_groups(
             continue;
         }
         let own = count_at(counts, place);
-        let s = group_standing(
-            counters,
-            own,
-            elapsed,
-            km0,
-            rec,
-            certs,
-            &acl[at..at + 64],
-            &acl[at + 64..],
-        );
+        let group = &acl[at..at + 64];
+        let body = &acl[at + 64..];
+        let s = group_standing(counters, own, elapsed, km0, rec, certs, group, body);
         if grants(s) {
             return Judged::Granted(place);
         }
@@ -275,7 +268,7 @@ fn judge_groups(
     denial(near)
 }
 
-// The judgement of a request: a time that does not go back, then the groups.
+// The judgement of a request: a time that does not go back, then the groups. One lifetime for both tables lets a caller lend two fields of its ledger.
 pub fn judge_request<'a>(
     counts: &'a [u32],
     counters: &'a [u32],

@@ -40,29 +40,29 @@ loop-again c = (search needs, (search needs, search (needs, groups-skip)))
 count-at-requires : tie.Need-count-at-requires Inv-loop μ-loop
 count-at-requires c κs = search needs
 
-add-group-standing : tie.Need-add-group-standing Inv-loop μ-loop
-add-group-standing c = search needs
+add-group : tie.Need-add-group Inv-loop μ-loop
+add-group c = search needs
 
-sub-group-standing : tie.Need-sub-group-standing Inv-loop μ-loop
-sub-group-standing c = search needs
+sub-group : tie.Need-sub-group Inv-loop μ-loop
+sub-group c = search needs
 
-part-group-standing-start : tie.Need-part-group-standing-start Inv-loop μ-loop
-part-group-standing-start c = search needs
+part-group-start : tie.Need-part-group-start Inv-loop μ-loop
+part-group-start c = search needs
 
-part-group-standing-end : tie.Need-part-group-standing-end Inv-loop μ-loop
-part-group-standing-end c = search needs
+part-group-end : tie.Need-part-group-end Inv-loop μ-loop
+part-group-end c = search needs
 
-add-group-standing-2 : tie.Need-add-group-standing-2 Inv-loop μ-loop
-add-group-standing-2 c = search needs
+add-body : tie.Need-add-body Inv-loop μ-loop
+add-body c = search needs
 
-sub-group-standing-2 : tie.Need-sub-group-standing-2 Inv-loop μ-loop
-sub-group-standing-2 c = search needs
+sub-body : tie.Need-sub-body Inv-loop μ-loop
+sub-body c = search needs
 
-part-group-standing-start-2 : tie.Need-part-group-standing-start-2 Inv-loop μ-loop
-part-group-standing-start-2 c = search needs
+part-body-start : tie.Need-part-body-start Inv-loop μ-loop
+part-body-start c = search needs
 
-part-group-standing-end-2 : tie.Need-part-group-standing-end-2 Inv-loop μ-loop
-part-group-standing-end-2 c = search needs
+part-body-end : tie.Need-part-body-end Inv-loop μ-loop
+part-body-end c = search needs
 
 group-standing-requires : tie.Need-group-standing-requires Inv-loop μ-loop
 group-standing-requires c κs = search needs
@@ -123,14 +123,14 @@ judge-groups-spec =
     loop-less
     loop-again
     count-at-requires
-    add-group-standing
-    sub-group-standing
-    part-group-standing-start
-    part-group-standing-end
-    add-group-standing-2
-    sub-group-standing-2
-    part-group-standing-start-2
-    part-group-standing-end-2
+    add-group
+    sub-group
+    part-group-start
+    part-group-end
+    add-body
+    sub-body
+    part-body-start
+    part-body-end
     group-standing-requires
     grants-requires
     returns
