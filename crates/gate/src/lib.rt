@@ -13,7 +13,7 @@ ghost use Rattle.rules.specs.Gate.{load, clear, request, lengthsFit, requestFil
 ghost use Rattle.files.specs.Refusals.{refusalNumber, faultOf};
 ghost use Rattle.groups.specs.Parts.{firstLimits};
 ghost use Rattle.gate.specs.Outcomes.{ledgerOf, outcomeOf, hasRoom, limitHasRoom, raisedOnce, chargedWith, Decides, carriedFrom};
-ghost use Rattle.judging.specs.Standings.{judgedAs};
+ghost use Rattle.judging.specs.Standings.{judgedAs, tablesOf};
 use files::Checked;
 use files::Refusal;
 use judging::Judged;
@@ -205,29 +205,31 @@ fn decided(judged: Judged) -> Decision
     }
 }
 
-impl Ledger {
-    // The decision on a request whose files are sound.
-    fn decide(self, km0: &[u8], acl: &[u8], req: &[u8]) -> Decision
-        requires { ⌜ 64 ≤ length (now req) ⌝ }
-        ensures { λ r. ⌜ Decides r (judgedAs (judge (ledgerOf self) (now (km0 .entry)) (aclOf (now (acl .entry))) (requestOf (now (req .entry))))) ⌝ }
-    {
-        decided(judging::judge_request(
-            &self.counts,
-            &self.counters,
-            self.loaded,
-            self.last,
-            km0,
-            acl,
-            req,
-        ))
-    }
+// The decision on a request whose files are sound. It takes the tables and the times, for the ledger would be copied.
+fn decide<'a>(
+    counts: &'a [u32],
+    counters: &'a [u32],
+    loaded: u64,
+    last: u64,
+    km0: &[u8],
+    acl: &[u8],
+    req: &[u8],
+) -> Decision
+    requires { ⌜ 64 ≤ length (now req) ⌝ }
+    ensures { λ r. ⌜ Decides r (judgedAs (judge (tablesOf (now (counts .entry)) (now (counters .entry)) loaded last) (now (km0 .entry)) (aclOf (now (acl .entry))) (requestOf (now (req .entry))))) ⌝ }
+{
+    decided(judging::judge_request(counts, counters, loaded, last, km0, acl, req))
+}
 
+impl Ledger {
     // What becomes of a request whose files are sound: the lowest group that grants is charged, or the refusal says how far the groups came.
     fn settle(self, km0: &[u8], acl: &[u8], req: &[u8]) -> Outcome
         requires { ⌜ 64 ≤ length (now req) ⌝ }
         ensures { λ r. ⌜ outcomeOf r ≡ settle (ledgerOf self) (requestOf (now (req .entry)) .time) permitted (judge (ledgerOf self) (now (km0 .entry)) (aclOf (now (acl .entry))) (requestOf (now (req .entry)))) ⌝ }
     {
-        let d = self.decide(km0, acl, req);
+        let loaded = self.loaded;
+        let last = self.last;
+        let d = decide(&self.counts, &self.counters, loaded, last, km0, acl, req);
         match d {
             Decision::Permit(k) => self.charge(k, request::time(req), groups::group_body(acl, k)),
             Decision::Refuse(r) => self.refuse(r),
@@ -397,7 +399,9 @@ impl Ledger {
         requires { ⌜ (64 ≤ length (now req)) × (length (hintsOf (now hints)) ≤ groupsMax) ⌝ }
         ensures { λ r. ⌜ outcomeOf r ≡ settle (ledgerOf self) (requestOf (now (req .entry)) .time) (narrowed (ledgerOf self) (aclOf (now (acl .entry))) (aclOf (now (new .entry))) (hintsOf (now (hints .entry)))) (judge (ledgerOf self) (now (km0 .entry)) (aclOf (now (acl .entry))) (requestOf (now (req .entry)))) ⌝ }
     {
-        let d = self.decide(km0, acl, req);
+        let loaded = self.loaded;
+        let last = self.last;
+        let d = decide(&self.counts, &self.counters, loaded, last, km0, acl, req);
         match d {
             Decision::Permit(k) => self.narrow_granted(
                 k,
@@ -416,7 +420,9 @@ impl Ledger {
         requires { ⌜ 64 ≤ length (now req) ⌝ }
         ensures { λ r. ⌜ outcomeOf r ≡ settle (ledgerOf self) (requestOf (now (req .entry)) .time) expanded (judge (ledgerOf self) (now (km0 .entry)) (aclOf (now (acl .entry))) (requestOf (now (req .entry)))) ⌝ }
     {
-        let d = self.decide(km0, acl, req);
+        let loaded = self.loaded;
+        let last = self.last;
+        let d = decide(&self.counts, &self.counters, loaded, last, km0, acl, req);
         match d {
             Decision::Permit(k) => self.expand_granted(
                 k,

@@ -20,7 +20,7 @@ narrow-granted-requires : tie.Need-narrow-granted-requires
 narrow-granted-requires c κs =
     let d = c .before .before .before in
     let e = rw (d .d .given .1) at (d .before .before .decide .ensures) in
-    (charge-room _ _ _ _ _ _ e (c .group-body .ensures .0), d .before .before .before .before .before .before .before .before .pre .1)
+    (charge-room _ _ _ _ _ _ e (c .group-body .ensures .0), search needs)
 
 enum-known-d-2 : tie.Need-enum-known-d-2
 enum-known-d-2 c = search needs

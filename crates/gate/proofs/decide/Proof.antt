@@ -2,8 +2,8 @@ use mathlib.Core.Path.{subst}
 use Rattle.judging.specs.declared.Judged.{Judged}
 use Rattle.gate.specs.Outcomes.{Decides}
 use borrow.Author.Needs.{needs}
-use Rattle.gate.proofs.Ledger.decide.Statement.{statement}
-use Rattle.gate.proofs.Ledger.decide.Tie as tie
+use Rattle.gate.proofs.decide.Statement.{statement}
+use Rattle.gate.proofs.decide.Tie as tie
 
 judge-request-requires : tie.Need-judge-request-requires
 judge-request-requires c κs = search needs
