@@ -18,7 +18,9 @@ use files::Checked;
 use files::Refusal;
 use judging::Judged;
 
-// What was used: a count for each group, the named counters, the load time and the last time, in seconds.
+// What was used: a count for each group, the named counters, the load time and the last time, in seconds. It is laid out as C lays it out, so that a
+// host's program can hold it.
+#[repr(C)]
 pub struct Ledger {
     pub counts: [u32; Ledger::GROUPS],
     pub counters: [u32; Ledger::COUNTERS],

@@ -6,14 +6,10 @@ use Rattle.rules.specs.Gate.{Answer, done, permit, refuse, Outcome}
 use Rattle.rules.specs.Desk.{Step, WV1, MSCV1, MSCV2, MSCV3, MSCV4, MSCV5, WBCV1, WBCV2, WBCV3, KGCV1, KGCV2, ACLV3, WB1, WB2, WB3, WB6, RB1, RB2, RB3, KV3, CSRL1}
 use Rattle.rules.specs.Subject.{SubjectReply, written, unwritten}
 use Rattle.desk.specs.Replies.{Reply, accepting, failing, refusing}
-use Rattle.host.specs.declared.HostLedger.{HostLedger}
+use Rattle.gate.specs.Outcomes.{ledgerOf}
 use Rattle.host.specs.declared.HostOutcome.{HostOutcome}
 use Rattle.host.specs.declared.HostVerdict.{HostVerdict}
 use Rattle.host.specs.declared.HostWritten.{HostWritten}
-
--- the ledger
-abbrev pub ledgerIn : HostLedger → rules.Ledger
-ledgerIn l = record { counts = l .counts; counters = l .counters; loaded = l .loaded; last = l .last }
 
 -- An outcome in numbers: the ledger; 0 for done, 1 for a permit, 2 for a refusal; the group that permits, or the refusal's number.
 pub record Told : Type 0 where
@@ -23,7 +19,7 @@ pub record Told : Type 0 where
 
 -- as the code gives it
 abbrev pub toldBy : HostOutcome → Told
-toldBy o = record { ledger = ledgerIn (o .ledger); answer = o .answer; number = o .number }
+toldBy o = record { ledger = ledgerOf (o .ledger); answer = o .answer; number = o .number }
 
 -- what an answer is
 abbrev pub answerCode : Answer → ℕ

@@ -8,7 +8,7 @@ ghost use Rattle.steps.specs.Steps.{stepOf};
 ghost use Rattle.desk.specs.Replies as replies;
 ghost use Rattle.gate.specs.Outcomes.{ledgerOf, answerOf, outcomeOf};
 ghost use Rattle.subject.specs.Writing as writing;
-ghost use Rattle.host.specs.Surface.{ledgerIn, toldBy, answerCode, answerNumber, toldFor, wroteBy, wroteFor, stepNumber, judgedBy, judgedIn, otherwise};
+ghost use Rattle.host.specs.Surface.{toldBy, answerCode, answerNumber, toldFor, wroteBy, wroteFor, stepNumber, judgedBy, judgedIn, otherwise};
 use desk::Acceptance;
 use desk::Verdict;
 use gate::Ledger;
@@ -17,19 +17,10 @@ use gate::Reply;
 use steps::Step;
 use subject::Written;
 
-// The ledger, laid out as C lays it out.
-#[repr(C)]
-pub struct HostLedger {
-    pub counts: [u32; Ledger::GROUPS],
-    pub counters: [u32; Ledger::COUNTERS],
-    pub loaded: u64,
-    pub last: u64,
-}
-
 // The ledger handed back, what the answer is (0 done, 1 permitted, 2 refused), and its number: the group, or the refusal.
 #[repr(C)]
 pub struct HostOutcome {
-    pub ledger: HostLedger,
+    pub ledger: Ledger,
     pub answer: u64,
     pub number: u64,
 }
@@ -49,33 +40,6 @@ pub struct HostVerdict {
 pub struct HostWritten {
     pub answer: u64,
     pub number: u64,
-}
-
-// The gate's ledger, and back.
-fn taken(l: HostLedger) -> Ledger
-    ensures { λ r. ⌜ ledgerOf r ≡ ledgerIn l ⌝ }
-{
-    let counts = l.counts;
-    let counters = l.counters;
-    Ledger {
-        counts,
-        counters,
-        loaded: l.loaded,
-        last: l.last,
-    }
-}
-
-fn handed(l: Ledger) -> HostLedger
-    ensures { λ r. ⌜ ledgerIn r ≡ ledgerOf l ⌝ }
-{
-    let counts = l.counts;
-    let counters = l.counters;
-    HostLedger {
-        counts,
-        counters,
-        loaded: l.loaded,
-        last: l.last,
-    }
 }
 
 // What a reply is, and its number.
@@ -106,7 +70,7 @@ fn told(o: Outcome) -> HostOutcome
     let reply = o.reply;
     let ledger = o.ledger;
     HostOutcome {
-        ledger: handed(ledger),
+        ledger,
         answer: answer_code(reply),
         number: answer_number(reply),
     }
@@ -114,68 +78,68 @@ fn told(o: Outcome) -> HostOutcome
 
 // The fresh ledger.
 #[no_mangle]
-pub extern "C" fn akubolinfe_fresh() -> HostLedger
-    ensures { λ r. ⌜ ledgerIn r ≡ freshLedger ⌝ }
+pub extern "C" fn akubolinfe_fresh() -> Ledger
+    ensures { λ r. ⌜ ledgerOf r ≡ freshLedger ⌝ }
 {
-    handed(Ledger::fresh())
+    Ledger::fresh()
 }
 
 // A load, at any time.
 #[no_mangle]
-pub extern "C" fn akubolinfe_load(ledger: HostLedger, time: u64) -> HostOutcome
-    ensures { λ r. ⌜ toldBy r ≡ toldFor (load (ledgerIn ledger) time) ⌝ }
+pub extern "C" fn akubolinfe_load(ledger: Ledger, time: u64) -> HostOutcome
+    ensures { λ r. ⌜ toldBy r ≡ toldFor (load (ledgerOf ledger) time) ⌝ }
 {
-    told(taken(ledger).load(time))
+    told(ledger.load(time))
 }
 
 // A clear of one named counter.
 #[no_mangle]
-pub extern "C" fn akubolinfe_clear(ledger: HostLedger, counter: usize) -> HostOutcome
-    ensures { λ r. ⌜ toldBy r ≡ toldFor (clear (ledgerIn ledger) counter) ⌝ }
+pub extern "C" fn akubolinfe_clear(ledger: Ledger, counter: usize) -> HostOutcome
+    ensures { λ r. ⌜ toldBy r ≡ toldFor (clear (ledgerOf ledger) counter) ⌝ }
 {
-    told(taken(ledger).clear(counter))
+    told(ledger.clear(counter))
 }
 
 // A request for a use or a blob.
 #[no_mangle]
 pub extern "C" fn akubolinfe_request(
-    ledger: HostLedger,
+    ledger: Ledger,
     km0: &[u8],
     acl: &[u8],
     req: &[u8],
 ) -> HostOutcome
-    ensures { λ r. ⌜ toldBy r ≡ toldFor (request (ledgerIn ledger) (now (km0 .entry)) (now (acl .entry)) (now (req .entry))) ⌝ }
+    ensures { λ r. ⌜ toldBy r ≡ toldFor (request (ledgerOf ledger) (now (km0 .entry)) (now (acl .entry)) (now (req .entry))) ⌝ }
 {
-    told(taken(ledger).request(km0, acl, req))
+    told(ledger.request(km0, acl, req))
 }
 
 // A narrowing.
 #[no_mangle]
 pub extern "C" fn akubolinfe_narrow(
-    ledger: HostLedger,
+    ledger: Ledger,
     km0: &[u8],
     acl: &[u8],
     req: &[u8],
     new: &[u8],
     hints: &[u8],
 ) -> HostOutcome
-    ensures { λ r. ⌜ toldBy r ≡ toldFor (narrow (ledgerIn ledger) (now (km0 .entry)) (now (acl .entry)) (now (req .entry)) (now (new .entry)) (now (hints .entry))) ⌝ }
+    ensures { λ r. ⌜ toldBy r ≡ toldFor (narrow (ledgerOf ledger) (now (km0 .entry)) (now (acl .entry)) (now (req .entry)) (now (new .entry)) (now (hints .entry))) ⌝ }
 {
-    told(taken(ledger).narrow(km0, acl, req, new, hints))
+    told(ledger.narrow(km0, acl, req, new, hints))
 }
 
 // An expansion.
 #[no_mangle]
 pub extern "C" fn akubolinfe_expand(
-    ledger: HostLedger,
+    ledger: Ledger,
     km0: &[u8],
     acl: &[u8],
     req: &[u8],
     new: &[u8],
 ) -> HostOutcome
-    ensures { λ r. ⌜ toldBy r ≡ toldFor (expand (ledgerIn ledger) (now (km0 .entry)) (now (acl .entry)) (now (req .entry)) (now (new .entry))) ⌝ }
+    ensures { λ r. ⌜ toldBy r ≡ toldFor (expand (ledgerOf ledger) (now (km0 .entry)) (now (acl .entry)) (now (req .entry)) (now (new .entry))) ⌝ }
 {
-    told(taken(ledger).expand(km0, acl, req, new))
+    told(ledger.expand(km0, acl, req, new))
 }
 
 // The number of a step, from 1 in document 01's order.

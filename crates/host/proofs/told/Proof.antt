@@ -2,9 +2,6 @@ use borrow.Author.Needs.{needs}
 use Rattle.host.proofs.told.Statement.{statement}
 use Rattle.host.proofs.told.Tie as tie
 
-handed-requires : tie.Need-handed-requires
-handed-requires c κs = search needs
-
 answer-code-requires : tie.Need-answer-code-requires
 answer-code-requires c κs = search needs
 
@@ -12,8 +9,7 @@ answer-number-requires : tie.Need-answer-number-requires
 answer-number-requires c κs = search needs
 
 returns : tie.Need-returns
-returns c = rw (c .before .before .handed .ensures, c .before .answer-code .ensures, c .answer-number .ensures)
+returns c = rw (c .before .answer-code .ensures, c .answer-number .ensures)
 
 pub told-spec : {M : Type 1} → statement M
-told-spec =
-    tie.close (tie.spec handed-requires answer-code-requires answer-number-requires returns)
+told-spec = tie.close (tie.spec answer-code-requires answer-number-requires returns)
