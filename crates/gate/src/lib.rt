@@ -150,16 +150,16 @@ impl Ledger {
 
     // A charge of the group at a place, whose limits are in `body`: own count and each named counter plus 1, last time set. The group is unspent, so
     // that neither is full.
-    fn charge(mut self, place: usize, when: u64, body: &[u8]) -> Outcome
+    fn charge(self, place: usize, when: u64, body: &[u8]) -> Outcome
         requires { ⌜ (getD (self .counts) place 0 < fullCount) × (all (limitHasRoom (self .counters)) (limitsOf (records (now body))) ≡ true) ⌝ }
         ensures { λ r. ⌜ outcomeOf r ≡ permitted place (chargedWith (ledgerOf self) place (limitsOf (records (now (body .entry)))) when) ⌝ }
     {
-        let before = self.counters;
-        raise_named(&mut self.counters, &before, body);
-        raise_count(&mut self.counts, place);
-        self.last = when;
+        let mut charged = self;
+        raise_named(&mut charged.counters, &self.counters, body);
+        raise_count(&mut charged.counts, place);
+        charged.last = when;
         Outcome {
-            ledger: self,
+            ledger: charged,
             reply: Reply::Permit(place),
         }
     }
