@@ -93,6 +93,15 @@ module _ (s : Bytes) (at : ℕ) where
   unfolding isLimit
   limit-not n = rw (kind-at s at) (ne-eqb (getD s at 0) 2 n)
 
+-- The actions from a place on, where a group begins and where a limit stands.
+pub acts-group : (s : Bytes) (i : ℕ) → 64 ≤ length s - i → getD s i 0 ≡ 1 → actionsOf (recordsFrom s i) ≡ []
+unfolding actionsOf
+acts-group s i h e = ap actionsOf (rows-at s i h) ∙ rw (kind-at s i, eq-eqb (getD s i 0) 1 e)
+
+pub acts-limit : (s : Bytes) (i : ℕ) → 64 ≤ length s - i → (getD s i 0 ≡ 1 → ⊥) → getD s i 0 ≡ 2 → actionsOf (recordsFrom s i) ≡ actionsOf (recordsFrom s (i + 64))
+unfolding actionsOf
+acts-limit s i h n e = ap actionsOf (rows-at s i h) ∙ rw (kind-at s i, ne-eqb (getD s i 0) 1 n, eq-eqb (getD s i 0) 2 e)
+
 -- A loop up to the next action.
 pub no-actions-left : (s : Bytes) → actionsOf (records (drop (length s) s)) ≡ []
 unfolding actionsOf
@@ -110,16 +119,14 @@ module _ (s : Bytes) (at i : ℕ) (inv : actionsOf (recordsFrom s i) ≡ actions
       }
 
   pub next-group : 64 ≤ length s - i → getD s i 0 ≡ 1 → NextAction s at (length s)
-  unfolding actionsOf
-  next-group h e = at-end (sym (ap actionsOf (rows-at s i h) ∙ rw (kind-at s i, eq-eqb (getD s i 0) 1 e)) ∙ inv)
+  next-group h e = at-end (sym (acts-group s i h e) ∙ inv)
 
   pub next-none : length s - i < 64 → NextAction s at (length s)
   unfolding actionsOf
   next-none h = at-end (sym (ap actionsOf (rows-end s i h)) ∙ inv)
 
   pub next-skip : 64 ≤ length s - i → (getD s i 0 ≡ 1 → ⊥) → getD s i 0 ≡ 2 → actionsOf (recordsFrom s (i + 64)) ≡ actionsOf (records (drop at s))
-  unfolding actionsOf
-  next-skip h n e = sym (ap actionsOf (rows-at s i h) ∙ rw (kind-at s i, ne-eqb (getD s i 0) 1 n, eq-eqb (getD s i 0) 2 e)) ∙ inv
+  next-skip h n e = sym (acts-limit s i h n e) ∙ inv
 
   pub next-here : (getD s i 0 ≡ 1 → ⊥) → (getD s i 0 ≡ 2 → ⊥) → NextAction s at i
   unfolding recordsFrom

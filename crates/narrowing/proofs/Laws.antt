@@ -13,9 +13,10 @@ use lib.Dec.{eqb, leb}
 use Rattle.rules.specs.Basics.{Bytes, any, all, allZero, same, within, part, number, byte, kind, flag, optional, records}
 use Rattle.rules.specs.Acl.{Parameters, parametersOf, BlobRule, blobRuleOf, archiveRuleOf, Action, permissions, makeBlob, makeArchive, actionOf, actionsOf, Limit, limitOf, limitsOf, Group, groupOf, groupsOf}
 use Rattle.rules.specs.Narrow.{keptBy, kept, keptNumber, blobNoWider, archiveNoWider, noWider, noWiderThan, actionsNoWider, answers, isAnswered, groupNarrows}
-use Rattle.rules.proofs.Rows.{recordsFrom, lentRecord, lent-record}
+use Rattle.rules.proofs.Rows.{recordsFrom, rows-rest, lentRecord, lent-record, lentRest}
 use Rattle.fields.proofs.Laws.{lent}
-use Rattle.groups.proofs.Laws.{acts-step, acts-end, limits-step, limits-stop, limits-end}
+use Rattle.groups.specs.Parts.{NextAction}
+use Rattle.groups.proofs.Laws.{acts-step, acts-end, acts-group, acts-limit, limits-step, limits-stop, limits-end}
 use Rattle.narrowing.specs.Groups.{actionKind, actionIn, certifierKept, recordsNarrow}
 
 -- "kept or added", by what the flags say
@@ -105,13 +106,15 @@ module _ (s : Bytes) (at left : ℕ) (x : Option Action) (inv : getElem? (action
       let l : length (lentRecord s at) ≡ 64 = ap length (lent-record s at) ∙ length-take-le 64 (drop at s) (omega (arith, length-drop at s)) in
       in-action (lentRecord s at) (omega arith) ∙ sym (ap (λ (z : List Action). getElem? z left) (acts-step s at h n m) ∙ rw e) ∙ inv
 
-  pub at-next : (r : ℕ) → 64 ≤ length s - at → (getD s at 0 ≡ 1 → ⊥) → (getD s at 0 ≡ 2 → ⊥) → (left ≡ 0 → ⊥)
-      → actionsOf (records (drop r s)) ≡ actionsOf (records (drop (at + 64) s)) → getElem? (actionsOf (recordsFrom s r)) (left - 1) ≡ x
-  unfolding recordsFrom
-  at-next r h n m e d =
-      ap (λ (z : List Action). getElem? z (left - 1)) d
-      ∙ sym (ap (λ (z : List Action). getElem? z left) (acts-step s at h n m) ∙ get-more (actionOf (lentRecord s at)) (actionsOf (recordsFrom s (at + 64))) left e)
-      ∙ inv
+  pub at-next : 64 ≤ length s - at → (getD s at 0 ≡ 1 → ⊥) → (getD s at 0 ≡ 2 → ⊥) → (left ≡ 0 → ⊥) → getElem? (actionsOf (recordsFrom s (at + 64))) (left - 1) ≡ x
+  at-next h n m e =
+      sym (ap (λ (z : List Action). getElem? z left) (acts-step s at h n m) ∙ get-more (actionOf (lentRecord s at)) (actionsOf (recordsFrom s (at + 64))) left e) ∙ inv
+
+  pub at-limit : 64 ≤ length s - at → (getD s at 0 ≡ 1 → ⊥) → getD s at 0 ≡ 2 → getElem? (actionsOf (recordsFrom s (at + 64))) left ≡ x
+  at-limit h n e = sym (ap (λ (z : List Action). getElem? z left) (acts-limit s at h n e)) ∙ inv
+
+  pub at-group : 64 ≤ length s - at → getD s at 0 ≡ 1 → actionIn [] ≡ x
+  at-group h e = sym (ap (λ (z : List Action). getElem? z left) (acts-group s at h e)) ∙ inv
 
   pub at-none : length s - at < 64 → actionIn [] ≡ x
   at-none h = sym (ap (λ (z : List Action). getElem? z left) (acts-end s at h)) ∙ inv
@@ -187,10 +190,13 @@ pub certifier-is : (n o : Bytes) (a b f g : Bool) (x y : ℕ) → a ≡ kept (op
 unfolding certifierKept
 certifier-is n o a b f g x y p q r s t u = rw (p, u, q, r, s, t)
 
-pub group-is : (n : Bytes) (ns : List Bytes) (hints : Bytes) (o : Bytes) (os : List Bytes) (a b c : Bool) → a ≡ certifierKept n o → b ≡ all (isAnswered (limitsOf ns)) (limitsOf os)
-    → c ≡ actionsNoWider (actionsOf ns) hints (actionsOf os) → (a && b && c) ≡ recordsNarrow n ns hints o os
-unfolding certifierKept recordsNarrow
-group-is n ns hints o os a b c p q r = rw (p, q, r)
+pub group-is : (n : Bytes) (ns : List Bytes) (hints : Bytes) (o os : Bytes) (i : ℕ) (a b c : Bool) → NextAction os 0 i → a ≡ certifierKept n o
+    → b ≡ all (isAnswered (limitsOf ns)) (limitsOf (records os)) → c ≡ actionsNoWider (actionsOf ns) hints (actionsOf (records (lentRest os i)))
+    → (a && b && c) ≡ recordsNarrow n ns hints o (records os)
+unfolding certifierKept recordsNarrow recordsFrom
+group-is n ns hints o os i a b c e p q r =
+    let f : actionsOf (records (lentRest os i)) ≡ actionsOf (records os) = ap actionsOf (rows-rest os i) ∙ e .same in
+    rw (p, q, r, f)
 
 -- a hash at an offset, as code lends it
 pub hash-is : (f at : ℕ) (n o : Bytes) (a b r : Bool) → a ≡ flag f n → b ≡ flag f o

@@ -140,13 +140,20 @@ fn action_at(body: &[u8], h: u8) -> &[u8]
     ensures { λ r. ⌜ (actionIn (now r) ≡ getElem? (actionsOf (records (now (body .entry)))) h) × ((length (now r) ≡ 0 → ⊥) → length (now r) ≡ recordBytes) ⌝ }
 {
     let mut left = h;
-    let mut at = groups::next_action(body, 0);
+    let mut at = 0;
     while 64 <= body.len() - at {
+        if body[at] == 1 {
+            return &body[0..0];
+        }
+        if body[at] == 2 {
+            at += 64;
+            continue;
+        }
         if left == 0 {
             return &body[at..at + 64];
         }
         left -= 1;
-        at = groups::next_action(body, at + 64);
+        at += 64;
     }
     &body[0..0]
 }
@@ -239,14 +246,15 @@ fn certifier_kept(new: &[u8], old: &[u8]) -> bool
         )
 }
 
-// A new group against its source: first records, and the records that follow them.
+// A new group against its source: first records, and the records that follow them. The source's limits are passed over once, not for each action.
 fn group_narrows(new: &[u8], new_body: &[u8], hints: &[u8], old: &[u8], old_body: &[u8]) -> bool
     requires { ⌜ (length (now new) ≡ recordBytes) × (length (now old) ≡ recordBytes) ⌝ }
     ensures { λ r. ⌜ r ≡ recordsNarrow (now (new .entry)) (records (now («new_body» .entry))) (now (hints .entry)) (now (old .entry)) (records (now («old_body» .entry))) ⌝ }
 {
+    let first = groups::next_action(old_body, 0);
     certifier_kept(new, old)
         & limits_answered(new_body, old_body)
-        & actions_no_wider(new_body, hints, old_body)
+        & actions_no_wider(new_body, hints, &old_body[first..])
 }
 
 // A new group against its source, the first of what is left of the old ACL; nothing where the hint names no group.

@@ -1,34 +1,29 @@
 use Prim.Native.Nat.{_≤_, _-_}
-use mathlib.Core.Path.{_≡_, refl, ap}
+use mathlib.Core.Path.{_≡_, refl}
 use lib.ListN.{length, drop, getD, getElem?}
 use Rattle.rules.proofs.Rows.{recordsFrom}
-use Rattle.rules.specs.Basics.{any, all, records}
-use Rattle.rules.specs.Acl.{limitOf, limitsOf, actionsOf}
-use Rattle.narrowing.proofs.Laws.{at-found, at-next, at-none, lent-length}
+use Rattle.rules.specs.Basics.{records}
+use Rattle.rules.specs.Acl.{actionsOf}
+use Rattle.narrowing.proofs.Laws.{at-found, at-next, at-limit, at-group, at-none, lent-length}
 use borrow.Author.Needs.{needs}
 use Rattle.narrowing.proofs.action_at.Statement.{statement}
 use Rattle.narrowing.proofs.action_at.Tie as tie
 
 abbrev Inv-loop : tie.InvT-loop
-Inv-loop body h left₀ at₀ left at = (at ≤ length body) × ((64 ≤ length body - at → getD body at 0 ≡ 1 → ⊥) × ((64 ≤ length body - at → getD body at 0 ≡ 2 → ⊥) × (getElem? (actionsOf (recordsFrom body at)) left ≡ getElem? (actionsOf (records body)) h)))
+Inv-loop body h left₀ at₀ left at = (at ≤ length body) × (getElem? (actionsOf (recordsFrom body at)) left ≡ getElem? (actionsOf (records body)) h)
 
 abbrev μ-loop : tie.MeasureT-loop
 μ-loop body h left₀ at₀ left at = length body - at
 
-next-action-requires : tie.Need-next-action-requires Inv-loop μ-loop
-next-action-requires c κs = search needs
-
 loop-holds : tie.Need-loop-holds Inv-loop μ-loop
 unfolding recordsFrom
-loop-holds c =
-    let e = c .next-action .ensures in
-    (e .inside, (e .no-group, (e .no-limit, ap (λ z. getElem? z (c .before .before .args .h)) (e .same))))
+loop-holds c = (search needs, refl)
 
 sub-loop : tie.Need-sub-loop Inv-loop μ-loop
 sub-loop c = search needs
 
-add-result : tie.Need-add-result Inv-loop μ-loop
-add-result c = search needs
+shared-slice-read-if1 : tie.Need-shared-slice-read-if1 Inv-loop μ-loop
+shared-slice-read-if1 c = search needs
 
 sub-result : tie.Need-sub-result Inv-loop μ-loop
 sub-result c = search needs
@@ -40,32 +35,22 @@ part-result-end : tie.Need-part-result-end Inv-loop μ-loop
 part-result-end c = search needs
 
 returns : tie.Need-returns Inv-loop μ-loop
-returns c =
-    let l = c .before .before in
-    let i = l .before .loop .inv in
-    let t = l .loop-test .taken in
-    (at-found _ _ _ _ (i .1 .1 .1) t (i .1 .0 t) (i .1 .1 .0 t) (c .before .if1 .taken), λ z. lent-length (l .before .before .before .before .args .body .now) (l .before .loop .at) t)
+returns c = (search (needs, at-group), λ z. absurd (z refl))
 
-sub-left : tie.Need-sub-left Inv-loop μ-loop
-sub-left c = search needs
+shared-slice-read-if2 : tie.Need-shared-slice-read-if2 Inv-loop μ-loop
+shared-slice-read-if2 c = search needs
 
-add-next-action : tie.Need-add-next-action Inv-loop μ-loop
-add-next-action c = search needs
-
-next-action-requires-2 : tie.Need-next-action-requires-2 Inv-loop μ-loop
-next-action-requires-2 c κs = search needs
+add-at : tie.Need-add-at Inv-loop μ-loop
+add-at c = search needs
 
 loop-less : tie.Need-loop-less Inv-loop μ-loop
 loop-less c = search needs
 
 loop-again : tie.Need-loop-again Inv-loop μ-loop
-loop-again c =
-    let f = c .before in
-    let l = f .before in
-    let i = l .before .loop .inv in
-    let t = l .loop-test .taken in
-    let e = c .next-action2 .ensures in
-    (e .inside, (e .no-group, (e .no-limit, at-next _ _ _ _ (i .1 .1 .1) _ t (i .1 .0 t) (i .1 .1 .0 t) (f .if1 .left) (e .same))))
+loop-again c = (search needs, search (needs, at-limit))
+
+add-result : tie.Need-add-result Inv-loop μ-loop
+add-result c = search needs
 
 sub-result-2 : tie.Need-sub-result-2 Inv-loop μ-loop
 sub-result-2 c = search needs
@@ -77,10 +62,31 @@ part-result-end-2 : tie.Need-part-result-end-2 Inv-loop μ-loop
 part-result-end-2 c = search needs
 
 returns-2 : tie.Need-returns-2 Inv-loop μ-loop
-returns-2 c =
-    let l = c .before in
-    let i = l .before .loop .inv in
-    (at-none _ _ _ _ (i .1 .1 .1) (l .loop-test .left), λ z. absurd (z refl))
+returns-2 c = (search (needs, at-found), λ z. search (needs, lent-length))
+
+sub-left : tie.Need-sub-left Inv-loop μ-loop
+sub-left c = search needs
+
+add-at-2 : tie.Need-add-at-2 Inv-loop μ-loop
+add-at-2 c = search needs
+
+loop-less-2 : tie.Need-loop-less-2 Inv-loop μ-loop
+loop-less-2 c = search needs
+
+loop-again-2 : tie.Need-loop-again-2 Inv-loop μ-loop
+loop-again-2 c = (search needs, search (needs, at-next))
+
+sub-result-3 : tie.Need-sub-result-3 Inv-loop μ-loop
+sub-result-3 c = search needs
+
+part-result-start-3 : tie.Need-part-result-start-3 Inv-loop μ-loop
+part-result-start-3 c = search needs
+
+part-result-end-3 : tie.Need-part-result-end-3 Inv-loop μ-loop
+part-result-end-3 c = search needs
+
+returns-3 : tie.Need-returns-3 Inv-loop μ-loop
+returns-3 c = (search (needs, at-none), λ z. absurd (z refl))
 
 pub action-at-spec : {M : Type 1} → statement M
 action-at-spec =
@@ -88,20 +94,27 @@ action-at-spec =
     (tie.spec
     Inv-loop
     μ-loop
-    next-action-requires
     loop-holds
     sub-loop
-    add-result
+    shared-slice-read-if1
     sub-result
     part-result-start
     part-result-end
     returns
-    sub-left
-    add-next-action
-    next-action-requires-2
+    shared-slice-read-if2
+    add-at
     loop-less
     loop-again
+    add-result
     sub-result-2
     part-result-start-2
     part-result-end-2
-    returns-2)
+    returns-2
+    sub-left
+    add-at-2
+    loop-less-2
+    loop-again-2
+    sub-result-3
+    part-result-start-3
+    part-result-end-3
+    returns-3)
