@@ -1,6 +1,7 @@
 // What a bundle gives evidence of: fields that are there and equal, signatures that are good, and the keys that world certificates vouch for. A hash that
 // may be absent is a part of the bundle, empty where there is none.
 ghost use mathlib.Core.Path.{_≡_};
+ghost use mathlib.Core.Bool.{_||_};
 ghost use Rattle.rules.specs.Basics.{present, bothSame, records};
 ghost use Rattle.rules.specs.Bundle.{field, has, signed, isGood, good};
 ghost use Rattle.rules.specs.Desk.{kmVouched, kmFipsVouched, kreVouched, moduleKey, recoveryKey, isListed, csrLinked};
@@ -104,11 +105,21 @@ pub fn kre_vouched(bundle: &[u8]) -> bool
     is_good(5, bundle) & has_field(5, bundle) & has_field(7, bundle) & has_field(11, bundle)
 }
 
+// Whether certificate 3 or 4 vouches for the module key. The second is looked for only where the first does not.
+fn km_trusted(bundle: &[u8]) -> bool
+    ensures { λ r. ⌜ r ≡ (kmVouched (records (now (bundle .entry))) || kmFipsVouched (records (now (bundle .entry)))) ⌝ }
+{
+    if km_vouched(bundle) {
+        return true;
+    }
+    km_fips_vouched(bundle)
+}
+
 // The module key, where a world certificate vouches for it: that it is listed is not enough. An empty part where it is not trusted.
 pub fn module_key(bundle: &[u8]) -> &[u8]
     ensures { λ r. ⌜ given (now r) ≡ moduleKey (records (now (bundle .entry))) ⌝ }
 {
-    if km_vouched(bundle) | km_fips_vouched(bundle) {
+    if km_trusted(bundle) {
         return field_of(6, bundle);
     }
     &bundle[0..0]

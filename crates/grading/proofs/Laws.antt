@@ -1,77 +1,38 @@
--- The turns of the loops over a group's actions and over the groups of an ACL, and what the parts say of the whole.
+-- The turns of the loop over the records of an ACL, and what the parts say of the whole.
 use Prim.Native.Nat.{ℕ, _+_, _-_, _≤_, _<_, min}
 use native.Mathlib.Omega.{arith}
-use mathlib.Core.Path.{_≡_, refl, sym, _∙_, ap}
+use mathlib.Core.Path.{_≡_, refl, sym, _∙_, ap, subst}
 use mathlib.Core.List.{List, [], _∷_, map}
 use mathlib.Core.Option.{Option, none, some}
-use mathlib.Core.Bool.{Bool, true, false, _||_}
-use borrow.Author.Tests.{eq-eqb, ne-eqb}
+use mathlib.Core.Bool.{Bool, true, false, not, _||_}
+use borrow.Author.Tests.{eq-eqb, ne-eqb, eqb-true, eqb-false}
 use lib.ListN.{length, getD}
-use lib.Dec.{eqb}
+use lib.Dec.{T, eqb}
 use Rattle.rules.specs.Numbers.{notKept}
-use Rattle.rules.specs.Basics.{if_then_else_, Bytes, any, kind, bothSame, orNext, firstFault, records}
+use Rattle.rules.specs.Sizes.{hashBytes}
+use Rattle.rules.specs.Basics.{if_then_else_, Bytes, any, kind, flag, part, optional, bothSame, orNext, firstFault, records}
 use Rattle.rules.specs.Acl.{Action, permissions, makeBlob, makeArchive, actionOf, actionsOf, Group, groupOf, groupsOf}
 use Rattle.rules.specs.Bundle.{field, Policy, policyOf}
 use Rattle.rules.specs.Desk.{moduleKey, recoveryKey, failureUnder, officersGroup, aclFailure, actionProtection, softParameters, smallest, isArchive, keyProtection, recoverableKey}
-use Rattle.rules.proofs.Rows.{recordsFrom, rows-at, rows-lent, rows-end, lentRecord, lent-record, lentRest, rows-rest, kind-at}
-use Rattle.groups.specs.Parts.{NextAction}
-use Rattle.grading.specs.Grades.{Graded, both, nothing, skipped, inOrder, actionGraded, actionsGraded, groupGraded, groupsGraded, aclGraded}
+use Rattle.rules.proofs.Rows.{recordsFrom, rows-at, rows-lent, rows-end, lentRecord, lent-record, kind-at}
+use Rattle.groups.proofs.Laws.{acts-group, acts-limit, acts-step, acts-end}
+use Rattle.grading.specs.Grades.{Graded, both, noActions, inOrder, actionGraded, actionsGraded, groupGraded, groupsGraded, aclGraded}
 
--- Where a loop over a group's actions stands: a record that is left there is an action.
-pub record Standing (s : Bytes) (at : ℕ) : Type 0 where
-  pub inside : at ≤ length s
-  pub no-group : 64 ≤ length s - at → getD s at 0 ≡ 1 → ⊥
-  pub no-limit : 64 ≤ length s - at → getD s at 0 ≡ 2 → ⊥
+-- The groups from a place on: a record that begins none is passed over.
+groups-past : (s : Bytes) (at : ℕ) → 64 ≤ length s - at → (getD s at 0 ≡ 1 → ⊥) → groupsOf (recordsFrom s at) ≡ groupsOf (recordsFrom s (at + 64))
+unfolding groupsOf
+groups-past s at h n = ap groupsOf (rows-at s at h) ∙ rw (kind-at s at, ne-eqb (getD s at 0) 1 n)
 
-pub standing : (s : Bytes) (at r : ℕ) → NextAction s at r → Standing s r
-standing s at r n = record { inside = n .inside; no-group = n .no-group; no-limit = n .no-limit }
-
--- the actions that are left from a place on: shut, so that a search reads the file and the place off it
-unfoldable pub actionsFrom : Bytes → ℕ → List Action
-actionsFrom s at = actionsOf (recordsFrom s at)
-
-pub actions-start : (s : Bytes) (r : ℕ) → NextAction s 0 r → actionsFrom s r ≡ actionsOf (records s)
-unfolding actionsFrom recordsFrom
-actions-start s r n = n .same
-
-pub actions-after : (s : Bytes) (at r : ℕ) → NextAction s at r → actionsFrom s r ≡ actionsFrom s at
-unfolding actionsFrom recordsFrom
-actions-after s at r n = n .same
-
-pub actions-at : (s : Bytes) (at : ℕ) → Standing s at → 64 ≤ length s - at → actionsFrom s at ≡ actionOf (lentRecord s at) ∷ actionsFrom s (at + 64)
-unfolding actionsFrom actionsOf
-actions-at s at st h =
-    let k : getD (lentRecord s at) 0 0 ≡ getD s at 0 = ap (λ (l : Bytes). getD l 0 0) (lent-record s at) ∙ kind-at s at in
-    let one : eqb (kind (lentRecord s at)) 1 ≡ false = rw k (ne-eqb (getD s at 0) 1 (st .no-group h)) in
-    let two : eqb (kind (lentRecord s at)) 2 ≡ false = rw k (ne-eqb (getD s at 0) 2 (st .no-limit h)) in
-    ap actionsOf (rows-lent s at h) ∙ rw (one, two)
-
-pub actions-end : (s : Bytes) (at : ℕ) → length s - at < 64 → actionsFrom s at ≡ []
-unfolding actionsFrom actionsOf
-actions-end s at h = ap actionsOf (rows-end s at h)
-
--- The groups from a place on: shut, so that a search reads the file and the place off it.
-unfoldable pub groupsFrom : Bytes → ℕ → List Group
-groupsFrom s at = groupsOf (recordsFrom s at)
-
-pub groups-start : (s : Bytes) → groupsFrom s 0 ≡ groupsOf (records s)
-unfolding groupsFrom recordsFrom
-groups-start s = refl
-
--- a record that begins no group is passed over
-pub groups-past : (s : Bytes) (at : ℕ) → 64 ≤ length s - at → (getD s at 0 ≡ 1 → ⊥) → groupsFrom s (at + 64) ≡ groupsFrom s at
-unfolding groupsFrom groupsOf
-groups-past s at h n = sym (ap groupsOf (rows-at s at h) ∙ rw (kind-at s at, ne-eqb (getD s at 0) 1 n))
-
-pub groups-at : (s : Bytes) (at : ℕ) → 64 ≤ length s - at → getD s at 0 ≡ 1 → groupsFrom s at ≡ groupOf (lentRecord s at) (records (lentRest s (at + 64))) ∷ groupsFrom s (at + 64)
-unfolding groupsFrom groupsOf
+groups-at : (s : Bytes) (at : ℕ) → 64 ≤ length s - at → getD s at 0 ≡ 1
+    → groupsOf (recordsFrom s at) ≡ groupOf (lentRecord s at) (recordsFrom s (at + 64)) ∷ groupsOf (recordsFrom s (at + 64))
+unfolding groupsOf
 groups-at s at h e =
     let k : getD (lentRecord s at) 0 0 ≡ getD s at 0 = ap (λ (l : Bytes). getD l 0 0) (lent-record s at) ∙ kind-at s at in
     let one : eqb (kind (lentRecord s at)) 1 ≡ true = rw k (eq-eqb (getD s at 0) 1 e) in
-    ap groupsOf (rows-lent s at h) ∙ rw (one, rows-rest s (at + 64))
+    ap groupsOf (rows-lent s at h) ∙ rw one
 
-pub groups-end : (s : Bytes) (at : ℕ) → length s - at < 64 → groupsFrom s at ≡ []
-unfolding groupsFrom groupsOf
+groups-end : (s : Bytes) (at : ℕ) → length s - at < 64 → groupsOf (recordsFrom s at) ≡ []
+unfolding groupsOf
 groups-end s at h = ap groupsOf (rows-end s at h)
 
 -- Parts, one after the other.
@@ -97,37 +58,18 @@ both-assoc x y z =
     let m : min (x .protection) (min (y .protection) (z .protection)) ≡ min (min (x .protection) (y .protection)) (z .protection) = omega arith in
     rw (or-next-assoc (x .failure) (y .failure) (z .failure), m, or-assoc (x .recoverable) (y .recoverable) (z .recoverable))
 
-both-nothing : (x : Graded) → x .protection ≤ notKept → both x nothing ≡ x
+both-none : (x : Graded) → x .protection ≤ notKept → both x (noActions false) ≡ x
 unfolding both
-both-nothing x h =
+both-none x h =
     let m : min (x .protection) notKept ≡ x .protection = omega arith in
     rw (or-next-none (x .failure), m, or-false (x .recoverable))
 
--- A loop that joins what it finds: what was found, and what is left.
-module _ {A : Type 0} (f : A → Graded) (found : Graded) (left : List A) (x : Graded) (inv : both found (inOrder f left) ≡ x) where
-  pub join-next : (a : A) (more : List A) (one next : Graded) → left ≡ a ∷ more → one ≡ f a → next ≡ both found one → both next (inOrder f more) ≡ x
-  unfolding inOrder
-  join-next a more one next l e n = rw (n, e) (sym (both-assoc found (f a) (inOrder f more)) ∙ sym (ap (λ (k : List A). both found (inOrder f k)) l) ∙ inv)
+both-first : (x : Graded) → x .protection ≤ notKept → both (noActions false) x ≡ x
+unfolding both
+both-first x h = let m : min notKept (x .protection) ≡ x .protection = omega arith in rw m
 
-  pub join-done : found .protection ≤ notKept → left ≡ [] → found ≡ x
-  unfolding inOrder
-  join-done m l = sym (both-nothing found m) ∙ sym (ap (λ (k : List A). both found (inOrder f k)) l) ∙ inv
-
--- .. over a group's actions
-pub action-next : (f : Action → Graded) (s : Bytes) (at r : ℕ) (found x one next : Graded) → both found (inOrder f (actionsFrom s at)) ≡ x → Standing s at → 64 ≤ length s - at
-    → one ≡ f (actionOf (lentRecord s at)) → next ≡ both found one → NextAction s (at + 64) r → both next (inOrder f (actionsFrom s r)) ≡ x
-action-next f s at r found x one next inv st h e n k =
-    let l : actionsFrom s at ≡ actionOf (lentRecord s at) ∷ actionsFrom s r = actions-at s at st h ∙ ap (λ (m : List Action). actionOf (lentRecord s at) ∷ m) (sym (actions-after s (at + 64) r k)) in
-    join-next f found (actionsFrom s at) x inv _ _ one next l e n
-
--- .. over an ACL's groups
-module _ (f : Group → Graded) (s : Bytes) (at : ℕ) (found x : Graded) (inv : both found (inOrder f (groupsFrom s at)) ≡ x) where
-  pub group-past : 64 ≤ length s - at → (getD s at 0 ≡ 1 → ⊥) → both found (inOrder f (groupsFrom s (at + 64))) ≡ x
-  group-past h n = ap (λ (gs : List Group). both found (inOrder f gs)) (groups-past s at h n) ∙ inv
-
-  pub group-next : (one next : Graded) → 64 ≤ length s - at → getD s at 0 ≡ 1 → one ≡ f (groupOf (lentRecord s at) (records (lentRest s (at + 64)))) → next ≡ both found one
-      → both next (inOrder f (groupsFrom s (at + 64))) ≡ x
-  group-next one next h k e n = join-next f found (groupsFrom s at) x inv _ _ one next (groups-at s at h k) e n
+pub first-most : (found : Graded) → found ≡ noActions false → found .protection ≤ notKept
+first-most found e = let p : found .protection ≡ notKept = ap (λ (g : Graded). g .protection) e in omega arith
 
 pub join-most : (found one next : Graded) → next ≡ both found one → found .protection ≤ notKept → next .protection ≤ notKept
 unfolding both
@@ -150,12 +92,84 @@ unfolding inOrder both
 in-order-most f [] = omega arith
 in-order-most f (a ∷ list) = let h = in-order-most f list in omega arith
 
-pub join-start : {A : Type 0} (f : A → Graded) (list whole : List A) → list ≡ whole → both nothing (inOrder f list) ≡ inOrder f whole
-unfolding both
-join-start f list whole e =
-    let h = in-order-most f list in
-    let m : min notKept (inOrder f list .protection) ≡ inOrder f list .protection = omega arith in
-    rw (m, e)
+-- What is left of an ACL from a place on: the actions up to the next group, where they are checked, and then the groups.
+module _ (officer : Option Bytes) (policy : Policy) (hkm hkre : Option Bytes) where
+  abbrev actionsLeft : Bool → List Action → Graded
+  actionsLeft checked list = if checked then actionsGraded policy hkm hkre list else noActions false
+
+  -- shut, so that a search reads the file and the place off it
+  unfoldable pub left : Bool → Bytes → ℕ → Graded
+  left checked s at = both (actionsLeft checked (actionsOf (recordsFrom s at))) (groupsGraded officer policy hkm hkre (groupsOf (recordsFrom s at)))
+
+  left-start : (s : Bytes) → both (noActions false) (left false s 0) ≡ groupsGraded officer policy hkm hkre (groupsOf (records s))
+  unfolding left recordsFrom groupsGraded both
+  left-start s =
+      let h = in-order-most (groupGraded officer policy hkm hkre) (groupsOf (records s)) in
+      let m : min notKept (min notKept (inOrder (groupGraded officer policy hkm hkre) (groupsOf (records s)) .protection)) ≡ inOrder (groupGraded officer policy hkm hkre) (groupsOf (records s)) .protection = omega arith in
+      rw m
+
+  pub left-first : (s : Bytes) (found : Graded) → found ≡ noActions false → both found (left false s 0) ≡ groupsGraded officer policy hkm hkre (groupsOf (records s))
+  left-first s found e = ap (λ (z : Graded). both z (left false s 0)) e ∙ left-start s
+
+  none-left : (checked : Bool) → actionsLeft checked [] ≡ noActions false
+  unfolding actionsGraded inOrder
+  none-left true = refl
+  none-left false = refl
+
+  end-left : (s : Bytes) (at : ℕ) (checked : Bool) → length s - at < 64 → left checked s at ≡ noActions false
+  unfolding left both groupsGraded inOrder
+  end-left s at checked h = rw (acts-end s at h, groups-end s at h, none-left checked)
+
+  -- what a group's first record leaves: its actions are checked unless the group is the officer's
+  group-left : (s : Bytes) (at : ℕ) (checked officers : Bool) → 64 ≤ length s - at → getD s at 0 ≡ 1
+      → officers ≡ bothSame officer (optional (flag 0 (lentRecord s at)) (part 4 hashBytes (lentRecord s at)))
+      → left checked s at
+      ≡ both (noActions false) (both (if officers then noActions true else actionsGraded policy hkm hkre (actionsOf (recordsFrom s (at + 64)))) (groupsGraded officer policy hkm hkre (groupsOf (recordsFrom s (at + 64)))))
+  unfolding left groupsGraded inOrder groupGraded
+  group-left s at checked officers h e is = rw (acts-group s at h e, none-left checked, groups-at s at h e, is)
+
+  regroup : (t : Bool) (found acts rest : Graded) → both (both found (noActions t)) (both (if not t then acts else noActions false) rest) ≡ both found (both (noActions false) (both (if t then noActions true else acts) rest))
+  unfolding both
+  regroup true found acts rest = sym (both-assoc found (noActions true) (both (noActions false) rest))
+  regroup false found acts rest = sym (both-assoc found (noActions false) (both acts rest))
+
+  past-left : (s : Bytes) (at : ℕ) (c : Bool) → 64 ≤ length s - at → (getD s at 0 ≡ 1 → ⊥) → (not c || eqb (getD s at 0) 2) ≡ true → left c s (at + 64) ≡ left c s at
+  unfolding left
+  past-left s at true h n p = rw (acts-limit s at h n (eqb-true (getD s at 0) 2 p), groups-past s at h n)
+  past-left s at false h n p = rw (groups-past s at h n)
+
+  action-left : (s : Bytes) (at : ℕ) (c : Bool) → 64 ≤ length s - at → (getD s at 0 ≡ 1 → ⊥) → (not c || eqb (getD s at 0) 2) ≡ false
+      → left c s at ≡ both (actionGraded policy hkm hkre (actionOf (lentRecord s at))) (left c s (at + 64))
+  unfolding left actionsGraded inOrder
+  action-left s at true h n p =
+      rw (acts-step s at h n (eqb-false (getD s at 0) 2 p), groups-past s at h n)
+      (sym (both-assoc (actionGraded policy hkm hkre (actionOf (lentRecord s at))) (inOrder (actionGraded policy hkm hkre) (actionsOf (recordsFrom s (at + 64)))) (groupsGraded officer policy hkm hkre (groupsOf (recordsFrom s (at + 64))))))
+  action-left s at false h n p = absurd (subst T p tt)
+
+  -- The turns of the loop: what was found, and what is left.
+  module _ (s : Bytes) (at : ℕ) (checked : Bool) (found x : Graded) (inv : both found (left checked s at) ≡ x) where
+    pub left-group : (officers : Bool) (one next : Graded) → 64 ≤ length s - at → getD s at 0 ≡ 1
+        → officers ≡ bothSame officer (optional (flag 0 (lentRecord s at)) (part 4 hashBytes (lentRecord s at))) → one ≡ noActions officers
+        → next ≡ both found one → both next (left (not officers) s (at + 64)) ≡ x
+    unfolding left
+    left-group officers one next h e is o n =
+        ap (λ (z : Graded). both z (left (not officers) s (at + 64))) (n ∙ ap (both found) o)
+        ∙ regroup officers found (actionsGraded policy hkm hkre (actionsOf (recordsFrom s (at + 64)))) (groupsGraded officer policy hkm hkre (groupsOf (recordsFrom s (at + 64))))
+        ∙ sym (ap (both found) (group-left s at checked officers h e is))
+        ∙ inv
+
+    -- a limit, or what is not checked
+    pub left-past : 64 ≤ length s - at → (getD s at 0 ≡ 1 → ⊥) → (not checked || eqb (getD s at 0) 2) ≡ true → both found (left checked s (at + 64)) ≡ x
+    left-past h n t = ap (both found) (past-left s at checked h n t) ∙ inv
+
+    -- an action that is checked
+    pub left-action : (one next : Graded) → 64 ≤ length s - at → (getD s at 0 ≡ 1 → ⊥) → (not checked || eqb (getD s at 0) 2) ≡ false
+        → one ≡ actionGraded policy hkm hkre (actionOf (lentRecord s at)) → next ≡ both found one → both next (left checked s (at + 64)) ≡ x
+    left-action one next h n t is e =
+        rw (e, is) (sym (both-assoc found (actionGraded policy hkm hkre (actionOf (lentRecord s at))) (left checked s (at + 64))) ∙ sym (ap (both found) (action-left s at checked h n t)) ∙ inv)
+
+    pub left-done : found .protection ≤ notKept → length s - at < 64 → found ≡ x
+    left-done m h = sym (both-none found m) ∙ sym (ap (both found) (end-left s at checked h)) ∙ inv
 
 smallest-most : (list : List Action) → smallest list ≤ notKept
 unfolding smallest
@@ -170,16 +184,6 @@ protection-most b (g ∷ gs) = pick (officersGroup b g) (protection-most b gs)
     pick : (t : Bool) → keyProtection b gs ≤ notKept → (if t then keyProtection b gs else min (smallest (g .actions)) (keyProtection b gs)) ≤ notKept
     pick true h = h
     pick false h = omega arith
-
--- A group, by the test that the code makes.
-module _ (officer : Option Bytes) (policy : Policy) (hkm hkre : Option Bytes) (head : Bytes) (rest : List Bytes) (t : Bool) (is : t ≡ bothSame officer (groupOf head rest .certifier)) where
-  pub group-skipped : t ≡ true → skipped ≡ groupGraded officer policy hkm hkre (groupOf head rest)
-  unfolding groupGraded
-  group-skipped y = rw (sym is ∙ y)
-
-  pub group-checked : (x : Graded) → t ≡ false → x ≡ actionsGraded policy hkm hkre (actionsOf rest) → x ≡ groupGraded officer policy hkm hkre (groupOf head rest)
-  unfolding groupGraded
-  group-checked x y e = e ∙ rw (sym is ∙ y)
 
 -- The parts of an ACL, one after the other, come to what the desk's definitions say of the whole.
 actions-are : (policy : Policy) (hkm hkre : Option Bytes) (list : List Action)
@@ -196,7 +200,7 @@ groups-are b (g ∷ gs) = ap (both (groupGraded (field 4 b) (policyOf b) (module
     checked : Graded
     checked = actionsGraded (policyOf b) (moduleKey b) (recoveryKey b) (g .actions)
 
-    pick : (t : Bool) → both (if t then skipped else checked) (aclGraded b gs)
+    pick : (t : Bool) → both (if t then noActions true else checked) (aclGraded b gs)
         ≡ record {
           failure = orNext (if t then none else firstFault (map (failureUnder (policyOf b) (moduleKey b) (recoveryKey b)) (g .actions))) (aclFailure b gs);
           protection = if t then keyProtection b gs else min (smallest (g .actions)) (keyProtection b gs);

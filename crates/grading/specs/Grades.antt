@@ -30,17 +30,13 @@ both x y =
       recoverable = x .recoverable || y .recoverable;
     }
 
--- "with no MakeBlob checked, 4, not kept"
-abbrev pub nothing : Graded
-nothing = record { failure = none; protection = notKept; recoverable = false }
-
--- "marks the key recoverable and is skipped (ACLV1)"
-abbrev pub skipped : Graded
-skipped = record { failure = none; protection = notKept; recoverable = true }
+-- "with no MakeBlob checked, 4, not kept": no action, of a key that is recoverable or not
+abbrev pub noActions : Bool → Graded
+noActions recoverable = record { failure = none; protection = notKept; recoverable = recoverable }
 
 -- all parts, one after the other
 unfoldable pub inOrder : {A : Type 0} → (A → Graded) → List A → Graded
-inOrder f [] = nothing
+inOrder f [] = noActions false
 inOrder f (x ∷ xs) = both (f x) (inOrder f xs)
 
 -- "Else per action": one action, under a policy and the trusted keys ..
@@ -52,10 +48,10 @@ actionGraded policy hkm hkre a =
 unfoldable pub actionsGraded : Policy → Option Bytes → Option Bytes → List Action → Graded
 actionsGraded policy hkm hkre list = inOrder (actionGraded policy hkm hkre) list
 
--- a group, under the officer's key too ..
+-- a group, under the officer's key too: one of the officer's "marks the key recoverable and is skipped (ACLV1)" ..
 unfoldable pub groupGraded : Option Bytes → Policy → Option Bytes → Option Bytes → Group → Graded
 groupGraded officer policy hkm hkre g =
-    if bothSame officer (g .certifier) then skipped else actionsGraded policy hkm hkre (g .actions)
+    if bothSame officer (g .certifier) then noActions true else actionsGraded policy hkm hkre (g .actions)
 
 -- .. and all of an ACL's
 unfoldable pub groupsGraded : Option Bytes → Policy → Option Bytes → Option Bytes → List Group → Graded

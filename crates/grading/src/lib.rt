@@ -4,10 +4,10 @@ ghost use Prim.Native.Nat.{min};
 ghost use lib.ListN.{length};
 ghost use Rattle.rules.specs.Sizes.{recordBytes};
 ghost use Rattle.rules.specs.Basics.{records};
-ghost use Rattle.rules.specs.Acl.{actionOf, actionsOf, groupOf, aclOf};
+ghost use Rattle.rules.specs.Acl.{actionOf, aclOf};
 ghost use Rattle.facts.specs.Found.{policyAs};
 ghost use Rattle.evidence.specs.Given.{given};
-ghost use Rattle.grading.specs.Grades.{gradedAs, both, skipped, actionGraded, actionsGraded, groupGraded, groupsGraded, aclGraded};
+ghost use Rattle.grading.specs.Grades.{gradedAs, both, noActions, actionGraded, groupsGraded, aclGraded};
 use facts::Policy;
 use steps::Failure;
 
@@ -53,64 +53,39 @@ fn action_grade(policy: Policy, hkm: &[u8], hkre: &[u8], rec: &[u8]) -> Grade
     }
 }
 
-// What the actions of a group come to. `rest` are the records that follow the group's first.
-fn actions_grade(policy: Policy, hkm: &[u8], hkre: &[u8], rest: &[u8]) -> Grade
-    ensures { λ r. ⌜ gradedAs r ≡ actionsGraded (policyAs policy) (given (now (hkm .entry))) (given (now (hkre .entry))) (actionsOf (records (now (rest .entry)))) ⌝ }
+// What no action comes to: the protection that stands where nothing is kept.
+fn no_actions(recoverable: bool) -> Grade
+    ensures { λ r. ⌜ gradedAs r ≡ noActions recoverable ⌝ }
 {
-    let mut found = Grade {
+    Grade {
         failure: Failure::Nothing,
         protection: actions::NOT_KEPT,
-        recoverable: false,
-    };
-    let mut at = groups::next_action(rest, 0);
-    while 64 <= rest.len() - at {
-        found = joined(found, action_grade(policy, hkm, hkre, &rest[at..at + 64]));
-        at = groups::next_action(rest, at + 64);
+        recoverable: recoverable,
     }
-    found
 }
 
-// What a group comes to, of its first record and those that follow. One that the officer's key certifies is skipped and marks the key recoverable; the
-// certifier's mechanism does not matter.
-fn group_grade(
-    officer: &[u8],
-    policy: Policy,
-    hkm: &[u8],
-    hkre: &[u8],
-    head: &[u8],
-    rest: &[u8],
-) -> Grade
-    requires { ⌜ length (now head) ≡ recordBytes ⌝ }
-    ensures { λ r. ⌜ gradedAs r ≡ groupGraded (given (now (officer .entry))) (policyAs policy) (given (now (hkm .entry))) (given (now (hkre .entry))) (groupOf (now (head .entry)) (records (now (rest .entry)))) ⌝ }
-{
-    if actions::names_key(officer, 0, 4, head) {
-        return Grade {
-            failure: Failure::Nothing,
-            protection: actions::NOT_KEPT,
-            recoverable: true,
-        };
-    }
-    actions_grade(policy, hkm, hkre, rest)
-}
-
-// What the groups of an ACL come to.
+// What the groups of an ACL come to, record by record. `checked` says whether actions that stand here are checked: not before the first group, and not
+// in a group that the officer's key certifies, which marks the key recoverable. The certifier's mechanism does not matter.
 fn groups_grade(officer: &[u8], policy: Policy, hkm: &[u8], hkre: &[u8], acl: &[u8]) -> Grade
     ensures { λ r. ⌜ gradedAs r ≡ groupsGraded (given (now (officer .entry))) (policyAs policy) (given (now (hkm .entry))) (given (now (hkre .entry))) (aclOf (now (acl .entry))) ⌝ }
 {
-    let mut found = Grade {
-        failure: Failure::Nothing,
-        protection: actions::NOT_KEPT,
-        recoverable: false,
-    };
+    let mut found = no_actions(false);
+    let mut checked = false;
     let mut at = 0;
     while 64 <= acl.len() - at {
-        if acl[at] != 1 {
+        let rec = &acl[at..at + 64];
+        if acl[at] == 1 {
+            let officers = actions::names_key(officer, 0, 4, rec);
+            found = joined(found, no_actions(officers));
+            checked = !officers;
             at += 64;
             continue;
         }
-        let head = &acl[at..at + 64];
-        let rest = &acl[at + 64..];
-        found = joined(found, group_grade(officer, policy, hkm, hkre, head, rest));
+        if !checked | (acl[at] == 2) {
+            at += 64;
+            continue;
+        }
+        found = joined(found, action_grade(policy, hkm, hkre, rec));
         at += 64;
     }
     found

@@ -1,22 +1,18 @@
 use Rattle.rules.specs.Desk.{moduleKey}
 use Rattle.rules.proofs.Choices.{vias}
-use Rattle.evidence.proofs.Laws.{or-is}
 use borrow.Author.Needs.{needs}
 use Rattle.evidence.proofs.module_key.Statement.{statement}
 use Rattle.evidence.proofs.module_key.Tie as tie
 
-km-vouched-requires : tie.Need-km-vouched-requires
-km-vouched-requires c κs = search needs
-
-km-fips-vouched-requires : tie.Need-km-fips-vouched-requires
-km-fips-vouched-requires c κs = search needs
+km-trusted-requires : tie.Need-km-trusted-requires
+km-trusted-requires c κs = search needs
 
 field-of-requires : tie.Need-field-of-requires
 field-of-requires c κs = search needs
 
 returns : tie.Need-returns
 unfolding moduleKey
-returns c = search (needs, vias, or-is)
+returns c = search (needs, vias)
 
 sub-result : tie.Need-sub-result
 sub-result c = search needs
@@ -29,14 +25,13 @@ part-result-end c = search needs
 
 returns-2 : tie.Need-returns-2
 unfolding moduleKey
-returns-2 c = search (needs, vias, or-is)
+returns-2 c = search (needs, vias)
 
 pub module-key-spec : {M : Type 1} → statement M
 module-key-spec =
     tie.close
     (tie.spec
-    km-vouched-requires
-    km-fips-vouched-requires
+    km-trusted-requires
     field-of-requires
     returns
     sub-result
