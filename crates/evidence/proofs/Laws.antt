@@ -71,6 +71,9 @@ listed-is [] o b r s e p q = rw (← e, p)
 listed-is (x ∷ xs) o b r s e p q = rw (← e, p, q)
 
 -- Tests of several answers.
+pub or-is : (r s a b : Bool) → r ≡ a → s ≡ b → (r || s) ≡ (a || b)
+or-is r s a b p q = rw (p, q)
+
 pub implies-is : (r s a b : Bool) → r ≡ a → s ≡ b → (not r || s) ≡ implies a b
 implies-is r s a b p q = rw (p, q)
 

@@ -6,7 +6,7 @@ use Rattle.rules.specs.Basics.{Bytes, orNext, firstFault}
 use Rattle.rules.specs.Desk.{beforeAcl, basicFailure}
 use Rattle.rules.proofs.Choices.{and-is}
 use Rattle.rules.proofs.Faults.{fault-here, fault-later}
-use Rattle.evidence.proofs.Laws.{implies-is}
+use Rattle.evidence.proofs.Laws.{or-is, implies-is}
 use Rattle.steps.specs.Steps.{warrantFailure, stateFailure, worldFailure, keyFailure, csrFailure}
 
 -- Runs of steps, one after the other.
@@ -22,7 +22,7 @@ unfolding firstFault
 no-fault = refl
 
 -- tests, one after the other: what the code's answers say of a run of steps
-pub ruleset tests = (fault-here, fault-later, no-fault, and-is, implies-is)
+pub ruleset tests = (fault-here, fault-later, no-fault, and-is, or-is, implies-is)
 
 -- the runs of both approaches
 pub approach-2 : (b : List Bytes) → orNext (orNext (warrantFailure b) (stateFailure b)) (orNext (worldFailure b) (keyFailure b)) ≡ beforeAcl b
