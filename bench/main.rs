@@ -1,7 +1,7 @@
 //! Measures the proved library and the ordinary program on the same files, one after the other in the same run.
 //!
-//! For each case: ROUNDS rounds, in each of which both answer the same number of calls; the median round counts. Every answer of a case is
-//! compared at its end, so that both did the same work. Then the stack of each call of the library.
+//! For each case: ROUNDS rounds, in each of which both answer the same number of calls; the median round counts. Rounds are many and short, so that both
+//! meet the machine in the same state. The answers of each round are compared at its end, so that both did the same work. Then the stack of each call of the library.
 mod inputs;
 mod ordinary;
 #[path = "../host/rust/akubolinfe.rs"]
@@ -12,7 +12,7 @@ use inputs::{EXPAND_ACL, REDUCE_ACL, SIGN, TIME};
 use std::hint::black_box;
 use std::time::Instant;
 
-const ROUNDS: u32 = 20;
+const ROUNDS: u32 = 200;
 
 /// The files of a call, each of any length; those that a call does not take are empty.
 #[derive(Default)]
@@ -203,7 +203,7 @@ fn measure_stack() {
 fn main() {
     let cases: Vec<Case> = request_cases().into_iter().chain(narrowing_cases()).chain(desk_cases()).chain([subject_case()]).collect();
     println!("load average before: {}; files stay in memory, caches and buffers are not cleared between calls", load());
-    println!("{:<48} {:>9} {:>9} {:>7}", "ns per call, median of 20 rounds", "proved", "ordinary", "ratio");
+    println!("{:<48} {:>9} {:>9} {:>7}", format!("ns per call, median of {ROUNDS} rounds"), "proved", "ordinary", "ratio");
     let worst = cases.iter().map(measure).fold(0.0, f64::max);
     println!("largest ratio {worst:.2}; load average after: {}", load());
     measure_stack();
