@@ -75,8 +75,8 @@ pub fn limits_part(rest: &[u8]) -> &[u8]
     &rest[0..at]
 }
 
-// Where the next action of a group stands, from the byte `at` on; the end of the file where the group has no more. A loop over a group's actions
-// steps by this alone.
+// Where the next action of a group stands, from the byte `at` on; the end of the file where the group has no more. A loop over a group's actions can
+// step by this alone.
 pub fn next_action(s: &[u8], at: usize) -> usize
     requires { ⌜ at ≤ length (now s) ⌝ }
     ensures { λ r. ⌜ NextAction (now (s .entry)) at r ⌝ }
