@@ -200,8 +200,21 @@ fn measure_stack() {
     print("subject", stack::depth(|| proved::write_subject(4, 4, &inputs::four_hashes(), &mut buffer)));
 }
 
+// One case alone and untimed, for a tool that counts instructions: the case's place, the side, the calls.
+fn alone(case: &Case, side: &str, calls: &str) {
+    let (mut proved, mut ordinary) = (Proved::loaded(), Ordinary::loaded());
+    let side: &mut dyn Side = if side == "proved" { &mut proved } else { &mut ordinary };
+    let answer = (case.call)(side, &case.files, calls.parse().expect("a number of calls"));
+    assert!(answer.starts_with(case.expected), "{}: {answer}", case.name);
+    println!("{}", case.name);
+}
+
 fn main() {
     let cases: Vec<Case> = request_cases().into_iter().chain(narrowing_cases()).chain(desk_cases()).chain([subject_case()]).collect();
+    let words: Vec<String> = std::env::args().skip(1).collect();
+    if let [place, side, calls] = words.as_slice() {
+        return alone(&cases[place.parse::<usize>().expect("a case's place")], side, calls);
+    }
     println!("load average before: {}; files stay in memory, caches and buffers are not cleared between calls", load());
     println!("{:<48} {:>9} {:>9} {:>7}", format!("ns per call, median of {ROUNDS} rounds"), "proved", "ordinary", "ratio");
     let worst = cases.iter().map(measure).fold(0.0, f64::max);
