@@ -3,10 +3,13 @@ ghost use mathlib.Core.Path.{_≡_};
 ghost use Prim.Native.Nat.{_≤_};
 ghost use Rattle.rules.specs.Basics.{orNext, records};
 ghost use Rattle.rules.specs.Acl.{aclOf};
+ghost use Rattle.rules.specs.Bundle.{policyOf};
 ghost use Rattle.rules.specs.Desk.{beforeAcl, fullFailure, basicFailure, gradeOf, byGeneration, byPolicy, unlessFailed, deskFault, attested, desk};
 ghost use Rattle.files.specs.Refusals.{faultOf};
+ghost use Rattle.facts.specs.Found.{policyAs};
 ghost use Rattle.steps.specs.Steps.{failureOf};
 ghost use Rattle.desk.specs.Replies.{protectionNumber, replyOf, replyFor, verdictFrom, suiteFault, gradeFailure};
+use facts::Policy;
 use files::Checked;
 use files::Refusal;
 use grading::Grade;
@@ -91,10 +94,10 @@ fn read_both(bundle: &[u8], acl: &[u8]) -> Checked
 }
 
 // The steps after the ACL: the protection is at least the policy's, and the CSR is for the key.
-fn grade_steps(bundle: &[u8], protection: u8) -> Failure
+fn grade_steps(policy: Policy, bundle: &[u8], protection: u8) -> Failure
+    requires { ⌜ policyAs policy ≡ policyOf (records (now bundle)) ⌝ }
     ensures { λ r. ⌜ failureOf r ≡ gradeFailure (records (now (bundle .entry))) protection ⌝ }
 {
-    let policy = facts::policy_of(bundle);
     if protection < policy.lowest {
         return Failure::At(Step::KV3);
     }
@@ -102,11 +105,12 @@ fn grade_steps(bundle: &[u8], protection: u8) -> Failure
 }
 
 // Approach 2, whole: the first failing step, for an ACL that comes to that grade.
-fn full_steps(bundle: &[u8], grade: Grade) -> Failure
+fn full_steps(policy: Policy, bundle: &[u8], grade: Grade) -> Failure
+    requires { ⌜ policyAs policy ≡ policyOf (records (now bundle)) ⌝ }
     ensures { λ r. ⌜ failureOf r ≡ orNext (beforeAcl (records (now (bundle .entry)))) (orNext (failureOf (grade .failure)) (gradeFailure (records (now (bundle .entry))) (grade .protection))) ⌝ }
 {
     let of_acl = grade.failure;
-    let after = steps::first_of(of_acl, grade_steps(bundle, grade.protection));
+    let after = steps::first_of(of_acl, grade_steps(policy, bundle, grade.protection));
     steps::first_of(steps::bundle_steps(bundle), after)
 }
 
@@ -120,12 +124,13 @@ fn unless_failed(f: Failure, a: Acceptance) -> Verdict
     }
 }
 
-// Approach 2.
-fn judge_policy(bundle: &[u8], acl: &[u8]) -> Verdict
+// Approach 2, by the bundle's policy, which is not looked for again.
+fn judge_policy(policy: Policy, bundle: &[u8], acl: &[u8]) -> Verdict
+    requires { ⌜ policyAs policy ≡ policyOf (records (now bundle)) ⌝ }
     ensures { λ r. ⌜ replyOf r ≡ replyFor (unlessFailed (fullFailure (records (now (bundle .entry))) (aclOf (now (acl .entry)))) (byPolicy (gradeOf (records (now (bundle .entry))) (aclOf (now (acl .entry)))))) ⌝ }
 {
-    let grade = grading::acl_grade(bundle, acl);
-    let failure = full_steps(bundle, grade);
+    let grade = grading::acl_grade(policy, bundle, acl);
+    let failure = full_steps(policy, bundle, grade);
     let acceptance = Acceptance {
         approach: 2,
         protection: protection_of(grade.protection),
@@ -152,7 +157,7 @@ fn judge_read(bundle: &[u8], acl: &[u8]) -> Verdict
 {
     let policy = facts::policy_of(bundle);
     if policy.approach == 2 {
-        return judge_policy(bundle, acl);
+        return judge_policy(policy, bundle, acl);
     }
     judge_generation(bundle)
 }

@@ -5,6 +5,7 @@ ghost use lib.ListN.{length};
 ghost use Rattle.rules.specs.Sizes.{recordBytes};
 ghost use Rattle.rules.specs.Basics.{records};
 ghost use Rattle.rules.specs.Acl.{actionOf, aclOf};
+ghost use Rattle.rules.specs.Bundle.{policyOf};
 ghost use Rattle.facts.specs.Found.{policyAs};
 ghost use Rattle.evidence.specs.Given.{given};
 ghost use Rattle.grading.specs.Grades.{gradedAs, both, noActions, actionGraded, groupsGraded, aclGraded};
@@ -91,12 +92,12 @@ fn groups_grade(officer: &[u8], policy: Policy, hkm: &[u8], hkre: &[u8], acl: &[
     found
 }
 
-// What an ACL comes to by a bundle. Policy and keys are looked for once, not for each action.
-pub fn acl_grade(bundle: &[u8], acl: &[u8]) -> Grade
+// What an ACL comes to by a bundle and its policy. The keys are looked for once, not for each action.
+pub fn acl_grade(policy: Policy, bundle: &[u8], acl: &[u8]) -> Grade
+    requires { ⌜ policyAs policy ≡ policyOf (records (now bundle)) ⌝ }
     ensures { λ r. ⌜ gradedAs r ≡ aclGraded (records (now (bundle .entry))) (aclOf (now (acl .entry))) ⌝ }
 {
     let officer = evidence::field_of(4, bundle);
-    let policy = facts::policy_of(bundle);
     let hkm = evidence::module_key(bundle);
     let hkre = evidence::recovery_key(bundle);
     groups_grade(officer, policy, hkm, hkre, acl)
