@@ -101,7 +101,7 @@ fn grade_steps(policy: Policy, bundle: &[u8], protection: u8) -> Failure
     if protection < policy.lowest {
         return Failure::At(Step::KV3);
     }
-    steps::csr_step(bundle)
+    steps::csr_step(policy, bundle)
 }
 
 // Approach 2, whole: the first failing step, for an ACL that comes to that grade.
@@ -124,7 +124,7 @@ fn unless_failed(f: Failure, a: Acceptance) -> Verdict
     }
 }
 
-// Approach 2, by the bundle's policy, which is not looked for again.
+// Approach 2. The policy is the bundle's, and not looked for again.
 fn judge_policy(policy: Policy, bundle: &[u8], acl: &[u8]) -> Verdict
     requires { ⌜ policyAs policy ≡ policyOf (records (now bundle)) ⌝ }
     ensures { λ r. ⌜ replyOf r ≡ replyFor (unlessFailed (fullFailure (records (now (bundle .entry))) (aclOf (now (acl .entry)))) (byPolicy (gradeOf (records (now (bundle .entry))) (aclOf (now (acl .entry)))))) ⌝ }
@@ -140,7 +140,8 @@ fn judge_policy(policy: Policy, bundle: &[u8], acl: &[u8]) -> Verdict
 }
 
 // Approach 1.
-fn judge_generation(bundle: &[u8]) -> Verdict
+fn judge_generation(policy: Policy, bundle: &[u8]) -> Verdict
+    requires { ⌜ policyAs policy ≡ policyOf (records (now bundle)) ⌝ }
     ensures { λ r. ⌜ replyOf r ≡ replyFor (unlessFailed (basicFailure (records (now (bundle .entry)))) byGeneration) ⌝ }
 {
     let acceptance = Acceptance {
@@ -148,7 +149,7 @@ fn judge_generation(bundle: &[u8]) -> Verdict
         protection: Protection::NotJudged,
         recoverable: false,
     };
-    unless_failed(steps::basic_steps(bundle), acceptance)
+    unless_failed(steps::basic_steps(policy, bundle), acceptance)
 }
 
 // The steps of the approach that the policy names, for files that were read.
@@ -159,7 +160,7 @@ fn judge_read(bundle: &[u8], acl: &[u8]) -> Verdict
     if policy.approach == 2 {
         return judge_policy(policy, bundle, acl);
     }
-    judge_generation(bundle)
+    judge_generation(policy, bundle)
 }
 
 // The verdict on a bundle and an ACL, whatever bytes they are.

@@ -3,10 +3,11 @@
 ghost use mathlib.Core.Path.{_≡_};
 ghost use mathlib.Core.Bool.{_||_};
 ghost use Rattle.rules.specs.Basics.{present, bothSame, records};
-ghost use Rattle.rules.specs.Bundle.{field, has, signed, isGood, good};
+ghost use Rattle.rules.specs.Bundle.{field, has, signed, isGood, good, policyOf};
 ghost use Rattle.rules.specs.Desk.{kmVouched, kmFipsVouched, kreVouched, moduleKey, recoveryKey, isListed, csrLinked};
-ghost use Rattle.facts.specs.Found.{outcomeOf};
+ghost use Rattle.facts.specs.Found.{outcomeOf, policyAs};
 ghost use Rattle.evidence.specs.Given.{given};
+use facts::Policy;
 use facts::Signature;
 
 // Whether a part is there. A hash has twenty bytes, so that an empty part stands for an absent one.
@@ -143,10 +144,10 @@ pub fn module_key_listed(bundle: &[u8]) -> bool
     !is_there(key) | facts::is_listed(key, bundle)
 }
 
-// Whether the CSR, if one is in use, is for the key.
-pub fn csr_linked(bundle: &[u8]) -> bool
+// Whether the CSR, if the policy says that one is in use, is for the key.
+pub fn csr_linked(policy: Policy, bundle: &[u8]) -> bool
+    requires { ⌜ policyAs policy ≡ policyOf (records (now bundle)) ⌝ }
     ensures { λ r. ⌜ r ≡ csrLinked (records (now (bundle .entry))) ⌝ }
 {
-    let policy = facts::policy_of(bundle);
     !policy.csr | same_fields(10, 9, bundle)
 }

@@ -1,8 +1,11 @@
 // The attestation steps that look at a bundle alone. A run of steps answers with the first that fails.
 ghost use mathlib.Core.Path.{_≡_};
 ghost use Rattle.rules.specs.Basics.{orNext, records};
+ghost use Rattle.rules.specs.Bundle.{policyOf};
 ghost use Rattle.rules.specs.Desk.{beforeAcl, basicFailure};
+ghost use Rattle.facts.specs.Found.{policyAs};
 ghost use Rattle.steps.specs.Steps.{failureOf, warrantFailure, stateFailure, worldFailure, keyFailure, csrFailure};
+use facts::Policy;
 
 // The steps that can fail, by their names in document 01.
 pub enum Step {
@@ -107,10 +110,11 @@ fn key_steps(bundle: &[u8]) -> Failure
 }
 
 // The link between CSR and key.
-pub fn csr_step(bundle: &[u8]) -> Failure
+pub fn csr_step(policy: Policy, bundle: &[u8]) -> Failure
+    requires { ⌜ policyAs policy ≡ policyOf (records (now bundle)) ⌝ }
     ensures { λ r. ⌜ failureOf r ≡ csrFailure (records (now (bundle .entry))) ⌝ }
 {
-    if !evidence::csr_linked(bundle) {
+    if !evidence::csr_linked(policy, bundle) {
         return Failure::At(Step::CSRL1);
     }
     Failure::Nothing
@@ -125,11 +129,12 @@ pub fn bundle_steps(bundle: &[u8]) -> Failure
 }
 
 // Approach 1, whole.
-pub fn basic_steps(bundle: &[u8]) -> Failure
+pub fn basic_steps(policy: Policy, bundle: &[u8]) -> Failure
+    requires { ⌜ policyAs policy ≡ policyOf (records (now bundle)) ⌝ }
     ensures { λ r. ⌜ failureOf r ≡ basicFailure (records (now (bundle .entry))) ⌝ }
 {
     first_of(
         warrant_steps(bundle),
-        first_of(key_steps(bundle), csr_step(bundle)),
+        first_of(key_steps(bundle), csr_step(policy, bundle)),
     )
 }

@@ -3,14 +3,11 @@ use borrow.Author.Needs.{needs}
 use Rattle.evidence.proofs.csr_linked.Statement.{statement}
 use Rattle.evidence.proofs.csr_linked.Tie as tie
 
-policy-of-requires : tie.Need-policy-of-requires
-policy-of-requires c κs = search needs
-
 same-fields-requires : tie.Need-same-fields-requires
 same-fields-requires c κs = search needs
 
 returns : tie.Need-returns
-returns c = policy-asks _ _ _ _ (c .before .before .policy-of .ensures) (c .same-fields .ensures)
+returns c = policy-asks _ _ _ _ (c .before .before .before .pre) (c .same-fields .ensures)
 
 pub csr-linked-spec : {M : Type 1} → statement M
-csr-linked-spec = tie.close (tie.spec policy-of-requires same-fields-requires returns)
+csr-linked-spec = tie.close (tie.spec same-fields-requires returns)
