@@ -13,7 +13,7 @@ use Rattle.rules.specs.Basics.{if_then_else_, Bytes, orNext, firstFault, fits, 
 use Rattle.rules.specs.Suites.{isSuite}
 use Rattle.rules.specs.Acl.{Action, permissions, makeBlob, makeArchive, Group, aclOf, aclFault}
 use Rattle.rules.specs.Bundle.{Policy, policyOf, bundleFault}
-use Rattle.rules.specs.Desk.{Step, KV3, Acceptance, byGeneration, byPolicy, actionProtection, softParameters, smallest, officersGroup, keyProtection, recoverableKey, beforeAcl, aclFailure, fullFailure, basicFailure, gradeOf, unlessFailed, attested, deskFault, desk}
+use Rattle.rules.specs.Desk.{Step, KV3, Acceptance, approach1, approach2, actionProtection, softParameters, smallest, officersGroup, keyProtection, recoverableKey, beforeAcl, aclFailure, fullFailure, basicFailure, gradeOf, unlessFailed, attested, deskFault, desk}
 use Rattle.steps.specs.declared.Failure.{Failure}
 use Rattle.steps.specs.declared.Failure.the-variants.{Nothing, At}
 use Rattle.steps.specs.Steps.{failureOf, csrFailure}
@@ -103,10 +103,10 @@ verdict-of Nothing a spec o e n = rw (← e, n)
 verdict-of (At s) a spec o e n = rw (← e)
 
 -- the approach that the policy names
-pub approach-two : (b : List Bytes) (gs : List Group) (p : Policy) (x : Reply) → p ≡ policyOf b → p .approach ≡ 2 → x ≡ replyFor (unlessFailed (fullFailure b gs) (byPolicy (gradeOf b gs))) → x ≡ replyFor (attested b gs)
+pub approach-two : (b : List Bytes) (gs : List Group) (p : Policy) (x : Reply) → p ≡ policyOf b → p .approach ≡ 2 → x ≡ replyFor (unlessFailed (fullFailure b gs) (approach2 (gradeOf b gs))) → x ≡ replyFor (attested b gs)
 approach-two b gs p x e h q = let k : eqb (policyOf b .approach) 2 ≡ true = rw (← e) (eq-eqb (p .approach) 2 h) in rw k q
 
-pub approach-one : (b : List Bytes) (gs : List Group) (p : Policy) (x : Reply) → p ≡ policyOf b → (p .approach ≡ 2 → ⊥) → x ≡ replyFor (unlessFailed (basicFailure b) byGeneration) → x ≡ replyFor (attested b gs)
+pub approach-one : (b : List Bytes) (gs : List Group) (p : Policy) (x : Reply) → p ≡ policyOf b → (p .approach ≡ 2 → ⊥) → x ≡ replyFor (unlessFailed (basicFailure b) approach1) → x ≡ replyFor (attested b gs)
 approach-one b gs p x e h q = let k : eqb (policyOf b .approach) 2 ≡ false = rw (← e) (ne-eqb (p .approach) 2 h) in rw k q
 
 -- the whole
@@ -139,5 +139,5 @@ module _ (b : List Bytes) (gs : List Group) (g : Graded) (e : g ≡ aclGraded b 
   full-from o q = q ∙ rw (failure-is, protection-is) (full-is b gs)
 
   pub named-from : (p : Protection) → protectionNumber p ≡ g .protection
-      → namedBy (record { approach = 2; protection = p; recoverable = g .recoverable }) ≡ namedFor (byPolicy (gradeOf b gs))
+      → namedBy (record { approach = 2; protection = p; recoverable = g .recoverable }) ≡ namedFor (approach2 (gradeOf b gs))
   named-from p q = rw (q, protection-is, recoverable-is)

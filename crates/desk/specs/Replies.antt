@@ -52,8 +52,8 @@ replyOf (Refused r) = refusing (refusalNumber r)
 
 -- what the definitions' acceptance names: approach 1 "looks at the key's generation alone"
 abbrev pub namedFor : rules.Acceptance → Named
-namedFor rules.byGeneration = record { approach = 1; protection = 0; recoverable = false }
-namedFor (rules.byPolicy g) = record { approach = 2; protection = g .protection; recoverable = g .recoverable }
+namedFor rules.approach1 = record { approach = 1; protection = 0; recoverable = false }
+namedFor (rules.approach2 g) = record { approach = 2; protection = g .protection; recoverable = g .recoverable }
 
 -- the definitions' verdict
 abbrev pub replyFor : rules.Verdict → Reply

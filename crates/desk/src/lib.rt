@@ -4,7 +4,7 @@ ghost use Prim.Native.Nat.{_≤_};
 ghost use Rattle.rules.specs.Basics.{orNext, records};
 ghost use Rattle.rules.specs.Acl.{aclOf};
 ghost use Rattle.rules.specs.Bundle.{policyOf};
-ghost use Rattle.rules.specs.Desk.{beforeAcl, fullFailure, basicFailure, gradeOf, byGeneration, byPolicy, unlessFailed, deskFault, attested, desk};
+ghost use Rattle.rules.specs.Desk.{beforeAcl, fullFailure, basicFailure, gradeOf, approach1, approach2, unlessFailed, deskFault, attested, desk};
 ghost use Rattle.files.specs.Refusals.{faultOf};
 ghost use Rattle.facts.specs.Found.{policyAs};
 ghost use Rattle.steps.specs.Steps.{failureOf};
@@ -127,7 +127,7 @@ fn unless_failed(f: Failure, a: Acceptance) -> Verdict
 // Approach 2. The policy is the bundle's, and not looked for again.
 fn judge_policy(policy: Policy, bundle: &[u8], acl: &[u8]) -> Verdict
     requires { ⌜ policyAs policy ≡ policyOf (records (now bundle)) ⌝ }
-    ensures { λ r. ⌜ replyOf r ≡ replyFor (unlessFailed (fullFailure (records (now (bundle .entry))) (aclOf (now (acl .entry)))) (byPolicy (gradeOf (records (now (bundle .entry))) (aclOf (now (acl .entry)))))) ⌝ }
+    ensures { λ r. ⌜ replyOf r ≡ replyFor (unlessFailed (fullFailure (records (now (bundle .entry))) (aclOf (now (acl .entry)))) (approach2 (gradeOf (records (now (bundle .entry))) (aclOf (now (acl .entry)))))) ⌝ }
 {
     let grade = grading::acl_grade(policy, bundle, acl);
     let failure = full_steps(policy, bundle, grade);
@@ -142,7 +142,7 @@ fn judge_policy(policy: Policy, bundle: &[u8], acl: &[u8]) -> Verdict
 // Approach 1.
 fn judge_generation(policy: Policy, bundle: &[u8]) -> Verdict
     requires { ⌜ policyAs policy ≡ policyOf (records (now bundle)) ⌝ }
-    ensures { λ r. ⌜ replyOf r ≡ replyFor (unlessFailed (basicFailure (records (now (bundle .entry)))) byGeneration) ⌝ }
+    ensures { λ r. ⌜ replyOf r ≡ replyFor (unlessFailed (basicFailure (records (now (bundle .entry)))) approach1) ⌝ }
 {
     let acceptance = Acceptance {
         approach: 1,

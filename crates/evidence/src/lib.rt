@@ -3,7 +3,7 @@
 ghost use mathlib.Core.Path.{_≡_};
 ghost use mathlib.Core.Bool.{_||_};
 ghost use Rattle.rules.specs.Basics.{present, bothSame, records};
-ghost use Rattle.rules.specs.Bundle.{field, has, signed, isGood, good, policyOf};
+ghost use Rattle.rules.specs.Bundle.{field, has, reported, isGood, good, policyOf};
 ghost use Rattle.rules.specs.Desk.{kmVouched, kmFipsVouched, kreVouched, moduleKey, recoveryKey, isListed, csrLinked};
 ghost use Rattle.facts.specs.Found.{outcomeOf, policyAs};
 ghost use Rattle.evidence.specs.Given.{given};
@@ -55,7 +55,7 @@ pub fn is_good(n: u8, bundle: &[u8]) -> bool
 
 // Whether signature n is reported, good or not.
 pub fn is_signed(n: u8, bundle: &[u8]) -> bool
-    ensures { λ r. ⌜ r ≡ signed n (records (now (bundle .entry))) ⌝ }
+    ensures { λ r. ⌜ r ≡ reported n (records (now (bundle .entry))) ⌝ }
 {
     any_outcome(facts::outcome(n, bundle))
 }

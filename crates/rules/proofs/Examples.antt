@@ -7,18 +7,13 @@ use mathlib.Core.List.{List, [], _∷_, _++_, map}
 use mathlib.Core.Bool.{Bool, true, false}
 use lib.ListN.{length, replicate}
 use Rattle.rules.specs.Sizes.{groupsMax, countersMax}
-use Rattle.rules.specs.Basics.{Bytes, any, all, allZero, same, numberFrom, ascii, allBelow, within, chunks, records, fits, firstFault, recordFault, eachFault, scan}
-use Rattle.rules.specs.Layout.{header, zeroUnless, mechanismAt, tokenParametersAt, tokenParametersIf, certifierMechanism, counterOfSort, groupLaidOut, limitLaidOut, permissionsLaidOut, blobActionLaidOut, archiveActionLaidOut, useLaidOut, blobRequestLaidOut, recoveryLaidOut, certificateLaidOut, factLaidOut, signatureLaidOut, policyLaidOut, hintLaidOut}
-use Rattle.rules.specs.Acl.{actionOf, limitsOf, actionsOf, groupsOf, among, limitInPlace, actionLaidOut, inPlace, hasRoom, afterRecord, aclRecordFault, aclFault}
-use Rattle.rules.specs.Request.{wantedOf, certificatesOf, requestFrom, requestLaidOut, useOf, certificateRecord, certificateFault, certificatesFault, requestFault, hintRecord, hintFault, hintsFault}
-use Rattle.rules.specs.Ledger.{Ledger, freshLedger, raisedBy, charge}
-use Rattle.rules.specs.Grant.{limitLeft, serves, admitsUse, admitsWorking, admitsRecovery, admits}
-use Rattle.rules.specs.Narrow.{noWider, actionsNoWider, answers, isAnswered, narrowsFrom}
-use Rattle.rules.specs.Gate.{Answer, done, permit, refuse, Outcome, lowest, judge, request, load, clear, narrow, expand}
+use Rattle.rules.specs.Basics.{Bytes, ascii}
+use Rattle.rules.specs.Ledger.{Ledger, freshLedger}
+use Rattle.rules.specs.Gate.{Answer, done, permit, refuse, Outcome, request, load, clear, narrow, expand}
 use Rattle.rules.specs.Suites.{suite}
-use Rattle.rules.specs.Bundle.{bundleRecordLaidOut, orderOf, bundleInPlace, bundleHasRoom, bundleRecordFault, listedAfter, bundleEnd, bundleFault, firstRecord, numbered, field, lists, listed, signatureOutcome, policyRecord, policyOf}
-use Rattle.rules.specs.Desk.{kmVouched, kmFipsVouched, kreVouched, Step, WB1, WB2, WB6, byPolicy, Verdict, accepted, failed, moduleKey, recoveryKey, classOf, policyAdmits, failureUnder, aclFailure, actionProtection, smallest, keyProtection, recoverableKey, fullFailure, basicFailure, deskFault, desk}
-use Rattle.rules.specs.Subject.{SubjectReply, written, unwritten, subject, subjectFault, subjectReply, subjectBuffer}
+use Rattle.rules.specs.Desk.{Step, WB1, WB2, WB6, approach2, Verdict, accepted, failed, desk}
+use Rattle.rules.specs.Subject.{SubjectReply, written, unwritten, subjectReply, subjectBuffer}
+use Rattle.rules.proofs.Computing.{computing}
 use Rattle.rules.proofs.Samples.{rec, hash, openGroup, signGroup, limited, certifiedGroup, sign, decrypt, otherMechanism, counting, reducible, expandable, reduce, enlarge, hint, bundle, uncertifiedBundle, blob, cardset, softcard, archive}
 
 -- What an example states: the gate's answer with the whole ledger handed back, the desk's verdict, or the subject writer's reply with the whole
@@ -29,7 +24,7 @@ pub data Stated : Type 0 where
   wrote : SubjectReply → Bytes → Stated
 
 -- a ledger whose tables begin so and are zero from there on
-abbrev ledgerOf : List ℕ → List ℕ → ℕ → ℕ → Ledger
+abbrev pub ledgerOf : List ℕ → List ℕ → ℕ → ℕ → Ledger
 ledgerOf counts counters loaded last =
     record {
       counts = counts ++ replicate (groupsMax - length counts) 0;
@@ -48,7 +43,7 @@ refuses n loaded = answered (refuse n) (ledgerOf [] [] loaded loaded)
 
 -- an acceptance under approach 2
 abbrev accepts : ℕ → Bool → Stated
-accepts protection recoverable = judged (accepted (byPolicy (record { protection = protection; recoverable = recoverable })))
+accepts protection recoverable = judged (accepted (approach2 (record { protection = protection; recoverable = recoverable })))
 
 -- the first failing step
 abbrev fails : Step → Stated
@@ -125,5 +120,5 @@ Hold rows = map (λ e. e .computed) rows ≡ map (λ e. e .expected) rows
 
 -- Both tables hold: the starred one, and the one that guards the definitions.
 pub examples-hold : Hold starred × Hold guards
-unfolding starred guards any all allZero same numberFrom ascii allBelow within chunks records fits firstFault recordFault eachFault scan header zeroUnless mechanismAt tokenParametersAt tokenParametersIf certifierMechanism counterOfSort groupLaidOut limitLaidOut permissionsLaidOut blobActionLaidOut archiveActionLaidOut useLaidOut blobRequestLaidOut recoveryLaidOut certificateLaidOut factLaidOut signatureLaidOut policyLaidOut hintLaidOut actionOf limitsOf actionsOf groupsOf among limitInPlace actionLaidOut inPlace hasRoom afterRecord aclRecordFault aclFault wantedOf certificatesOf requestFrom requestLaidOut useOf certificateRecord certificateFault certificatesFault requestFault hintRecord hintFault hintsFault limitLeft serves admitsUse admitsWorking admitsRecovery admits raisedBy charge noWider actionsNoWider answers isAnswered narrowsFrom lowest judge request clear narrow expand suite bundleRecordLaidOut orderOf bundleInPlace bundleHasRoom bundleRecordFault listedAfter bundleEnd bundleFault firstRecord numbered field lists listed signatureOutcome policyRecord policyOf kmVouched kmFipsVouched kreVouched moduleKey recoveryKey classOf policyAdmits failureUnder aclFailure actionProtection smallest keyProtection recoverableKey fullFailure basicFailure deskFault desk subject subjectFault subjectReply subjectBuffer
+unfolding starred guards computing
 examples-hold = (refl, refl)

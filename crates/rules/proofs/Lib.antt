@@ -3,5 +3,11 @@ pub mod Choices
 pub mod Rows
 pub mod Few
 pub mod Faults
+pub mod Computing
 pub mod Samples
 pub mod Examples
+pub mod DeskGuards
+pub mod GateGuards
+pub mod FileGuards
+pub mod DayGuards
+pub mod SubjectGuards

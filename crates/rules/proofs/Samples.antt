@@ -1,5 +1,5 @@
 -- Sample files of document 01's examples.
-use Prim.Native.Nat.{ℕ, _-_}
+use Prim.Native.Nat.{ℕ, zero, suc, _-_}
 use mathlib.Core.List.{[], _∷_, _++_}
 use lib.ListN.{length, replicate}
 use Rattle.rules.specs.Sizes.{recordBytes, hashBytes}
@@ -8,6 +8,11 @@ use Rattle.rules.specs.Basics.{Bytes}
 -- a record that begins with these bytes, and is zero from there on
 abbrev pub rec : Bytes → Bytes
 rec bs = bs ++ replicate (recordBytes - length bs) 0
+
+-- the same bytes again and again
+abbrev pub repeated : ℕ → Bytes → Bytes
+repeated zero bs = []
+repeated (suc n) bs = bs ++ repeated n bs
 
 -- a request record with its time
 abbrev pub timed : Bytes → ℕ → Bytes

@@ -3,7 +3,7 @@ use mathlib.Core.List.{List, [], _∷_}
 use mathlib.Core.Option.{Option, none, some}
 use mathlib.Core.Bool.{_&&_}
 use Rattle.rules.specs.Basics.{Bytes, implies, bothSame, unless, firstFault}
-use Rattle.rules.specs.Bundle.{field, has, signed, good}
+use Rattle.rules.specs.Bundle.{field, has, reported, good}
 use Rattle.rules.specs.Desk as desk
 use Rattle.rules.specs.Desk.{kmVouched, kmFipsVouched, kreVouched, isListed, csrLinked}
 use Rattle.steps.specs.declared.Step.{Step}
@@ -62,9 +62,9 @@ stateFailure b =
 unfoldable pub worldFailure : List Bytes → Option desk.Step
 worldFailure b =
     firstFault
-    (unless (implies (signed 3 b) (kmVouched b)) desk.WBCV1
-    ∷ unless (implies (signed 4 b) (kmFipsVouched b)) desk.WBCV2
-    ∷ unless (implies (signed 5 b) (kreVouched b)) desk.WBCV3
+    (unless (implies (reported 3 b) (kmVouched b)) desk.WBCV1
+    ∷ unless (implies (reported 4 b) (kmFipsVouched b)) desk.WBCV2
+    ∷ unless (implies (reported 5 b) (kreVouched b)) desk.WBCV3
     ∷ [])
 
 -- "KGCV1 (6 good); KGCV2 (8 and 9 present, equal)"

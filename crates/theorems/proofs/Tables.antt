@@ -28,7 +28,7 @@ pub record Sized (l : Ledger) : Type 0 where
 pub fresh-sized : Sized freshLedger
 fresh-sized = record { groups = length-replicate {A = ℕ} groupsMax 0; named = length-replicate {A = ℕ} countersMax 0 }
 
-charge-sized : (l : Ledger) (k : ℕ) (g : Group) (time : ℕ) → Sized l → Sized (charge l k g time)
+pub charge-sized : (l : Ledger) (k : ℕ) (g : Group) (time : ℕ) → Sized l → Sized (charge l k g time)
 unfolding charge
 charge-sized l k g time h =
     record { groups = length-set (l .counts) k (getD (l .counts) k 0 + 1) ∙ h .groups; named = raisedBy-length (l .counters) (g .limits) (l .counters) ∙ h .named }
@@ -42,7 +42,7 @@ called-sized fault l km0 gs q onPermit h f = pick fault (judge l km0 gs q) f
     pick none (granted k g) f = f k (charge l k g (q .time)) refl (charge-sized l k g (q .time) h)
     pick none (denied d) f = h
 
-carried-sized : (counts : List ℕ) (hints : List Hint) → length hints ≤ groupsMax → length (carried counts hints) ≡ groupsMax
+pub carried-sized : (counts : List ℕ) (hints : List Hint) → length hints ≤ groupsMax → length (carried counts hints) ≡ groupsMax
 carried-sized counts hints h =
     let a = length-map hints (λ (x : Hint). getD counts (x .source) 0) in
     let b = length-append (map (λ (x : Hint). getD counts (x .source) 0) hints) (replicate (groupsMax - length hints) 0) in

@@ -4,17 +4,13 @@
 use mathlib.Core.Path.{_≡_, refl}
 use mathlib.Core.List.{List, [], _∷_, _++_, map}
 use mathlib.Core.Bool.{true, false}
-use Rattle.rules.specs.Basics.{Bytes, records, any, all, allZero, same, numberFrom, ascii, allBelow, within, chunks, fits, firstFault, recordFault, eachFault, scan}
-use Rattle.rules.specs.Layout.{header, zeroUnless, mechanismAt, tokenParametersAt, tokenParametersIf, certifierMechanism, counterOfSort, groupLaidOut, limitLaidOut, permissionsLaidOut, blobActionLaidOut, archiveActionLaidOut, useLaidOut, blobRequestLaidOut, recoveryLaidOut, certificateLaidOut, factLaidOut, signatureLaidOut, policyLaidOut, hintLaidOut}
-use Rattle.rules.specs.Acl.{actionOf, limitsOf, actionsOf, groupsOf, among, limitInPlace, actionLaidOut, inPlace, hasRoom, afterRecord, aclRecordFault, aclFault}
-use Rattle.rules.specs.Request.{wantedOf, certificatesOf, requestFrom, requestLaidOut, useOf, certificateRecord, certificateFault, certificatesFault, requestFault, hintRecord, hintFault, hintsFault}
-use Rattle.rules.specs.Ledger.{freshLedger, raisedBy, charge}
-use Rattle.rules.specs.Grant.{limitLeft, serves, admitsUse, admitsWorking, admitsRecovery, admits}
-use Rattle.rules.specs.Narrow.{noWider, actionsNoWider, answers, isAnswered, narrowsFrom}
-use Rattle.rules.specs.Gate.{Answer, permit, refuse, lowest, judge, request, clear, narrow, expand}
-use Rattle.rules.specs.Suites.{suite}
-use Rattle.rules.specs.Bundle.{bundleRecordLaidOut, orderOf, bundleInPlace, bundleHasRoom, bundleRecordFault, listedAfter, bundleEnd, bundleFault, firstRecord, numbered, field, lists, listed, signatureOutcome, policyRecord, policyOf}
-use Rattle.rules.specs.Desk.{kmVouched, kmFipsVouched, kreVouched, Grade, byPolicy, accepted, moduleKey, recoveryKey, classOf, policyAdmits, failureUnder, aclFailure, actionProtection, smallest, keyProtection, recoverableKey, fullFailure, basicFailure, deskFault, desk}
+use Rattle.rules.specs.Basics.{Bytes, records, any, same, numberFrom, chunks}
+use Rattle.rules.specs.Request.{wantedOf, certificatesOf, requestFrom}
+use Rattle.rules.specs.Ledger.{freshLedger}
+use Rattle.rules.specs.Gate.{Answer, permit, refuse}
+use Rattle.rules.specs.Bundle.{firstRecord, numbered, field}
+use Rattle.rules.specs.Desk.{Grade, approach2, accepted, desk}
+use Rattle.rules.proofs.Computing.{computing}
 use Rattle.rules.proofs.Samples.{rec, timed, hash, openGroup, limited, sign, reduce, hint, bundle, blob, cardset, archive}
 use Rattle.theorems.specs.Demands.{Call, requesting, narrowing, State, outcome, after, byOfficer, officerSigned, asked, Allowed, EveryPermit}
 use Rattle.theorems.proofs.Demand3.{demand-3}
@@ -57,10 +53,10 @@ abbrev pub start : State
 start = record { ledger = freshLedger; acl = useful }
 
 -- the bundle and the ACL are accepted; the calls are answered so; none of them presents the officer's certificate
-pub witness : (desk bundle useful ≡ accepted (byPolicy grade))
+pub witness : (desk bundle useful ≡ accepted (approach2 grade))
     × (replies start calls ≡ (permit 0 ∷ permit 0 ∷ refuse 8 ∷ permit 0 ∷ permit 0 ∷ refuse 7 ∷ refuse 4 ∷ []))
     × (map (officerSigned (records bundle)) calls ≡ (false ∷ false ∷ false ∷ false ∷ false ∷ false ∷ false ∷ []))
-unfolding outcome after byOfficer any all same numberFrom ascii allBelow within allZero chunks records fits firstFault recordFault eachFault scan header zeroUnless mechanismAt tokenParametersAt tokenParametersIf certifierMechanism counterOfSort groupLaidOut limitLaidOut permissionsLaidOut blobActionLaidOut archiveActionLaidOut useLaidOut blobRequestLaidOut recoveryLaidOut certificateLaidOut factLaidOut signatureLaidOut policyLaidOut hintLaidOut actionOf limitsOf actionsOf groupsOf among limitInPlace actionLaidOut inPlace hasRoom afterRecord aclRecordFault aclFault wantedOf certificatesOf requestFrom requestLaidOut useOf certificateRecord certificateFault certificatesFault requestFault hintRecord hintFault hintsFault limitLeft serves admitsUse admitsWorking admitsRecovery admits raisedBy charge noWider actionsNoWider answers isAnswered narrowsFrom lowest judge request clear narrow expand suite bundleRecordLaidOut orderOf bundleInPlace bundleHasRoom bundleRecordFault listedAfter bundleEnd bundleFault firstRecord numbered field lists listed signatureOutcome policyRecord policyOf kmVouched kmFipsVouched kreVouched moduleKey recoveryKey classOf policyAdmits failureUnder aclFailure actionProtection smallest keyProtection recoverableKey fullFailure basicFailure deskFault desk
+unfolding outcome after byOfficer computing
 witness = (refl, refl, refl)
 
 -- .. and so demand 3 covers what they are permitted.
