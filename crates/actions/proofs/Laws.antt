@@ -17,9 +17,10 @@ use Rattle.rules.specs.Suites.{suiteMechanism}
 use Rattle.rules.specs.Numbers.{notKept}
 use Rattle.rules.specs.Desk.{Step, ACLV3, WB1, WB2, WB3, WB6, permissionsFailure, blobFailure, isMechanism, actionProtection, softParameters, isArchive}
 use Rattle.rules.proofs.Laws.{and-left, and-right, and-both, allBelow-at, not-both, decided}
-use Rattle.subject.specs.Writing.{mechanismIn}
 use Rattle.evidence.specs.Given.{given}
 use Rattle.evidence.proofs.Laws.{given-some}
+use Rattle.suites.specs.Calls.{Calls, Answer, calls, refuses, calledFor}
+use Rattle.suites.proofs.Laws.{suite-found}
 use Rattle.actions.specs.Classes.{admittedBit}
 
 -- what a table says at a place, read by a function
@@ -95,13 +96,13 @@ module _ {F : Type 0} (f : F) (ts : List (Option F)) (x : Option F) (r t : Bool)
   unfolding firstFault
   fault-unless h p = p ∙ rw (← e, h)
 
--- RB3
-pub called : (due m : ℕ) (o : Option ℕ) → mechanismIn due ≡ o → (not (eqb due 0) && eqb due m) ≡ isMechanism o m
-called zero m o e = rw (← e)
-called (suc n) m o e = rw (← e, ne-eqb (suc n) 0 (λ z. omega arith))
+-- RB3, by what the match on the suite's number gave
+module _ (suite : ℕ) (a : Answer) (e : a ≡ calledFor suite) where
+  pub called-none : (m f : ℕ) → refuses f ≡ a → false ≡ isMechanism (suiteMechanism suite) m
+  called-none m f d = sym (rw (← suite-found suite a e, ← d))
 
-pub called-under : (suite due m n : ℕ) → mechanismIn due ≡ suiteMechanism suite → m ≡ n → (not (eqb due 0) && eqb due m) ≡ isMechanism (suiteMechanism suite) n
-called-under suite due m n f g = rw (← g) (called due m (suiteMechanism suite) f)
+  pub called-under : (c : Calls) (m n : ℕ) → calls c ≡ a → m ≡ n → eqb (c .suite .mechanism) m ≡ isMechanism (suiteMechanism suite) n
+  called-under c m n d g = sym (rw (← suite-found suite a e, ← d, g))
 
 -- What is made of an action, by the kind of its record.
 pub by-kind : {A : Type 0} (f : Action → A) (r : Bytes) (x : A)

@@ -15,6 +15,7 @@ ghost use Rattle.actions.specs.Classes.{classAs, admittedBit};
 use facts::Policy;
 use steps::Failure;
 use steps::Step;
+use suites::Lookup;
 
 // The numbers of the protections, the smallest the weakest.
 pub const BY_MODULE: u8 = 1;
@@ -151,8 +152,11 @@ fn called_for(policy: Policy, rec: &[u8]) -> bool
     requires { ⌜ length (now rec) ≡ recordBytes ⌝ }
     ensures { λ r. ⌜ r ≡ isMechanism (suiteMechanism (policyAs policy .suite)) (number 24 2 (now (rec .entry))) ⌝ }
 {
-    let due = subject::recovery_mechanism(policy.suite as u64);
-    (due != 0) & (due == fields::be16(rec, 24))
+    let due = suites::suite_of(policy.suite as u64);
+    match due {
+        Lookup::Refused(_) => false,
+        Lookup::Known(s) => s.mechanism == fields::be16(rec, 24),
+    }
 }
 
 // Whether a MakeArchiveBlob action names the trusted recovery key.

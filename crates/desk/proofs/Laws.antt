@@ -8,15 +8,17 @@ use mathlib.Core.Bool.{Bool, true, false, not, _&&_}
 use borrow.Author.Tests.{eq-eqb, ne-eqb, le-leb, lt-leb, not-true, not-false}
 use lib.Dec.{eqb, leb}
 use Rattle.rules.specs.Sizes.{bundleRecords, aclRecords}
-use Rattle.rules.specs.Numbers.{badLength, unknownSuite}
+use Rattle.rules.specs.Numbers.{badLength}
 use Rattle.rules.specs.Basics.{if_then_else_, Bytes, orNext, firstFault, fits, records}
-use Rattle.rules.specs.Suites.{isSuite}
+use Rattle.rules.specs.Suites.{suite}
 use Rattle.rules.specs.Acl.{Action, permissions, makeBlob, makeArchive, Group, aclOf, aclFault}
 use Rattle.rules.specs.Bundle.{Policy, policyOf, bundleFault}
 use Rattle.rules.specs.Desk.{Step, KV3, Acceptance, approach1, approach2, actionProtection, softParameters, smallest, officersGroup, keyProtection, recoverableKey, beforeAcl, aclFailure, fullFailure, basicFailure, gradeOf, unlessFailed, attested, deskFault, desk}
 use Rattle.steps.specs.declared.Failure.{Failure}
 use Rattle.steps.specs.declared.Failure.the-variants.{Nothing, At}
 use Rattle.steps.specs.Steps.{failureOf, csrFailure}
+use Rattle.suites.specs.Calls.{Calls, Answer, calls, refuses, calledFor}
+use Rattle.suites.proofs.Laws.{suiteIn, suite-found, suite-measured}
 use Rattle.desk.specs.Replies as replies
 use Rattle.desk.specs.Replies.{Reply, protectionNumber, namedBy, namedFor, replyOf, replyFor, verdictFrom, suiteFault, gradeFailure}
 use Rattle.grading.specs.Grades.{Graded, aclGraded}
@@ -50,18 +52,18 @@ protection-least b (g ∷ gs) = pick (officersGroup b g) (protection-least b gs)
     pick true h = h
     pick false h = let k = smallest-least (g .actions) in omega arith
 
--- 11
-module _ (b : List Bytes) (p : Policy) (r : Bool) (e : p ≡ policyOf b) (is : r ≡ isSuite (p .suite)) where
-  same-suite : r ≡ isSuite (policyOf b .suite)
-  same-suite = is ∙ ap (λ (q : Policy). isSuite (q .suite)) e
+-- 11, by what the match on the suite's number gave
+module _ (b : List Bytes) (p : Policy) (e : p ≡ policyOf b) (a : Answer) (is : a ≡ calledFor (p .suite)) where
+  found : suiteIn a ≡ suite (policyOf b .suite)
+  found = suite-found (p .suite) a is ∙ ap (λ (q : Policy). suite (q .suite)) e
 
-  pub suite-unknown : not r ≡ true → some unknownSuite ≡ suiteFault b
+  pub suite-unknown : (f : ℕ) → refuses f ≡ a → some f ≡ suiteFault b
   unfolding suiteFault firstFault
-  suite-unknown h = rw (sym same-suite ∙ not-true r h)
+  suite-unknown f d = rw (← found, ← d) (ap some (suite-measured (p .suite) (refuses f) (d ∙ is)))
 
-  pub suite-sound : not r ≡ false → none ≡ suiteFault b
+  pub suite-sound : (c : Calls) → calls c ≡ a → none ≡ suiteFault b
   unfolding suiteFault firstFault
-  suite-sound h = rw (sym same-suite ∙ not-false r h)
+  suite-sound c d = rw (← found, ← d)
 
 -- the faults of both files
 module _ (bundle acl : Bytes) (r s : Bool) (p : r ≡ fits bundleRecords bundle) (q : s ≡ fits aclRecords acl) where

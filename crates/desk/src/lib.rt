@@ -15,6 +15,7 @@ use files::Refusal;
 use grading::Grade;
 use steps::Failure;
 use steps::Step;
+use suites::Lookup;
 
 // How well a key is protected: the weakest way in which its ACL lets it be kept. Approach 1 judges none.
 pub enum Protection {
@@ -74,10 +75,11 @@ fn suite_known(bundle: &[u8]) -> Checked
     ensures { λ r. ⌜ faultOf r ≡ suiteFault (records (now (bundle .entry))) ⌝ }
 {
     let policy = facts::policy_of(bundle);
-    if !subject::is_suite(policy.suite as u64) {
-        return Checked::Refused(Refusal::UnknownSuite);
+    let found = suites::suite_of(policy.suite as u64);
+    match found {
+        Lookup::Refused(r) => Checked::Refused(r),
+        Lookup::Known(_) => Checked::Sound,
     }
-    Checked::Sound
 }
 
 // The first fault of the two files: the length of either, the bundle's records, the ACL's, the suite.

@@ -1,23 +1,28 @@
--- Bytes written over the front of a buffer piece by piece, and what the suites and the tests of the code come to.
+-- Bytes written over the front of a buffer piece by piece, and what the tests of the code come to.
 use Prim.Native.Nat.{ℕ, zero, suc, _≤_, _<_, _+_, _-_, _*_}
+use Prim.Native.String.{String}
 use native.Mathlib.Omega.{arith}
 use native.Mathlib.Numerals.{add-one}
 use native.Mathlib.Nat.{add-sub-cancel-left}
 use mathlib.Core.Path.{_≡_, refl, sym, _∙_, ap}
 use mathlib.Core.List.{[], _∷_, _++_, append-assoc, append-nil}
 use mathlib.Core.Option.{Option, none, some}
-use mathlib.Core.Bool.{Bool, true, false, not, _&&_, false≢true}
+use mathlib.Core.Bool.{Bool, true, false, _&&_}
 use lib.ListN.{length, take, drop, getD, set, length-append, length-drop, drop-of-length-le}
 use lib.Seq.{drop-cons, take-suc, set-at, append-snoc, length-take-le, take-all, drop-drop, drop-at, take-at, take-add}
 use lib.Dec.{eqb, leb}
 use borrow.Author.Tests.{eq-eqb, ne-eqb, le-leb, lt-leb, leb-true}
 use Rattle.rules.specs.Sizes.{hashBytes}
 use Rattle.rules.specs.Numbers.{badLength, shortBuffer, outOfRange, unknownSuite}
-use Rattle.rules.specs.Basics.{Bytes, ascii, present, firstFault}
+use Rattle.rules.specs.Basics.{Bytes, ascii, firstFault}
 use Rattle.rules.specs.Layout.{between}
-use Rattle.rules.specs.Suites.{Suite, suite, isSuite, mechanismOf, suiteMechanism, headerUnder, headerText}
+use Rattle.rules.proofs.Laws.{and-left, and-right}
+use Rattle.rules.specs.Suites.{Suite, suite, headerUnder}
 use Rattle.rules.specs.Subject.{SubjectReply, written, unwritten, headerBytes, subject, hashesBytes, subjectFault, subjectReply, subjectBuffer}
-use Rattle.subject.specs.Writing.{mechanismIn, over, headedFault, headedReply, headedBuffer}
+use Rattle.suites.specs.declared.Header.{Header}
+use Rattle.suites.specs.Calls.{refuses, calledFor}
+use Rattle.suites.proofs.Laws.{suite-found, suite-measured}
+use Rattle.subject.specs.Writing.{over, hashCount, headedFault, headedReply, headedBuffer}
 
 pub over-length : (s d : Bytes) → length s ≤ length d → length (over s d) ≡ length d
 unfolding over
@@ -82,35 +87,26 @@ module _ (s d : Bytes) where
       let g = f ∙ ap (λ (m : ℕ). over (take m (drop i s)) (take (length x - i) (drop i x))) (add-sub-cancel-left i n) in
       over-next (take i s) (take n (drop i s)) d x e i q (sym l) (omega arith) g ∙ ap (λ (m : Bytes). over m d) (sym (take-add i n s))
 
--- The suites: no arm of a match on the suite was taken, and a suite is known exactly if it calls for a mechanism.
-pub no-suite : (n : ℕ) → (n ≡ 1 → ⊥) → (n ≡ 2 → ⊥) → (n ≡ 3 → ⊥) → (n ≡ 4 → ⊥) → suite n ≡ none
-unfolding suite
-no-suite n a b c d = rw (ne-eqb n 1 a, ne-eqb n 2 b, ne-eqb n 3 c, ne-eqb n 4 d)
+-- The certificates: only 5 is left past 3 and 4, and the hashes of each.
+certificate-5 : (n : ℕ) → between 3 5 n ≡ true → (n ≡ 3 → ⊥) → (n ≡ 4 → ⊥) → n ≡ 5
+certificate-5 n h a b = let l = leb-true 3 n (and-left (leb 3 n) (leb n 5) h) in let m = leb-true n 5 (and-right (leb 3 n) (leb n 5) h) in omega arith
 
-pub unknown : (n : ℕ) → suite n ≡ none → isSuite n ≡ false
-unknown n e = ap present e
+pub under-5 : (n : ℕ) (s : Suite) (hashes buffer : Bytes) (x : SubjectReply) (y : Bytes) → between 3 5 n ≡ true → (n ≡ 3 → ⊥) → (n ≡ 4 → ⊥)
+    → (x ≡ headedReply (ascii "Card Recovery\0") 3 hashes buffer) × (y ≡ headedBuffer (ascii "Card Recovery\0") 3 hashes buffer)
+    → (x ≡ headedReply (headerBytes (headerUnder n (some s))) (hashCount n) hashes buffer)
+    × (y ≡ headedBuffer (headerBytes (headerUnder n (some s))) (hashCount n) hashes buffer)
+under-5 n s hashes buffer x y h a b q = rw (certificate-5 n h a b) q
 
-pub no-mechanism : (n : ℕ) → suite n ≡ none → none ≡ suiteMechanism n
-no-mechanism n e = sym (ap mechanismOf e)
-
-pub known : (m : ℕ) (s : Option Suite) → mechanismIn m ≡ mechanismOf s → not (eqb m 0) ≡ present s
-known zero none e = refl
-known zero (some s) e = cc
-known (suc m) none e = cc
-known (suc m) (some s) e = ap not (ne-eqb (suc m) 0 (λ z. omega arith))
-
--- The certificates: no arm of the match on the certificate was taken, and certificate 5 has one header under every suite.
-pub not-between : (n : ℕ) → (n ≡ 3 → ⊥) → (n ≡ 4 → ⊥) → (n ≡ 5 → ⊥) → between 3 5 n ≡ false
-not-between n a b c = pick (leb 3 n) (leb n 5) refl refl
+hash-bytes : (n : ℕ) → hashesBytes n ≡ hashCount n * hashBytes
+hash-bytes n = pick (eqb n 4) refl
   where
-    pick : (low high : Bool) → leb 3 n ≡ low → leb n 5 ≡ high → (low && high) ≡ false
-    pick false high p q = refl
-    pick true false p q = refl
-    pick true true p q = let l = leb-true 3 n p in let m = leb-true n 5 q in absurd (omega arith)
+    pick : (b : Bool) → eqb n 4 ≡ b → hashesBytes n ≡ hashCount n * hashBytes
+    pick true e = rw e
+    pick false e = rw e
 
-pub card-header : (s : Option Suite) → present s ≡ true → headerBytes (headerUnder 5 s) ≡ ascii "Card Recovery\0"
-card-header none e = absurd (false≢true e)
-card-header (some s) e = refl
+-- the total length that a suite gives, by the choice of its header text
+pub measured-at : (f : Header → String) (count total : ℕ) (h k : Header) → total ≡ length (ascii (f h)) + count * hashBytes → h ≡ k → total ≡ length (ascii (f k)) + count * hashBytes
+measured-at f count total h k e q = e ∙ ap (λ (x : Header). length (ascii (f x)) + count * hashBytes) q
 
 -- A header and so many hashes: the ways out of the writer, by the tests that the code made.
 module _ (header : Bytes) (count : ℕ) (hashes buffer : Bytes) where
@@ -119,29 +115,28 @@ module _ (header : Bytes) (count : ℕ) (hashes buffer : Bytes) where
   unfolding headedReply headedBuffer headedFault firstFault
   headed-wrong n = rw (ne-eqb _ _ n) (refl, refl)
 
-  module _ (e : length hashes ≡ count * hashBytes) where
-    pub headed-short : length buffer < length header + length hashes
+  module _ (e : length hashes ≡ count * hashBytes) (total : ℕ) (t : total ≡ length header + count * hashBytes) where
+    long : length (header ++ hashes) ≡ total
+    long = length-append header hashes ∙ omega (arith, e, t)
+
+    pub headed-short : length buffer < total
         → (unwritten shortBuffer ≡ headedReply header count hashes buffer) × (buffer ≡ headedBuffer header count hashes buffer)
     unfolding headedReply headedBuffer headedFault firstFault
-    headed-short h =
-        rw (eq-eqb _ _ e, lt-leb (length (header ++ hashes)) (length buffer) (omega (arith, length-append header hashes))) (refl, refl)
+    headed-short h = rw (eq-eqb _ _ e, long, lt-leb total (length buffer) h) (refl, refl)
 
-    pub headed-written : length header + length hashes ≤ length buffer → (x : Bytes) → x ≡ over (header ++ hashes) buffer
-        → (written (length header + length hashes) ≡ headedReply header count hashes buffer) × (x ≡ headedBuffer header count hashes buffer)
+    pub headed-written : total ≤ length buffer → (x : Bytes) → x ≡ over (header ++ hashes) buffer
+        → (written total ≡ headedReply header count hashes buffer) × (x ≡ headedBuffer header count hashes buffer)
     unfolding headedReply headedBuffer headedFault firstFault over
-    headed-written h x q =
-        rw (eq-eqb _ _ e, le-leb (length (header ++ hashes)) (length buffer) (omega (arith, length-append header hashes)))
-        (ap written (sym (length-append header hashes)), q)
+    headed-written h x q = rw (eq-eqb _ _ e, long, le-leb total (length buffer) h) (refl, q)
 
--- A subject under a known suite is a header and hashes: n is the suite's number in the code, and k what the arm of a match says of it. Of
--- literals, the facts between compute.
-module _ (certificate n k count : ℕ) (header hashes buffer : Bytes) where
-  pub subject-under : n ≡ k → between 3 5 certificate ≡ true → isSuite k ≡ true → hashesBytes certificate ≡ count * hashBytes
-      → headerBytes (headerText certificate k) ≡ header
-      → (x : SubjectReply) (y : Bytes) → (x ≡ headedReply header count hashes buffer) × (y ≡ headedBuffer header count hashes buffer)
+-- A subject under a known suite is a header and hashes.
+module _ (certificate n : ℕ) (s : Suite) (hashes buffer : Bytes) where
+  pub subject-under : some s ≡ suite n → between 3 5 certificate ≡ true → (x : SubjectReply) (y : Bytes)
+      → (x ≡ headedReply (headerBytes (headerUnder certificate (some s))) (hashCount certificate) hashes buffer)
+      × (y ≡ headedBuffer (headerBytes (headerUnder certificate (some s))) (hashCount certificate) hashes buffer)
       → (x ≡ subjectReply certificate n hashes buffer) × (y ≡ subjectBuffer certificate n hashes buffer)
   unfolding subjectReply subjectBuffer subjectFault subject headedReply headedBuffer headedFault firstFault
-  subject-under e b s c t x y h = rw (e, b, s, c, t) h
+  subject-under e b x y h = rw (← e, b, hash-bytes certificate) h
 
 -- Refusals 10 and 11.
 module _ (certificate n : ℕ) (hashes buffer : Bytes) where
@@ -150,7 +145,11 @@ module _ (certificate n : ℕ) (hashes buffer : Bytes) where
   unfolding subjectReply subjectBuffer subjectFault firstFault
   subject-nowhere b = rw b (refl, refl)
 
-  pub subject-unknown : between 3 5 certificate ≡ true → isSuite n ≡ false
+  subject-unknown : suite n ≡ none → between 3 5 certificate ≡ true
       → (unwritten unknownSuite ≡ subjectReply certificate n hashes buffer) × (buffer ≡ subjectBuffer certificate n hashes buffer)
   unfolding subjectReply subjectBuffer subjectFault firstFault
-  subject-unknown b s = rw (b, s) (refl, refl)
+  subject-unknown e b = rw (e, b) (refl, refl)
+
+  pub subject-refused : (f : ℕ) → refuses f ≡ calledFor n → between 3 5 certificate ≡ true
+      → (unwritten f ≡ subjectReply certificate n hashes buffer) × (buffer ≡ subjectBuffer certificate n hashes buffer)
+  subject-refused f e b = rw (suite-measured n (refuses f) e) (subject-unknown (sym (suite-found n (refuses f) e)) b)

@@ -1,12 +1,12 @@
 -- What the answers of this crate say, and bytes written over the front of a buffer.
-use Prim.Native.Nat.{ℕ, zero, suc, _*_}
+use Prim.Native.Nat.{ℕ, _*_}
 use mathlib.Core.List.{[], _∷_, _++_}
-use mathlib.Core.Option.{Option, none, some}
+use mathlib.Core.Option.{Option}
 use lib.ListN.{length, drop}
 use lib.Dec.{eqb, leb}
 use Rattle.rules.specs.Sizes.{hashBytes}
 use Rattle.rules.specs.Numbers.{badLength, shortBuffer}
-use Rattle.rules.specs.Basics.{Bytes, unless, firstFault}
+use Rattle.rules.specs.Basics.{if_then_else_, Bytes, unless, firstFault}
 use Rattle.rules.specs.Subject.{SubjectReply, written, unwritten, writtenLength, writtenOver}
 use Rattle.files.specs.Refusals.{refusalNumber}
 use Rattle.subject.specs.declared.Written.{Written}
@@ -17,10 +17,9 @@ abbrev pub replyOf : Written → SubjectReply
 replyOf (Length n) = written n
 replyOf (Refused r) = unwritten (refusalNumber r)
 
--- a mechanism's number, which is not zero; zero stands for none
-abbrev pub mechanismIn : ℕ → Option ℕ
-mechanismIn zero = none
-mechanismIn (suc n) = some (suc n)
+-- "60 bytes (certificate 4: 80)": the number of hashes
+abbrev pub hashCount : ℕ → ℕ
+hashCount certificate = if eqb certificate 4 then 4 else 3
 
 -- new bytes over the front of old ones: what lies past them stays
 unfoldable pub over : Bytes → Bytes → Bytes

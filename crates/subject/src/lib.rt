@@ -1,37 +1,26 @@
 // The subjects of world certificates, the bytes that the certificates sign: a header text by certificate and suite, then key hashes.
 ghost use mathlib.Core.Path.{_≡_};
-ghost use Prim.Native.Nat.{_≤_, _*_, _%_};
+ghost use mathlib.Core.Bool.{true};
+ghost use mathlib.Core.Option.{some};
+ghost use Prim.Native.Nat.{_≤_, _+_, _*_, _%_};
 ghost use lib.ListN.{length};
 ghost use Rattle.rules.specs.Sizes.{hashBytes};
-ghost use Rattle.rules.specs.Suites.{isSuite, suiteMechanism};
-ghost use Rattle.rules.specs.Subject.{subjectReply, subjectBuffer};
-ghost use Rattle.subject.specs.Writing.{mechanismIn, replyOf, over, headedReply, headedBuffer};
+ghost use Rattle.rules.specs.Basics.{ascii};
+ghost use Rattle.rules.specs.Layout.{between};
+ghost use Rattle.rules.specs.Suites.{headerUnder};
+ghost use Rattle.rules.specs.Subject.{headerBytes, subjectReply, subjectBuffer};
+ghost use Rattle.suites.specs.declared.Lookup.the-variants.{Known};
+ghost use Rattle.suites.specs.Calls.{keysText, setupText, suiteAs, answerOf, Measured};
+ghost use Rattle.subject.specs.Writing.{replyOf, over, hashCount, headedReply, headedBuffer};
 use files::Refusal;
+use suites::Header;
+use suites::Lookup;
+use suites::Suite;
 
 // What the writer answers: the subject's length, or why none was written.
 pub enum Written {
     Length(usize),
     Refused(Refusal),
-}
-
-// The number of the recovery mechanism that a suite calls for. No mechanism has number 0: it says that there is no such suite.
-pub fn recovery_mechanism(suite: u64) -> u16
-    ensures { λ r. ⌜ mechanismIn r ≡ suiteMechanism suite ⌝ }
-{
-    match suite {
-        1 => 1,
-        2 => 2,
-        3 => 2,
-        4 => 3,
-        _ => 0,
-    }
-}
-
-// Whether a number is a suite's.
-pub fn is_suite(suite: u64) -> bool
-    ensures { λ r. ⌜ r ≡ isSuite suite ⌝ }
-{
-    recovery_mechanism(suite) != 0
 }
 
 // The bytes over the front of the buffer. What lies past them stays.
@@ -58,88 +47,115 @@ fn write_hashes(hashes: &[u8], buffer: &mut [u8])
     }
 }
 
-// A subject: the header at the front of the buffer, then `count` hashes in the part from the header's end on. Both lengths are tested before
-// the first byte is written, so that a refusal leaves the buffer. No subject has over four hashes.
-fn write_headed(header: &[u8], count: usize, hashes: &[u8], buffer: &mut [u8]) -> Written
-    requires { ⌜ count ≤ 4 ⌝ }
+// A subject: the header at the front of the buffer, then `count` hashes in the part from the header's end on. The number of hashes and the total
+// length are tested before the first byte is written, so that a refusal leaves the buffer. No subject has over four hashes.
+fn write_headed(
+    header: &[u8],
+    count: usize,
+    total: usize,
+    hashes: &[u8],
+    buffer: &mut [u8],
+) -> Written
+    requires { ⌜ (count ≤ 4) × (total ≡ length (now header) + count * hashBytes) ⌝ }
     ensures reply { λ r. ⌜ replyOf r ≡ headedReply (now (header .entry)) count (now (hashes .entry)) (now (buffer .entry)) ⌝ }
     ensures bytes { λ _. ⌜ now (buffer .exit) ≡ headedBuffer (now (header .entry)) count (now (hashes .entry)) (now (buffer .entry)) ⌝ }
 {
     if hashes.len() != count * sizes::HASH {
         return Written::Refused(Refusal::BadLength);
     }
-    let end = header.len();
-    let total = end + hashes.len();
     if buffer.len() < total {
         return Written::Refused(Refusal::ShortBuffer);
     }
+    let end = header.len();
     copy(header, buffer);
     write_hashes(hashes, &mut buffer[end..]);
     Written::Length(total)
 }
 
 // Certificate 3: the hashes of KNSO, KM and KMC.
-fn write_module_keys(suite: u64, hashes: &[u8], buffer: &mut [u8]) -> Written
-    ensures reply { λ r. ⌜ replyOf r ≡ subjectReply 3 suite (now (hashes .entry)) (now (buffer .entry)) ⌝ }
-    ensures bytes { λ _. ⌜ now (buffer .exit) ≡ subjectBuffer 3 suite (now (hashes .entry)) (now (buffer .entry)) ⌝ }
+fn write_module_keys(header: Header, total: usize, hashes: &[u8], buffer: &mut [u8]) -> Written
+    requires { ⌜ total ≡ length (ascii (keysText header)) + 3 * hashBytes ⌝ }
+    ensures reply { λ r. ⌜ replyOf r ≡ headedReply (ascii (keysText header)) 3 (now (hashes .entry)) (now (buffer .entry)) ⌝ }
+    ensures bytes { λ _. ⌜ now (buffer .exit) ≡ headedBuffer (ascii (keysText header)) 3 (now (hashes .entry)) (now (buffer .entry)) ⌝ }
 {
-    match suite {
-        1 => write_headed(b"Module keys\0", 3, hashes, buffer),
-        2 => write_headed(b"Module keys: KM type Rijndael\0", 3, hashes, buffer),
-        3 => write_headed(
+    match header {
+        Header::Plain => write_headed(b"Module keys\0", 3, total, hashes, buffer),
+        Header::TypeRijndael => write_headed(
+            b"Module keys: KM type Rijndael\0",
+            3,
+            total,
+            hashes,
+            buffer,
+        ),
+        Header::Dlf3072Rijndael => write_headed(
             b"Module keys: suite = DLf3072s256mRijndael\0",
             3,
+            total,
             hashes,
             buffer,
         ),
-        4 => write_headed(
+        Header::Dlf3072Aes => write_headed(
             b"Module keys: suite = DLf3072s256mAEScSP800131Ar1\0",
             3,
+            total,
             hashes,
             buffer,
         ),
-        _ => Written::Refused(Refusal::UnknownSuite),
     }
 }
 
 // Certificate 4: the hashes of KNSO, KM, KMC and KFIPS.
-fn write_module_setup(suite: u64, hashes: &[u8], buffer: &mut [u8]) -> Written
-    ensures reply { λ r. ⌜ replyOf r ≡ subjectReply 4 suite (now (hashes .entry)) (now (buffer .entry)) ⌝ }
-    ensures bytes { λ _. ⌜ now (buffer .exit) ≡ subjectBuffer 4 suite (now (hashes .entry)) (now (buffer .entry)) ⌝ }
+fn write_module_setup(header: Header, total: usize, hashes: &[u8], buffer: &mut [u8]) -> Written
+    requires { ⌜ total ≡ length (ascii (setupText header)) + 4 * hashBytes ⌝ }
+    ensures reply { λ r. ⌜ replyOf r ≡ headedReply (ascii (setupText header)) 4 (now (hashes .entry)) (now (buffer .entry)) ⌝ }
+    ensures bytes { λ _. ⌜ now (buffer .exit) ≡ headedBuffer (ascii (setupText header)) 4 (now (hashes .entry)) (now (buffer .entry)) ⌝ }
 {
-    match suite {
-        1 => write_headed(b"Module setup, FIPS3\0", 4, hashes, buffer),
-        2 => write_headed(
+    match header {
+        Header::Plain => write_headed(b"Module setup, FIPS3\0", 4, total, hashes, buffer),
+        Header::TypeRijndael => write_headed(
             b"Module setup, FIPS3; KM type Rijndael\0",
             4,
+            total,
             hashes,
             buffer,
         ),
-        3 => write_headed(
+        Header::Dlf3072Rijndael => write_headed(
             b"Module setup, FIPS3; suite = DLf3072s256mRijndael\0",
             4,
+            total,
             hashes,
             buffer,
         ),
-        4 => write_headed(
+        Header::Dlf3072Aes => write_headed(
             b"Module setup, FIPS3; suite = DLf3072s256mAEScSP800131Ar1\0",
             4,
+            total,
             hashes,
             buffer,
         ),
-        _ => Written::Refused(Refusal::UnknownSuite),
     }
 }
 
-// Certificate 5: the hashes of KNSO, KRE and KRA. Its header is one under every suite, but the suite has to be known.
-fn write_card_recovery(suite: u64, hashes: &[u8], buffer: &mut [u8]) -> Written
-    ensures reply { λ r. ⌜ replyOf r ≡ subjectReply 5 suite (now (hashes .entry)) (now (buffer .entry)) ⌝ }
-    ensures bytes { λ _. ⌜ now (buffer .exit) ≡ subjectBuffer 5 suite (now (hashes .entry)) (now (buffer .entry)) ⌝ }
+// Certificate 5: the hashes of KNSO, KRE and KRA. Its header is one under every suite.
+fn write_card_recovery(hashes: &[u8], buffer: &mut [u8]) -> Written
+    ensures reply { λ r. ⌜ replyOf r ≡ headedReply (ascii "Card Recovery\0") 3 (now (hashes .entry)) (now (buffer .entry)) ⌝ }
+    ensures bytes { λ _. ⌜ now (buffer .exit) ≡ headedBuffer (ascii "Card Recovery\0") 3 (now (hashes .entry)) (now (buffer .entry)) ⌝ }
 {
-    if !is_suite(suite) {
-        return Written::Refused(Refusal::UnknownSuite);
+    write_headed(b"Card Recovery\0", 3, 74, hashes, buffer)
+}
+
+// The subject of certificate 3, 4 or 5 under a suite, whose lengths are those of its header texts with the hashes.
+fn write_under(certificate: u64, suite: Suite, hashes: &[u8], buffer: &mut [u8]) -> Written
+    requires { ⌜ (between 3 5 certificate ≡ true) × (Measured (answerOf (Known suite))) ⌝ }
+    ensures reply { λ r. ⌜ replyOf r ≡ headedReply (headerBytes (headerUnder certificate (some (suiteAs suite)))) (hashCount certificate) (now (hashes .entry)) (now (buffer .entry)) ⌝ }
+    ensures bytes { λ _. ⌜ now (buffer .exit) ≡ headedBuffer (headerBytes (headerUnder certificate (some (suiteAs suite)))) (hashCount certificate) (now (hashes .entry)) (now (buffer .entry)) ⌝ }
+{
+    let header = suite.header;
+    match certificate {
+        3 => write_module_keys(header, suite.keys, hashes, buffer),
+        4 => write_module_setup(header, suite.setup, hashes, buffer),
+        _ => write_card_recovery(hashes, buffer),
     }
-    write_headed(b"Card Recovery\0", 3, hashes, buffer)
 }
 
 // The subject of a world certificate, at the front of the buffer, for hashes in document 001's order. Every byte past it stays. Refusals 10,
@@ -148,10 +164,12 @@ pub fn write_subject(certificate: u64, suite: u64, hashes: &[u8], buffer: &mut [
     ensures reply { λ r. ⌜ replyOf r ≡ subjectReply certificate suite (now (hashes .entry)) (now (buffer .entry)) ⌝ }
     ensures bytes { λ _. ⌜ now (buffer .exit) ≡ subjectBuffer certificate suite (now (hashes .entry)) (now (buffer .entry)) ⌝ }
 {
-    match certificate {
-        3 => write_module_keys(suite, hashes, buffer),
-        4 => write_module_setup(suite, hashes, buffer),
-        5 => write_card_recovery(suite, hashes, buffer),
-        _ => Written::Refused(Refusal::OutOfRange),
+    if !((3 <= certificate) & (certificate <= 5)) {
+        return Written::Refused(Refusal::OutOfRange);
+    }
+    let found = suites::suite_of(suite);
+    match found {
+        Lookup::Refused(r) => Written::Refused(r),
+        Lookup::Known(s) => write_under(certificate, s, hashes, buffer),
     }
 }

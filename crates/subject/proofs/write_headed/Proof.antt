@@ -10,11 +10,8 @@ mul-if1 c = search needs
 returns : tie.Need-returns
 returns c = headed-wrong _ _ _ _ (c .if1 .taken)
 
-add-total : tie.Need-add-total
-add-total c = search needs
-
 returns-2 : tie.Need-returns-2
-returns-2 c = headed-short _ _ _ _ (c .before .if1 .left) (c .if2 .taken)
+returns-2 c = headed-short _ _ _ _ (c .before .if1 .left) _ (search needs) (c .if2 .taken)
 
 copy-requires : tie.Need-copy-requires
 copy-requires c κs = search needs
@@ -39,7 +36,7 @@ returns-3 c =
     let hashed = c .before .before in
     let headed = hashed .before .before .before .before in
     let roomy = headed .before .before in
-    headed-written _ _ _ _ (roomy .before .if1 .left) (roomy .if2 .left) _
+    headed-written _ _ _ _ (roomy .before .if1 .left) _ (search needs) (roomy .if2 .left) _
     (over-next _ _ _ _ _ _ (headed .copy .ensures) refl (search needs) (hashed .write-hashes .ensures))
 
 pub write-headed-spec : {M : Type 1} → statement M
@@ -48,7 +45,6 @@ write-headed-spec =
     (tie.spec
     mul-if1
     returns
-    add-total
     returns-2
     copy-requires
     sub-write-hashes

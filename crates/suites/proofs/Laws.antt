@@ -1,0 +1,36 @@
+-- What a lookup says of the definitions' suite.
+use Prim.Native.Nat.{ℕ}
+use mathlib.Core.Path.{_≡_, refl, _∙_, ap}
+use mathlib.Core.Option.{Option, none, some}
+use borrow.Author.Tests.{ne-eqb}
+use Rattle.rules.specs.Numbers.{unknownSuite}
+use Rattle.rules.specs.Suites as rules
+use Rattle.suites.specs.Calls.{Calls, Answer, calls, refuses, callsOf, calledFor, Measured}
+
+-- no arm of the match was taken
+pub no-suite : (n : ℕ) → (n ≡ 1 → ⊥) → (n ≡ 2 → ⊥) → (n ≡ 3 → ⊥) → (n ≡ 4 → ⊥) → refuses unknownSuite ≡ calledFor n
+unfolding calledFor rules.suite
+no-suite n a b c d = rw (ne-eqb n 1 a, ne-eqb n 2 b, ne-eqb n 3 c, ne-eqb n 4 d)
+
+-- what an answer calls for, read back
+abbrev pub suiteIn : Answer → Option rules.Suite
+suiteIn (calls c) = some (c .suite)
+suiteIn (refuses f) = none
+
+in-calls : (s : Option rules.Suite) → suiteIn (callsOf s) ≡ s
+in-calls none = refl
+in-calls (some s) = refl
+
+measured-calls : (s : Option rules.Suite) → Measured (callsOf s)
+measured-calls none = refl
+measured-calls (some s) = (refl, refl)
+
+-- the suite of a number, by what the code answered
+pub suite-found : (n : ℕ) (a : Answer) → a ≡ calledFor n → suiteIn a ≡ rules.suite n
+unfolding calledFor
+suite-found n a e = ap suiteIn e ∙ in-calls (rules.suite n)
+
+-- .. and the lengths that it gives
+pub suite-measured : (n : ℕ) (a : Answer) → a ≡ calledFor n → Measured a
+unfolding calledFor
+suite-measured n a e = rw e (measured-calls (rules.suite n))
