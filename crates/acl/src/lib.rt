@@ -5,7 +5,7 @@ ghost use Prim.Native.Nat.{_≤_, _<_};
 ghost use lib.ListN.{length};
 ghost use Rattle.rules.specs.Sizes.{recordBytes, limitsMax};
 ghost use Rattle.rules.specs.Basics.{records};
-ghost use Rattle.rules.specs.Acl.{aclStart, among, limitInPlace, actionLaidOut, inPlace, hasRoom, limitAdded, afterRecord, aclFault, aclFileFault};
+ghost use Rattle.rules.specs.Acl.{aclStart, among, limitInPlace, actionLaidOut, inPlace, hasRoom, limitAdded, afterRecord, aclFault};
 ghost use Rattle.files.specs.Refusals.{faultOf};
 ghost use Rattle.acl.specs.Places.{placeOf};
 use files::Checked;
@@ -147,8 +147,8 @@ pub fn acl_records(acl: &[u8]) -> Checked
 {
     let mut place = Place::start();
     let mut at = 0;
-    while 64 <= acl.len() - at {
-        let rec = &acl[at..at + 64];
+    while sizes::RECORD <= acl.len() - at {
+        let rec = &acl[at..at + sizes::RECORD];
         if !place.in_place(rec) {
             return Checked::Refused(Refusal::Malformed);
         }
@@ -156,17 +156,7 @@ pub fn acl_records(acl: &[u8]) -> Checked
             return Checked::Refused(Refusal::TooMany);
         }
         place = place.after(rec);
-        at += 64;
+        at += sizes::RECORD;
     }
     Checked::Sound
-}
-
-// The first fault of an ACL file: its length, then its records.
-pub fn acl_file(acl: &[u8]) -> Checked
-    ensures { λ r. ⌜ faultOf r ≡ aclFileFault (now (acl .entry)) ⌝ }
-{
-    if !files::whole(sizes::ACL_RECORDS, acl) {
-        return Checked::Refused(Refusal::BadLength);
-    }
-    acl_records(acl)
 }

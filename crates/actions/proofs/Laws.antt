@@ -15,7 +15,7 @@ use Rattle.rules.specs.Acl.{blobRuleOf, archiveRuleOf, parametersAt, Action, pe
 use Rattle.rules.specs.Bundle.{Policy}
 use Rattle.rules.specs.Suites.{suiteMechanism}
 use Rattle.rules.specs.Numbers.{notKept}
-use Rattle.rules.specs.Desk.{Step, ACLV3, WB1, WB2, WB3, WB6, permissionsFailure, blobFailure, isMechanism, actionProtection, softParameters, isArchive}
+use Rattle.rules.specs.Desk.{Step, Class, classOf, policyAdmits, ACLV3, WB1, WB2, WB3, WB6, permissionsFailure, blobFailure, isMechanism, actionProtection, softParameters, isArchive}
 use Rattle.rules.proofs.Laws.{and-left, and-right, and-both, allBelow-at, not-both, decided}
 use Rattle.evidence.specs.Given.{given}
 use Rattle.evidence.proofs.Laws.{given-some}
@@ -28,6 +28,16 @@ pub table-at : {A B : Type 0} (f : A → B) (xs : List A) (ys : List B) (k : ℕ
 table-at f [] ys k d e r h = absurd (omega arith)
 table-at f (x ∷ xs) ys zero d e r h = rw (← r)
 table-at f (x ∷ xs) ys (suc k) d e r h = rw (← r) (table-at f xs (map f xs) k d e refl (omega arith))
+
+-- One permission: let pass where it is not set, else by its class.
+module _ (policy : Policy) (bits b : ℕ) (t : Bool) (is : t ≡ bit b bits) where
+  pub bit-unset : not t ≡ true → true ≡ admittedBit policy bits b
+  unfolding admittedBit
+  bit-unset h = rw (← is, not-true t h)
+
+  pub bit-set : (c : Class) (r : Bool) → not t ≡ false → c ≡ classOf b → r ≡ policyAdmits policy c → r ≡ admittedBit policy bits b
+  unfolding admittedBit
+  bit-set c r h k e = e ∙ ap (policyAdmits policy) k ∙ sym (rw (← is, not-false t h))
 
 -- The loop over the permissions: every one below b passes.
 module _ (p : ℕ → Bool) (b : ℕ) (t : Bool) (is : t ≡ p b) where

@@ -75,12 +75,15 @@ fn class_admitted(policy: Policy, class: Class) -> bool
     }
 }
 
-// Whether a policy admits permission b, if it is among those that are set.
+// Whether a policy admits permission b, if it is among those that are set: the table of classes is read for these alone.
 fn bit_admitted(policy: Policy, bits: u16, b: u16) -> bool
     requires { ⌜ b < 16 ⌝ }
     ensures { λ r. ⌜ r ≡ admittedBit (policyAs policy) bits b ⌝ }
 {
-    !fields::bit_of(b, bits) | class_admitted(policy, class_of(b))
+    if !fields::bit_of(b, bits) {
+        return true;
+    }
+    class_admitted(policy, class_of(b))
 }
 
 // Whether a policy admits every permission that is set.

@@ -172,11 +172,11 @@ pub fn group_admits(km0: &[u8], rec: &[u8], body: &[u8]) -> bool
     ensures { λ r. ⌜ r ≡ any (admits (now (km0 .entry)) (wantedOf (now (rec .entry)))) (actionsOf (records (now (body .entry)))) ⌝ }
 {
     let mut at = groups::next_action(body, 0);
-    while 64 <= body.len() - at {
-        if action_admits(km0, rec, &body[at..at + 64]) {
+    while sizes::RECORD <= body.len() - at {
+        if action_admits(km0, rec, &body[at..at + sizes::RECORD]) {
             return true;
         }
-        at = groups::next_action(body, at + 64);
+        at = groups::next_action(body, at + sizes::RECORD);
     }
     false
 }

@@ -4,7 +4,7 @@ ghost use Prim.Native.Nat.{_+_, _*_, _≤_, _<_};
 ghost use lib.ListN.{length};
 ghost use Rattle.rules.specs.Sizes.{recordBytes};
 ghost use Rattle.rules.specs.Basics.{records};
-ghost use Rattle.rules.specs.Bundle.{orderOf, inOrder, bundleRecordLaidOut, bundleInPlace, bundleHasRoom, listedAfter, bundleFault, bundleFileFault};
+ghost use Rattle.rules.specs.Bundle.{orderOf, inOrder, bundleRecordLaidOut, bundleInPlace, bundleHasRoom, listedAfter, bundleFault};
 ghost use Rattle.files.specs.Refusals.{faultOf};
 use files::Checked;
 use files::Refusal;
@@ -93,8 +93,8 @@ pub fn bundle_records(bundle: &[u8]) -> Checked
     let mut last = 0;
     let mut listed = 0;
     let mut at = 0;
-    while 64 <= bundle.len() - at {
-        let rec = &bundle[at..at + 64];
+    while sizes::RECORD <= bundle.len() - at {
+        let rec = &bundle[at..at + sizes::RECORD];
         if !in_place(last, rec) {
             return Checked::Refused(Refusal::Malformed);
         }
@@ -103,20 +103,10 @@ pub fn bundle_records(bundle: &[u8]) -> Checked
         }
         listed = listed_after(listed, rec);
         last = record_order(rec);
-        at += 64;
+        at += sizes::RECORD;
     }
     if !(last == POLICY_ORDER) {
         return Checked::Refused(Refusal::Malformed);
     }
     Checked::Sound
-}
-
-// The first fault of a bundle file: its length, then its records.
-pub fn bundle_file(bundle: &[u8]) -> Checked
-    ensures { λ r. ⌜ faultOf r ≡ bundleFileFault (now (bundle .entry)) ⌝ }
-{
-    if !files::whole(sizes::BUNDLE_RECORDS, bundle) {
-        return Checked::Refused(Refusal::BadLength);
-    }
-    bundle_records(bundle)
 }

@@ -113,10 +113,10 @@ fn print_lines(km0: &[u8], acl: &[u8], requests: &[u8]) {
     let mut ledger = loaded();
     let mut k: u64 = 1;
     let mut at = 0;
-    while 64 <= requests.len() - at {
-        ledger = answer(k, ledger, km0, acl, &requests[at..at + 64]);
+    while sizes::RECORD <= requests.len() - at {
+        ledger = answer(k, ledger, km0, acl, &requests[at..at + sizes::RECORD]);
         k += 1;
-        at += 64;
+        at += sizes::RECORD;
     }
 }
 

@@ -24,11 +24,11 @@ fn each_request(requests: &[u8]) -> Checked
     ensures { λ r. ⌜ faultOf r ≡ eachFault requestRecordFault (records (now (requests .entry))) ⌝ }
 {
     let mut at = 0;
-    while 64 <= requests.len() - at {
-        if !request::request_record(&requests[at..at + 64]) {
+    while sizes::RECORD <= requests.len() - at {
+        if !request::request_record(&requests[at..at + sizes::RECORD]) {
             return Checked::Refused(Refusal::Malformed);
         }
-        at += 64;
+        at += sizes::RECORD;
     }
     Checked::Sound
 }

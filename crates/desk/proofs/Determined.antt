@@ -4,9 +4,7 @@ use mathlib.Core.Path.{_≡_, refl, sym, _∙_, ap}
 use lib.Dec.{eqb}
 use Rattle.rules.specs.Basics.{if_then_else_}
 use Rattle.rules.specs.Desk as rules
-use Rattle.files.specs.declared.Refusal.{Refusal}
-use Rattle.files.specs.declared.Refusal.the-variants.{BadLength, Malformed, TooMany, ClockBack, NotAdmitted, NotCertified, Spent, NotNarrower, ShortBuffer, OutOfRange, UnknownSuite}
-use Rattle.files.specs.Refusals.{refusalNumber}
+use Rattle.files.proofs.Determined.{refusalBack, refusal-back}
 use Rattle.steps.specs.declared.Step.{Step}
 use Rattle.steps.specs.declared.Step.the-variants.{WV1, MSCV1, MSCV2, MSCV3, MSCV4, MSCV5, WBCV1, WBCV2, WBCV3, KGCV1, KGCV2, ACLV3, WB1, WB2, WB3, WB6, RB1, RB2, RB3, KV3, CSRL1}
 use Rattle.steps.specs.Steps.{stepOf}
@@ -40,20 +38,6 @@ stepBack rules.RB2 = RB2
 stepBack rules.RB3 = RB3
 stepBack rules.KV3 = KV3
 stepBack rules.CSRL1 = CSRL1
-
-abbrev refusalBack : ℕ → Refusal
-refusalBack n =
-    if eqb n 1 then BadLength
-    else if eqb n 2 then Malformed
-    else if eqb n 3 then TooMany
-    else if eqb n 4 then ClockBack
-    else if eqb n 5 then NotAdmitted
-    else if eqb n 6 then NotCertified
-    else if eqb n 7 then Spent
-    else if eqb n 8 then NotNarrower
-    else if eqb n 9 then ShortBuffer
-    else if eqb n 10 then OutOfRange
-    else UnknownSuite
 
 abbrev protectionBack : ℕ → Protection
 protectionBack n =
@@ -91,19 +75,6 @@ step-back RB2 = refl
 step-back RB3 = refl
 step-back KV3 = refl
 step-back CSRL1 = refl
-
-refusal-back : (r : Refusal) → refusalBack (refusalNumber r) ≡ r
-refusal-back BadLength = refl
-refusal-back Malformed = refl
-refusal-back TooMany = refl
-refusal-back ClockBack = refl
-refusal-back NotAdmitted = refl
-refusal-back NotCertified = refl
-refusal-back Spent = refl
-refusal-back NotNarrower = refl
-refusal-back ShortBuffer = refl
-refusal-back OutOfRange = refl
-refusal-back UnknownSuite = refl
 
 protection-back : (p : Protection) → protectionBack (protectionNumber p) ≡ p
 protection-back NotJudged = refl

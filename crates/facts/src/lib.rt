@@ -38,11 +38,11 @@ fn first_numbered(kind: u8, number: u8, s: &[u8]) -> &[u8]
     ensures { λ r. ⌜ now r ≡ orEmpty (firstRecord (numbered kind number) (records (now (s .entry)))) ⌝ }
 {
     let mut at = 0;
-    while 64 <= s.len() - at {
-        if is_numbered(kind, number, &s[at..at + 64]) {
-            return &s[at..at + 64];
+    while sizes::RECORD <= s.len() - at {
+        if is_numbered(kind, number, &s[at..at + sizes::RECORD]) {
+            return &s[at..at + sizes::RECORD];
         }
-        at += 64;
+        at += sizes::RECORD;
     }
     &s[0..0]
 }
@@ -52,11 +52,11 @@ fn first_policy(s: &[u8]) -> &[u8]
     ensures { λ r. ⌜ now r ≡ orEmpty (firstRecord policyRecord (records (now (s .entry)))) ⌝ }
 {
     let mut at = 0;
-    while 64 <= s.len() - at {
+    while sizes::RECORD <= s.len() - at {
         if s[at] == 12 {
-            return &s[at..at + 64];
+            return &s[at..at + sizes::RECORD];
         }
-        at += 64;
+        at += sizes::RECORD;
     }
     &s[0..0]
 }
@@ -66,7 +66,7 @@ pub fn content(n: u8, bundle: &[u8]) -> &[u8]
     ensures { λ r. ⌜ now r ≡ orEmpty (field n (records (now (bundle .entry)))) ⌝ }
 {
     let rec = first_numbered(10, n, bundle);
-    if rec.len() < 64 {
+    if rec.len() < sizes::RECORD {
         return &rec[0..0];
     }
     &rec[8..28]
@@ -77,7 +77,7 @@ pub fn outcome(n: u8, bundle: &[u8]) -> Signature
     ensures { λ r. ⌜ outcomeOf r ≡ signatureOutcome n (records (now (bundle .entry))) ⌝ }
 {
     let rec = first_numbered(11, n, bundle);
-    if rec.len() < 64 {
+    if rec.len() < sizes::RECORD {
         return Signature::Absent;
     }
     if rec[5] == 1 {
@@ -99,7 +99,7 @@ pub fn policy_of(bundle: &[u8]) -> Policy
     ensures { λ r. ⌜ policyAs r ≡ policyOf (records (now (bundle .entry))) ⌝ }
 {
     let rec = first_policy(bundle);
-    if rec.len() < 64 {
+    if rec.len() < sizes::RECORD {
         return Policy {
             suite: 0,
             approach: 0,
@@ -133,11 +133,11 @@ pub fn is_listed(key: &[u8], bundle: &[u8]) -> bool
     ensures { λ r. ⌜ r ≡ listed (now (key .entry)) (records (now (bundle .entry))) ⌝ }
 {
     let mut at = 0;
-    while 64 <= bundle.len() - at {
-        if is_listing(key, &bundle[at..at + 64]) {
+    while sizes::RECORD <= bundle.len() - at {
+        if is_listing(key, &bundle[at..at + sizes::RECORD]) {
             return true;
         }
-        at += 64;
+        at += sizes::RECORD;
     }
     false
 }

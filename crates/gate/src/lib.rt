@@ -67,12 +67,12 @@ fn raise_named(table: &mut [u32; Ledger::COUNTERS], before: &[u32; Ledger::COUNT
     ensures { λ _. ⌜ now (table .exit) ≡ raisedBy (now (before .entry)) (limitsOf (records (now (body .entry)))) (now (table .entry)) ⌝ }
 {
     let mut at = 0;
-    while 64 <= body.len() - at {
+    while Ledger::RECORD <= body.len() - at {
         if body[at] != 2 {
             return;
         }
         raise_one(table, before, body[at + 4], body[at + 5]);
-        at += 64;
+        at += Ledger::RECORD;
     }
 }
 
@@ -302,11 +302,11 @@ impl Carrying {
         let mut now = self;
         let mut i = 0;
         let mut at = 0;
-        while 64 <= hints.len() - at {
+        while Ledger::RECORD <= hints.len() - at {
             let source = hints[at + 4];
             now = now.carry(i, source);
             i += 1;
-            at += 64;
+            at += Ledger::RECORD;
         }
         now
     }

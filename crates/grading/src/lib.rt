@@ -73,21 +73,21 @@ fn groups_grade(officer: &[u8], policy: Policy, hkm: &[u8], hkre: &[u8], acl: &[
     let mut found = no_actions(false);
     let mut checked = false;
     let mut at = 0;
-    while 64 <= acl.len() - at {
-        let rec = &acl[at..at + 64];
+    while sizes::RECORD <= acl.len() - at {
+        let rec = &acl[at..at + sizes::RECORD];
         if acl[at] == 1 {
             let officers = actions::names_key(officer, 0, 4, rec);
             found = joined(found, no_actions(officers));
             checked = !officers;
-            at += 64;
+            at += sizes::RECORD;
             continue;
         }
         if !checked | (acl[at] == 2) {
-            at += 64;
+            at += sizes::RECORD;
             continue;
         }
         found = joined(found, action_grade(policy, hkm, hkre, rec));
-        at += 64;
+        at += sizes::RECORD;
     }
     found
 }

@@ -1,97 +1,18 @@
 -- The turns of the loops of this crate, and what the parts of a group say in the definitions' terms.
-use Prim.Native.Nat.{ℕ, zero, suc, _+_, _-_, _*_, _≤_, _<_, _/_, _%_}
+use Prim.Native.Nat.{ℕ, zero, suc, _+_, _-_, _≤_, _<_}
 use native.Mathlib.Omega.{arith}
 use native.Mathlib.Nat.{add-zero}
 use mathlib.Core.Path.{_≡_, refl, sym, _∙_, ap}
-use mathlib.Core.List.{List, [], _∷_, _++_, map, append-assoc, append-nil}
+use mathlib.Core.List.{List, [], _∷_}
 use mathlib.Core.Bool.{Bool, true, false, not}
-use borrow.Author.Tests.{eq-eqb, ne-eqb, eqb-true, not-true, not-false}
-use lib.ListN.{length, take, drop, getD, length-drop, length-append, drop-of-length-le}
-use lib.Seq.{take-add, take-all, drop-drop, length-take-le, take-append-le, drop-append-le, drop-nil, getD-drop, getD-take}
+use borrow.Author.Tests.{eq-eqb, ne-eqb, not-true, not-false}
+use lib.ListN.{length, take, drop, getD, length-drop}
+use lib.Seq.{drop-nil, getD-drop, getD-take}
 use lib.Dec.{eqb}
 use Rattle.rules.specs.Basics.{Bytes, all, part, kind, records}
-use Rattle.rules.specs.Acl.{Limit, limitOf, limitsOf, Action, actionOf, actionsOf, Group, groupOf, groupsOf}
+use Rattle.rules.specs.Acl.{Limit, limitOf, limitsOf, actionOf, actionsOf, Group, groupOf, groupsOf}
 use Rattle.rules.proofs.Rows.{recordsFrom, rows-at, rows-end, rows-start, rows-rest, rows-lent, kind-at, lentRecord, lent-record, lentRest, lent-rest, first, no-rows}
-use Rattle.groups.specs.Parts.{leading, inGroup, isLimit, NextAction, GroupAt, FromGroup, firstLimits, firstActions}
-
--- a list of one
-snoc-cons : {A : Type 0} (xs : List A) (x : A) (ys : List A) → (xs ++ (x ∷ [])) ++ ys ≡ xs ++ (x ∷ ys)
-snoc-cons xs x ys = append-assoc xs (x ∷ []) ys
-
--- Whole records before others: the records of both.
-whole-append : (n : ℕ) (xs ys : Bytes) → length xs ≡ n * 64 → records (xs ++ ys) ≡ records xs ++ records ys
-whole-append zero [] ys h = sym (ap (λ (l : List Bytes). l ++ records ys) (no-rows [] (omega arith)))
-whole-append zero (x ∷ xs) ys h = absurd (omega arith)
-whole-append (suc n) xs ys h =
-    let l : 64 ≤ length xs = omega arith in
-    let k : 64 ≤ length (xs ++ ys) = omega (arith, length-append xs ys) in
-    first (xs ++ ys) k
-    ∙ rw (take-append-le 64 xs ys l, drop-append-le 64 xs ys l) (ap (λ (z : List Bytes). take 64 xs ∷ z) (whole-append n (drop 64 xs) ys (omega (arith, length-drop 64 xs))))
-    ∙ sym (ap (λ (z : List Bytes). z ++ records ys) (first xs l))
-
--- the first records of a file, and one more
-pub rows-more : (s : Bytes) (at : ℕ) → at % 64 ≡ 0 → 64 ≤ length s - at → records (take (at + 64) s) ≡ records (take at s) ++ (part at 64 s ∷ [])
-rows-more s at m h =
-    let t : length (take at s) ≡ at = length-take-le at s (omega arith) in
-    let p : length (part at 64 s) ≡ 64 = length-take-le 64 (drop at s) (omega (arith, length-drop at s)) in
-    let o : records (part at 64 s) ≡ part at 64 s ∷ [] =
-    first (part at 64 s) (omega arith) ∙ rw (take-all 64 (part at 64 s) (omega arith)) (ap (λ (z : List Bytes). part at 64 s ∷ z) (no-rows (drop 64 (part at 64 s)) (omega (arith, length-drop 64 (part at 64 s))))) in
-    ap records (take-add at 64 s)
-    ∙ whole-append (at / 64) (take at s) (part at 64 s) (omega arith)
-    ∙ ap (λ (z : List Bytes). records (take at s) ++ z) o
-
--- the records up to a place: shut, so that a search reads the file and the place off it
-unfoldable pub recordsTo : Bytes → ℕ → List Bytes
-recordsTo s at = records (take at s)
-
--- .. as code lends them, `&s[0..at]`
-lent-to : (s : Bytes) (at : ℕ) → records (take (at - 0) s) ≡ recordsTo s at
-unfolding recordsTo
-lent-to s at = let e : at - 0 ≡ at = omega arith in ap (λ (k : ℕ). records (take k s)) e
-
-pub lead-start : (p : Bytes → Bool) (s : Bytes) → recordsTo s 0 ++ leading p (recordsFrom s 0) ≡ leading p (records s)
-unfolding recordsTo recordsFrom
-lead-start p s = ap (λ (z : List Bytes). z ++ leading p (records s)) (no-rows [] (omega arith))
-
--- A loop over leading records: those passed, and what is leading of those left.
-module _ (p : Bytes → Bool) (s : Bytes) (at : ℕ) (x : List Bytes) (inv : recordsTo s at ++ leading p (recordsFrom s at) ≡ x) where
-  pub lead-stop : 64 ≤ length s - at → p (part at 64 s) ≡ false → records (take (at - 0) s) ≡ x
-  unfolding leading
-  lead-stop h e =
-      let l : leading p (recordsFrom s at) ≡ [] = ap (leading p) (rows-at s at h) ∙ rw e in
-      lent-to s at ∙ sym (append-nil (recordsTo s at)) ∙ sym (ap (λ (z : List Bytes). recordsTo s at ++ z) l) ∙ inv
-
-  pub lead-next : at % 64 ≡ 0 → 64 ≤ length s - at → p (part at 64 s) ≡ true → recordsTo s (at + 64) ++ leading p (recordsFrom s (at + 64)) ≡ x
-  unfolding leading recordsTo
-  lead-next m h e =
-      let l : leading p (recordsFrom s at) ≡ part at 64 s ∷ leading p (recordsFrom s (at + 64)) = ap (leading p) (rows-at s at h) ∙ rw e in
-      ap (λ (z : List Bytes). z ++ leading p (recordsFrom s (at + 64))) (rows-more s at m h)
-      ∙ snoc-cons (recordsTo s at) (part at 64 s) (leading p (recordsFrom s (at + 64)))
-      ∙ sym (ap (λ (z : List Bytes). recordsTo s at ++ z) l)
-      ∙ inv
-
-  pub lead-done : length s - at < 64 → records (take (at - 0) s) ≡ x
-  unfolding leading
-  lead-done h =
-      lent-to s at ∙ sym (append-nil (recordsTo s at)) ∙ sym (ap (λ (z : List Bytes). recordsTo s at ++ leading p z) (rows-end s at h)) ∙ inv
-
--- what the first byte of a record says
-module _ (s : Bytes) (at : ℕ) where
-  pub group-here : getD s at 0 ≡ 1 → inGroup (part at 64 s) ≡ false
-  unfolding inGroup
-  group-here e = rw (kind-at s at, eq-eqb (getD s at 0) 1 e)
-
-  pub group-not : (getD s at 0 ≡ 1 → ⊥) → inGroup (part at 64 s) ≡ true
-  unfolding inGroup
-  group-not n = rw (kind-at s at, ne-eqb (getD s at 0) 1 n)
-
-  pub limit-here : getD s at 0 ≡ 2 → isLimit (part at 64 s) ≡ true
-  unfolding isLimit
-  limit-here e = rw (kind-at s at) (eq-eqb (getD s at 0) 2 e)
-
-  pub limit-not : (getD s at 0 ≡ 2 → ⊥) → isLimit (part at 64 s) ≡ false
-  unfolding isLimit
-  limit-not n = rw (kind-at s at) (ne-eqb (getD s at 0) 2 n)
+use Rattle.groups.specs.Parts.{NextAction, GroupAt, FromGroup, firstLimits, firstActions}
 
 -- The actions from a place on, where a group begins and where a limit stands.
 pub acts-group : (s : Bytes) (i : ℕ) → 64 ≤ length s - i → getD s i 0 ≡ 1 → actionsOf (recordsFrom s i) ≡ []
@@ -192,36 +113,6 @@ module _ (acl : Bytes) (g : ℕ) (r : Bytes) (e : FromGroup acl g r) where
       let f : records r ≡ take 64 r ∷ recordsFrom r 64 = sym (rows-start r) ∙ rows-at r 0 (omega arith) in
       let z : drop g (groupsOf (records acl)) ≡ groupOf (take 64 r) (recordsFrom r 64) ∷ groupsOf (recordsFrom r 64) = sym (e .same) ∙ ap groupsOf f ∙ rw k in
       (rw (b, z), rw (b, z))
-
--- What the parts say: the limits of a group are those of its leading limit records, and its own records have all its limits and actions.
-pub limits-of-part : (rs : List Bytes) → limitsOf rs ≡ map limitOf (leading isLimit rs)
-unfolding limitsOf leading isLimit
-limits-of-part [] = refl
-limits-of-part (r ∷ rs) = pick (eqb (kind r) 2) refl (limits-of-part rs)
-  where
-    pick : (b : Bool) → eqb (kind r) 2 ≡ b → limitsOf rs ≡ map limitOf (leading isLimit rs) → limitsOf (r ∷ rs) ≡ map limitOf (leading isLimit (r ∷ rs))
-    pick true q f = rw q (ap (λ (z : List Limit). limitOf r ∷ z) f)
-    pick false q f = rw q
-
-pub limits-in-group : (rs : List Bytes) → limitsOf (leading inGroup rs) ≡ limitsOf rs
-unfolding limitsOf leading inGroup
-limits-in-group [] = refl
-limits-in-group (r ∷ rs) = pick (eqb (kind r) 1) refl (eqb (kind r) 2) refl (limits-in-group rs)
-  where
-    pick : (b : Bool) → eqb (kind r) 1 ≡ b → (d : Bool) → eqb (kind r) 2 ≡ d → limitsOf (leading inGroup rs) ≡ limitsOf rs → limitsOf (leading inGroup (r ∷ rs)) ≡ limitsOf (r ∷ rs)
-    pick true q d e f = let k = eqb-true (kind r) 1 q in rw (q, ne-eqb (kind r) 2 (λ x. omega arith))
-    pick false q true e f = rw (q, e) (ap (λ (z : List Limit). limitOf r ∷ z) f)
-    pick false q false e f = rw (q, e)
-
-pub actions-in-group : (rs : List Bytes) → actionsOf (leading inGroup rs) ≡ actionsOf rs
-unfolding actionsOf leading inGroup
-actions-in-group [] = refl
-actions-in-group (r ∷ rs) = pick (eqb (kind r) 1) refl (eqb (kind r) 2) refl (actions-in-group rs)
-  where
-    pick : (b : Bool) → eqb (kind r) 1 ≡ b → (d : Bool) → eqb (kind r) 2 ≡ d → actionsOf (leading inGroup rs) ≡ actionsOf rs → actionsOf (leading inGroup (r ∷ rs)) ≡ actionsOf (r ∷ rs)
-    pick true q d e f = rw q
-    pick false q true e f = rw (q, q, e) f
-    pick false q false e f = rw (q, q, e) (ap (λ (z : List Action). actionOf r ∷ z) f)
 
 -- What stands at a place of a group: an action, a limit, or the end of either.
 module _ (s : Bytes) (at : ℕ) where

@@ -1,32 +1,10 @@
--- Parts of an ACL: the records of one group, its limits, and where its next action stands.
+-- Parts of an ACL: where one of its groups stands, and where a group's next action does.
 use Prim.Native.Nat.{ℕ, _-_, _≤_}
 use mathlib.Core.Path.{_≡_}
 use mathlib.Core.List.{List, [], _∷_}
-use mathlib.Core.Bool.{Bool, not}
 use lib.ListN.{length, getD, drop}
-use lib.Dec.{eqb}
-use Rattle.rules.specs.Basics.{if_then_else_, Bytes, kind, records}
+use Rattle.rules.specs.Basics.{Bytes, records}
 use Rattle.rules.specs.Acl.{Limit, Action, actionsOf, Group, groupsOf}
-
--- the records before the first that fails a test
-unfoldable pub leading : (Bytes → Bool) → List Bytes → List Bytes
-leading p [] = []
-leading p (r ∷ rs) = if p r then r ∷ leading p rs else []
-
--- a record that does not begin a group, and one that is a limit
-unfoldable pub inGroup : Bytes → Bool
-inGroup r = not (eqb (kind r) 1)
-
-unfoldable pub isLimit : Bytes → Bool
-isLimit r = eqb (kind r) 2
-
--- the records of a group, of those that follow its first one
-abbrev pub groupRecords : List Bytes → List Bytes
-groupRecords rs = leading inGroup rs
-
--- its limits' records: "An ACL is groups, each followed by its limits, then its actions"
-abbrev pub limitRecords : List Bytes → List Bytes
-limitRecords rs = leading isLimit rs
 
 -- Where the next action of a group stands from `at` on: the same actions are left from there, and a record that stands there is one. (Where the group
 -- has no more actions the file's end serves; which place it is beyond that is left open.)

@@ -5,7 +5,7 @@ ghost use Prim.Native.Nat.{_≤_};
 ghost use lib.ListN.{length, drop};
 ghost use Rattle.rules.specs.Basics.{records};
 ghost use Rattle.rules.specs.Acl.{limitsOf, actionsOf, aclOf};
-ghost use Rattle.groups.specs.Parts.{NextAction, GroupAt, FromGroup, firstLimits, firstActions, limitRecords, groupRecords};
+ghost use Rattle.groups.specs.Parts.{NextAction, GroupAt, FromGroup, firstLimits, firstActions};
 
 // Where group g stands, of those from the byte `at` on; the end of the file where there are fewer. A search can so go on where one before it ended.
 pub fn group_at(acl: &[u8], at: usize, g: usize) -> usize
@@ -14,16 +14,16 @@ pub fn group_at(acl: &[u8], at: usize, g: usize) -> usize
 {
     let mut left = g;
     let mut i = at;
-    while 64 <= acl.len() - i {
+    while sizes::RECORD <= acl.len() - i {
         if acl[i] != 1 {
-            i += 64;
+            i += sizes::RECORD;
             continue;
         }
         if left == 0 {
             return i;
         }
         left -= 1;
-        i += 64;
+        i += sizes::RECORD;
     }
     acl.len()
 }
@@ -41,38 +41,10 @@ pub fn group_body(acl: &[u8], g: usize) -> &[u8]
     ensures { λ r. ⌜ (limitsOf (records (now r)) ≡ firstLimits (drop g (aclOf (now (acl .entry))))) × (actionsOf (records (now r)) ≡ firstActions (drop g (aclOf (now (acl .entry))))) ⌝ }
 {
     let rest = from_group(acl, g);
-    if rest.len() < 64 {
+    if rest.len() < sizes::RECORD {
         return &rest[0..0];
     }
-    &rest[64..]
-}
-
-// The records of a group, its first one left out, of the records that follow that one: those before the next group.
-pub fn group_part(rest: &[u8]) -> &[u8]
-    ensures { λ r. ⌜ records (now r) ≡ groupRecords (records (now (rest .entry))) ⌝ }
-{
-    let mut at = 0;
-    while 64 <= rest.len() - at {
-        if rest[at] == 1 {
-            return &rest[0..at];
-        }
-        at += 64;
-    }
-    &rest[0..at]
-}
-
-// The limits of a group, of the records that follow its first one: those before any other kind.
-pub fn limits_part(rest: &[u8]) -> &[u8]
-    ensures { λ r. ⌜ records (now r) ≡ limitRecords (records (now (rest .entry))) ⌝ }
-{
-    let mut at = 0;
-    while 64 <= rest.len() - at {
-        if rest[at] != 2 {
-            return &rest[0..at];
-        }
-        at += 64;
-    }
-    &rest[0..at]
+    &rest[sizes::RECORD..]
 }
 
 // Where the next action of a group stands, from the byte `at` on; the end of the file where the group has no more. A loop over a group's actions can
@@ -82,14 +54,14 @@ pub fn next_action(s: &[u8], at: usize) -> usize
     ensures { λ r. ⌜ NextAction (now (s .entry)) at r ⌝ }
 {
     let mut i = at;
-    while 64 <= s.len() - i {
+    while sizes::RECORD <= s.len() - i {
         if s[i] == 1 {
             return s.len();
         }
         if s[i] != 2 {
             return i;
         }
-        i += 64;
+        i += sizes::RECORD;
     }
     s.len()
 }

@@ -68,15 +68,15 @@ fn some_serves(group: &[u8], certs: &[u8]) -> bool
     ensures { λ r. ⌜ r ≡ any (serves (part 4 20 (now (group .entry))) (optional (flag 1 (now (group .entry))) (number 24 2 (now (group .entry))))) (certificatesOf (records (now (certs .entry)))) ⌝ }
 {
     let mut at = 0;
-    while 64 <= certs.len() - at {
+    while sizes::RECORD <= certs.len() - at {
         if certs[at] != 9 {
-            at += 64;
+            at += sizes::RECORD;
             continue;
         }
-        if certificate_serves(group, &certs[at..at + 64]) {
+        if certificate_serves(group, &certs[at..at + sizes::RECORD]) {
             return true;
         }
-        at += 64;
+        at += sizes::RECORD;
     }
     false
 }
@@ -131,14 +131,14 @@ fn limits_left(counters: &[u32], own: u32, elapsed: u64, body: &[u8]) -> bool
     ensures { λ r. ⌜ r ≡ limitsLeft (now (counters .entry)) own elapsed (limitsOf (records (now (body .entry)))) ⌝ }
 {
     let mut at = 0;
-    while 64 <= body.len() - at {
+    while sizes::RECORD <= body.len() - at {
         if body[at] != 2 {
             return true;
         }
-        if !limit_left(counters, own, elapsed, &body[at..at + 64]) {
+        if !limit_left(counters, own, elapsed, &body[at..at + sizes::RECORD]) {
             return false;
         }
-        at += 64;
+        at += sizes::RECORD;
     }
     true
 }
@@ -249,21 +249,21 @@ fn judge_groups(
     let mut near = Near::Nothing;
     let mut place = 0;
     let mut at = 0;
-    while 64 <= acl.len() - at {
+    while sizes::RECORD <= acl.len() - at {
         if acl[at] != 1 {
-            at += 64;
+            at += sizes::RECORD;
             continue;
         }
         let own = count_at(counts, place);
-        let group = &acl[at..at + 64];
-        let body = &acl[at + 64..];
+        let group = &acl[at..at + sizes::RECORD];
+        let body = &acl[at + sizes::RECORD..];
         let s = group_standing(counters, own, elapsed, km0, rec, certs, group, body);
         if grants(s) {
             return Judged::Granted(place);
         }
         near = near_with(near, s, place);
         place += 1;
-        at += 64;
+        at += sizes::RECORD;
     }
     denial(near)
 }
@@ -293,7 +293,7 @@ pub fn judge_request<'a>(
         counters,
         time - loaded,
         km0,
-        &req[0..64],
+        &req[0..sizes::RECORD],
         request::presented(req),
         acl,
     )

@@ -64,9 +64,9 @@ fn hash_kept(f: u16, at: usize, new: &[u8], old: &[u8]) -> bool
 {
     kept_hash(
         fields::flag_of(f, new),
-        &new[at..at + 20],
+        &new[at..at + sizes::HASH],
         fields::flag_of(f, old),
-        &old[at..at + 20],
+        &old[at..at + sizes::HASH],
     )
 }
 
@@ -141,19 +141,19 @@ fn action_at(body: &[u8], h: u8) -> &[u8]
 {
     let mut left = h;
     let mut at = 0;
-    while 64 <= body.len() - at {
+    while sizes::RECORD <= body.len() - at {
         if body[at] == 1 {
             return &body[0..0];
         }
         if body[at] == 2 {
-            at += 64;
+            at += sizes::RECORD;
             continue;
         }
         if left == 0 {
-            return &body[at..at + 64];
+            return &body[at..at + sizes::RECORD];
         }
         left -= 1;
-        at += 64;
+        at += sizes::RECORD;
     }
     &body[0..0]
 }
@@ -176,15 +176,15 @@ fn actions_no_wider(new: &[u8], hints: &[u8], old: &[u8]) -> bool
 {
     let mut i = 0;
     let mut at = groups::next_action(new, 0);
-    while 64 <= new.len() - at {
+    while sizes::RECORD <= new.len() - at {
         if hints.len() <= i {
             return false;
         }
-        if !hinted_no_wider(&new[at..at + 64], old, hints[i]) {
+        if !hinted_no_wider(&new[at..at + sizes::RECORD], old, hints[i]) {
             return false;
         }
         i += 1;
-        at = groups::next_action(new, at + 64);
+        at = groups::next_action(new, at + sizes::RECORD);
     }
     fields::all_zero(&hints[i..])
 }
@@ -203,14 +203,14 @@ fn limit_answered(new: &[u8], old: &[u8]) -> bool
     ensures { λ r. ⌜ r ≡ isAnswered (limitsOf (records (now (new .entry)))) (limitOf (now (old .entry))) ⌝ }
 {
     let mut at = 0;
-    while 64 <= new.len() - at {
+    while sizes::RECORD <= new.len() - at {
         if new[at] != 2 {
             return false;
         }
-        if limit_answers(old, &new[at..at + 64]) {
+        if limit_answers(old, &new[at..at + sizes::RECORD]) {
             return true;
         }
-        at += 64;
+        at += sizes::RECORD;
     }
     false
 }
@@ -220,14 +220,14 @@ fn limits_answered(new: &[u8], old: &[u8]) -> bool
     ensures { λ r. ⌜ r ≡ all (isAnswered (limitsOf (records (now (new .entry))))) (limitsOf (records (now (old .entry)))) ⌝ }
 {
     let mut at = 0;
-    while 64 <= old.len() - at {
+    while sizes::RECORD <= old.len() - at {
         if old[at] != 2 {
             return true;
         }
-        if !limit_answered(new, &old[at..at + 64]) {
+        if !limit_answered(new, &old[at..at + sizes::RECORD]) {
             return false;
         }
-        at += 64;
+        at += sizes::RECORD;
     }
     true
 }
@@ -262,10 +262,16 @@ fn source_narrows(new: &[u8], body: &[u8], hints: &[u8], rest: &[u8]) -> bool
     requires { ⌜ (length (now new) ≡ recordBytes) × (64 ≤ length (now rest) → getD (now rest) 0 0 ≡ 1) ⌝ }
     ensures { λ r. ⌜ r ≡ narrowsSource (groupOf (now (new .entry)) (records (now (body .entry)))) (now (hints .entry)) (getElem? (aclOf (now (rest .entry))) 0) ⌝ }
 {
-    if rest.len() < 64 {
+    if rest.len() < sizes::RECORD {
         return false;
     }
-    group_narrows(new, body, hints, &rest[0..64], &rest[64..])
+    group_narrows(
+        new,
+        body,
+        hints,
+        &rest[0..sizes::RECORD],
+        &rest[sizes::RECORD..],
+    )
 }
 
 // Whether hints show that the new ACL is a narrowing of the old: one for each new group and no more, with sources that rise strictly. So a source is
@@ -277,23 +283,23 @@ pub fn shows_narrowing(old: &[u8], new: &[u8], hints: &[u8]) -> bool
     let mut from = 0;
     let mut h = 0;
     let mut at = 0;
-    while 64 <= new.len() - at {
+    while sizes::RECORD <= new.len() - at {
         if new[at] != 1 {
-            at += 64;
+            at += sizes::RECORD;
             continue;
         }
-        if hints.len() - h < 64 {
+        if hints.len() - h < sizes::RECORD {
             return false;
         }
-        let hint = &hints[h..h + 64];
+        let hint = &hints[h..h + sizes::RECORD];
         let source = wide(hint[4]);
         if source < low {
             return false;
         }
         let place = groups::group_at(old, from, (source - low) as usize);
         if !source_narrows(
-            &new[at..at + 64],
-            &new[at + 64..],
+            &new[at..at + sizes::RECORD],
+            &new[at + sizes::RECORD..],
             &hint[8..16],
             &old[place..],
         ) {
@@ -301,10 +307,10 @@ pub fn shows_narrowing(old: &[u8], new: &[u8], hints: &[u8]) -> bool
         }
         from = groups::group_at(old, place, 1);
         low = source + 1;
-        h += 64;
-        at += 64;
+        h += sizes::RECORD;
+        at += sizes::RECORD;
     }
-    hints.len() - h < 64
+    hints.len() - h < sizes::RECORD
 }
 
 // A byte as a wider number.

@@ -1,10 +1,9 @@
 // A request file with its certificates, and a hints file: their first faults; a request's time and certificates.
 ghost use mathlib.Core.Path.{_≡_};
-ghost use Prim.Native.Nat.{_≤_};
 ghost use lib.ListN.{length};
-ghost use Rattle.rules.specs.Sizes.{recordBytes, requestRecords};
-ghost use Rattle.rules.specs.Basics.{fits, records};
-ghost use Rattle.rules.specs.Request.{requestLaidOut, useOf, certificateRecord, certificatesFault, requestFault, requestFileFault, requestOf, certificatesOf, hintRecord, hintsFault, hintsFileFault};
+ghost use Rattle.rules.specs.Sizes.{recordBytes};
+ghost use Rattle.rules.specs.Basics.{records};
+ghost use Rattle.rules.specs.Request.{requestLaidOut, useOf, certificateRecord, certificatesFault, requestFault, requestOf, certificatesOf, hintRecord, hintsFault};
 ghost use Rattle.files.specs.Refusals.{faultOf};
 use files::Checked;
 use files::Refusal;
@@ -49,15 +48,15 @@ fn certificate_records(rest: &[u8]) -> Checked
 {
     let mut n = 0;
     let mut at = 0;
-    while 64 <= rest.len() - at {
-        if !certificate_record(&rest[at..at + 64]) {
+    while sizes::RECORD <= rest.len() - at {
+        if !certificate_record(&rest[at..at + sizes::RECORD]) {
             return Checked::Refused(Refusal::Malformed);
         }
         if !(n < sizes::CERTIFICATES) {
             return Checked::Refused(Refusal::TooMany);
         }
         n += 1;
-        at += 64;
+        at += sizes::RECORD;
     }
     Checked::Sound
 }
@@ -66,53 +65,26 @@ fn certificate_records(rest: &[u8]) -> Checked
 pub fn request_records(req: &[u8]) -> Checked
     ensures { λ r. ⌜ faultOf r ≡ requestFault requestLaidOut (records (now (req .entry))) ⌝ }
 {
-    if req.len() < 64 {
+    if req.len() < sizes::RECORD {
         return Checked::Refused(Refusal::Malformed);
     }
-    if !request_record(&req[0..64]) {
+    if !request_record(&req[0..sizes::RECORD]) {
         return Checked::Refused(Refusal::Malformed);
     }
-    certificate_records(&req[64..])
+    certificate_records(&req[sizes::RECORD..])
 }
 
 // The first fault of the records of a request file that has to be a use of permission p.
 pub fn use_records(p: u8, req: &[u8]) -> Checked
     ensures { λ r. ⌜ faultOf r ≡ requestFault (useOf p) (records (now (req .entry))) ⌝ }
 {
-    if req.len() < 64 {
+    if req.len() < sizes::RECORD {
         return Checked::Refused(Refusal::Malformed);
     }
-    if !use_record(p, &req[0..64]) {
+    if !use_record(p, &req[0..sizes::RECORD]) {
         return Checked::Refused(Refusal::Malformed);
     }
-    certificate_records(&req[64..])
-}
-
-// Whether a request file is whole records and not too long.
-fn whole_request(req: &[u8]) -> bool
-    ensures { λ r. ⌜ r ≡ fits requestRecords (now (req .entry)) ⌝ }
-{
-    files::whole(sizes::REQUEST_RECORDS, req)
-}
-
-// The first fault of a request file: its length, then its records.
-pub fn request_file(file: &[u8]) -> Checked
-    ensures { λ r. ⌜ faultOf r ≡ requestFileFault requestLaidOut (now (file .entry)) ⌝ }
-{
-    if !whole_request(file) {
-        return Checked::Refused(Refusal::BadLength);
-    }
-    request_records(file)
-}
-
-// The same, of a request that has to be a use of permission p.
-pub fn use_file(p: u8, req: &[u8]) -> Checked
-    ensures { λ r. ⌜ faultOf r ≡ requestFileFault (useOf p) (now (req .entry)) ⌝ }
-{
-    if !whole_request(req) {
-        return Checked::Refused(Refusal::BadLength);
-    }
-    use_records(p, req)
+    certificate_records(&req[sizes::RECORD..])
 }
 
 // Whether a record is a well-formed hint.
@@ -128,41 +100,31 @@ pub fn hint_records(hints: &[u8]) -> Checked
     ensures { λ r. ⌜ faultOf r ≡ hintsFault (records (now (hints .entry))) ⌝ }
 {
     let mut at = 0;
-    while 64 <= hints.len() - at {
-        if !hint_record(&hints[at..at + 64]) {
+    while sizes::RECORD <= hints.len() - at {
+        if !hint_record(&hints[at..at + sizes::RECORD]) {
             return Checked::Refused(Refusal::Malformed);
         }
-        at += 64;
+        at += sizes::RECORD;
     }
     Checked::Sound
-}
-
-// The first fault of a hints file: its length, then its records.
-pub fn hint_file(hints: &[u8]) -> Checked
-    ensures { λ r. ⌜ faultOf r ≡ hintsFileFault (now (hints .entry)) ⌝ }
-{
-    if !files::whole(sizes::HINT_RECORDS, hints) {
-        return Checked::Refused(Refusal::BadLength);
-    }
-    hint_records(hints)
 }
 
 // The time of a request; 0 where there is none.
 pub fn time(req: &[u8]) -> u64
     ensures { λ r. ⌜ r ≡ requestOf (now (req .entry)) .time ⌝ }
 {
-    if req.len() < 64 {
+    if req.len() < sizes::RECORD {
         return 0;
     }
-    fields::be64(&req[0..64], 56)
+    fields::be64(&req[0..sizes::RECORD], 56)
 }
 
 // The part of a request file that holds its certificates.
 pub fn presented(req: &[u8]) -> &[u8]
     ensures { λ r. ⌜ certificatesOf (records (now r)) ≡ requestOf (now (req .entry)) .certificates ⌝ }
 {
-    if req.len() < 64 {
+    if req.len() < sizes::RECORD {
         return req;
     }
-    &req[64..]
+    &req[sizes::RECORD..]
 }

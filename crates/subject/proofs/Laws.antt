@@ -51,6 +51,19 @@ over-next s t d x e n p en h q =
     let f : e ≡ over t (drop n (over s d)) = q ∙ ap (over t) (whole ∙ ap (drop n) p) in
     ap (λ (l : Bytes). take n l ++ (e ++ drop (length x - n) (drop n l))) p ∙ over-then s t d e n (length x - n) en h (omega arith) f
 
+-- A piece over as many bytes is the piece.
+over-whole : (s d : Bytes) → length s ≡ length d → over s d ≡ s
+unfolding over
+over-whole s d e = rw (drop-of-length-le d {i = length s} (omega arith)) (append-nil s)
+
+-- A second piece in the place of as many bytes after the first.
+over-piece : (s t d : Bytes) (i n : ℕ) → length s ≡ i → length t ≡ n → take i (over s d) ++ (t ++ drop n (drop i (over s d))) ≡ over (s ++ t) d
+unfolding over
+over-piece s t d i n l m =
+    let a : take i (s ++ drop (length s) d) ≡ s = take-at s (drop (length s) d) i l in
+    let b : drop i (s ++ drop (length s) d) ≡ drop (length s) d = drop-at s (drop (length s) d) i l in
+    rw (a, b, ← m) (sym (append-assoc s t (drop (length (s ++ t)) d) ∙ ap (λ (l : Bytes). s ++ (t ++ l)) (drop-both s t d)))
+
 -- The first i bytes of s over the front of d: what the loops keep. Shut, so that a search reads s, d and i off it.
 unfoldable pub copied : Bytes → Bytes → ℕ → Bytes
 copied s d i = over (take i s) d
@@ -77,15 +90,23 @@ module _ (s d : Bytes) where
       ∙ ap (λ (j : ℕ). take (suc i) s ++ drop j d) (sym m)
       ∙ ap (λ (j : ℕ). take j s ++ drop (length (take j s)) d) (sym (add-one i))
 
-  -- n bytes more, `&s[i..i + n]`, into the part that is lent as `&mut x[i..]`
+  -- n bytes more, `&s[i..i + n]`, into the part that is lent as `&mut x[i..i + n]`
   pub copied-part : (x e : Bytes) (i n : ℕ) → i + n ≤ length s → length s ≤ length d → x ≡ copied s d i
-      → e ≡ over (take (i + n - i) (drop i s)) (take (length x - i) (drop i x))
-      → take i x ++ (e ++ drop (length x - i) (drop i x)) ≡ copied s d (i + n)
+      → e ≡ over (take (i + n - i) (drop i s)) (take (i + n - i) (drop i x))
+      → take i x ++ (e ++ drop (i + n - i) (drop i x)) ≡ copied s d (i + n)
   unfolding copied
   copied-part x e i n h k q f =
       let l : length (take i s) ≡ i = length-take-le i s (omega arith) in
-      let g = f ∙ ap (λ (m : ℕ). over (take m (drop i s)) (take (length x - i) (drop i x))) (add-sub-cancel-left i n) in
-      over-next (take i s) (take n (drop i s)) d x e i q (sym l) (omega arith) g ∙ ap (λ (m : Bytes). over m d) (sym (take-add i n s))
+      let c : i + n - i ≡ n = add-sub-cancel-left i n in
+      let m : length (take n (drop i s)) ≡ n = length-take-le n (drop i s) (omega (arith, length-drop i s)) in
+      let len : length x ≡ length d = ap length q ∙ over-length (take i s) d (omega arith) in
+      let u : length (take n (drop i x)) ≡ n = length-take-le n (drop i x) (omega (arith, length-drop i x)) in
+      let g : e ≡ take n (drop i s) = f ∙ ap (λ (j : ℕ). over (take j (drop i s)) (take j (drop i x))) c ∙ over-whole (take n (drop i s)) (take n (drop i x)) (m ∙ sym u) in
+      ap (λ (z : Bytes). take i x ++ (z ++ drop (i + n - i) (drop i x))) g
+      ∙ ap (λ (j : ℕ). take i x ++ (take n (drop i s) ++ drop j (drop i x))) c
+      ∙ ap (λ (z : Bytes). take i z ++ (take n (drop i s) ++ drop n (drop i z))) q
+      ∙ over-piece (take i s) (take n (drop i s)) d i n l m
+      ∙ ap (λ (z : Bytes). over z d) (sym (take-add i n s))
 
 -- The certificates: only 5 is left past 3 and 4, and the hashes of each.
 certificate-5 : (n : ℕ) → between 3 5 n ≡ true → (n ≡ 3 → ⊥) → (n ≡ 4 → ⊥) → n ≡ 5

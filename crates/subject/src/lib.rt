@@ -35,14 +35,17 @@ fn copy(bytes: &[u8], buffer: &mut [u8])
     }
 }
 
-// Hashes over the front of the buffer, one after the other. Each goes straight into its place: the buffer from there on is lent to `copy`.
+// Hashes over the front of the buffer, one after the other. Each goes straight into its place: the next twenty bytes of the buffer are lent to `copy`.
 fn write_hashes(hashes: &[u8], buffer: &mut [u8])
     requires { ⌜ (length (now hashes) % hashBytes ≡ 0) × (length (now hashes) ≤ length (now buffer)) ⌝ }
     ensures { λ _. ⌜ now (buffer .exit) ≡ over (now (hashes .entry)) (now (buffer .entry)) ⌝ }
 {
     let mut at = 0;
     while at < hashes.len() {
-        copy(&hashes[at..at + sizes::HASH], &mut buffer[at..]);
+        copy(
+            &hashes[at..at + sizes::HASH],
+            &mut buffer[at..at + sizes::HASH],
+        );
         at += sizes::HASH;
     }
 }

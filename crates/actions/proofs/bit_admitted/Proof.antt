@@ -1,9 +1,4 @@
-use mathlib.Core.Path.{_∙_, ap}
-use Rattle.rules.specs.Desk as desk
-use Rattle.rules.specs.Desk.{policyAdmits}
-use Rattle.facts.specs.Found.{policyAs}
-use Rattle.evidence.proofs.Laws.{implies-is}
-use Rattle.actions.specs.Classes.{admittedBit}
+use Rattle.actions.proofs.Laws.{bit-unset, bit-set}
 use borrow.Author.Needs.{needs}
 use Rattle.actions.proofs.bit_admitted.Statement.{statement}
 use Rattle.actions.proofs.bit_admitted.Tie as tie
@@ -11,18 +6,19 @@ use Rattle.actions.proofs.bit_admitted.Tie as tie
 bit-of-requires : tie.Need-bit-of-requires
 bit-of-requires c κs = search needs
 
+returns : tie.Need-returns
+returns c = search (needs, bit-unset)
+
 class-of-requires : tie.Need-class-of-requires
 class-of-requires c κs = search needs
 
 class-admitted-requires : tie.Need-class-admitted-requires
 class-admitted-requires c κs = search needs
 
-returns : tie.Need-returns
-unfolding admittedBit
-returns c =
-    implies-is _ _ _ _ (c .before .before .bit-of .ensures)
-    (c .class-admitted .ensures ∙ ap (λ (k : desk.Class). policyAdmits (policyAs (c .before .before .before .args .policy)) k) (c .before .class-of .ensures))
+returns-2 : tie.Need-returns-2
+returns-2 c = search (needs, bit-set)
 
 pub bit-admitted-spec : {M : Type 1} → statement M
 bit-admitted-spec =
-    tie.close (tie.spec bit-of-requires class-of-requires class-admitted-requires returns)
+    tie.close
+    (tie.spec bit-of-requires returns class-of-requires class-admitted-requires returns-2)

@@ -30,6 +30,9 @@ part-copy-start c = search needs
 part-copy-end : tie.Need-part-copy-end Inv-loop μ-loop
 part-copy-end c = search needs
 
+add-copy-2 : tie.Need-add-copy-2 Inv-loop μ-loop
+add-copy-2 c = search needs
+
 sub-copy-2 : tie.Need-sub-copy-2 Inv-loop μ-loop
 sub-copy-2 c = search needs
 
@@ -72,6 +75,7 @@ write-hashes-spec =
     sub-copy
     part-copy-start
     part-copy-end
+    add-copy-2
     sub-copy-2
     part-copy-start-2
     part-copy-end-2
