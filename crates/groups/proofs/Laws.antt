@@ -6,13 +6,13 @@ use mathlib.Core.Path.{_≡_, refl, sym, _∙_, ap}
 use mathlib.Core.List.{List, [], _∷_}
 use mathlib.Core.Bool.{Bool, true, false, not}
 use borrow.Author.Tests.{eq-eqb, ne-eqb, not-true, not-false}
-use lib.ListN.{length, take, drop, getD, length-drop}
+use lib.ListN.{length, take, drop, getD, length-drop, drop-of-length-le}
 use lib.Seq.{drop-nil, getD-drop, getD-take}
 use lib.Dec.{eqb}
-use Rattle.rules.specs.Basics.{Bytes, all, part, kind, records}
+use Rattle.rules.specs.Basics.{Bytes, all, kind, records}
 use Rattle.rules.specs.Acl.{Limit, limitOf, limitsOf, actionOf, actionsOf, Group, groupOf, groupsOf}
-use Rattle.rules.proofs.Rows.{recordsFrom, rows-at, rows-end, rows-start, rows-rest, rows-lent, kind-at, lentRecord, lent-record, lentRest, lent-rest, first, no-rows}
-use Rattle.groups.specs.Parts.{NextAction, GroupAt, FromGroup, firstLimits, firstActions}
+use Rattle.rules.proofs.Rows.{recordsFrom, rows-at, rows-end, rows-start, rows-rest, rows-lent, kind-at, lentRecord, lent-record, lentRest, lent-rest, no-rows}
+use Rattle.groups.specs.Parts.{actionPlace, groupPlace, NextAction, GroupAt, FromGroup, GroupBody}
 
 -- The actions from a place on, where a group begins and where a limit stands.
 pub acts-group : (s : Bytes) (i : ℕ) → 64 ≤ length s - i → getD s i 0 ≡ 1 → actionsOf (recordsFrom s i) ≡ []
@@ -28,10 +28,30 @@ pub no-actions-left : (s : Bytes) → actionsOf (records (drop (length s) s)) �
 unfolding actionsOf
 no-actions-left s = ap actionsOf (no-rows (drop (length s) s) (omega (arith, length-drop (length s) s)))
 
+module _ (s : Bytes) (i x : ℕ) (inv : actionPlace (recordsFrom s i) i (length s) ≡ x) where
+  pub act-group : 64 ≤ length s - i → getD s i 0 ≡ 1 → length s ≡ x
+  unfolding actionPlace
+  act-group h e = sym (ap (λ (z : List Bytes). actionPlace z i (length s)) (rows-at s i h) ∙ rw (kind-at s i, eq-eqb (getD s i 0) 1 e)) ∙ inv
+
+  pub act-none : length s - i < 64 → length s ≡ x
+  unfolding actionPlace
+  act-none h = sym (ap (λ (z : List Bytes). actionPlace z i (length s)) (rows-end s i h)) ∙ inv
+
+  pub act-skip : 64 ≤ length s - i → (getD s i 0 ≡ 1 → ⊥) → getD s i 0 ≡ 2 → actionPlace (recordsFrom s (i + 64)) (i + 64) (length s) ≡ x
+  unfolding actionPlace
+  act-skip h n e =
+      sym (ap (λ (z : List Bytes). actionPlace z i (length s)) (rows-at s i h) ∙ rw (kind-at s i, ne-eqb (getD s i 0) 1 n, eq-eqb (getD s i 0) 2 e)) ∙ inv
+
+  pub act-here : 64 ≤ length s - i → (getD s i 0 ≡ 1 → ⊥) → (getD s i 0 ≡ 2 → ⊥) → i ≡ x
+  unfolding actionPlace
+  act-here h n m =
+      sym (ap (λ (z : List Bytes). actionPlace z i (length s)) (rows-at s i h) ∙ rw (kind-at s i, ne-eqb (getD s i 0) 1 n, ne-eqb (getD s i 0) 2 m)) ∙ inv
+
 module _ (s : Bytes) (at i : ℕ) (inv : actionsOf (recordsFrom s i) ≡ actionsOf (records (drop at s))) (k : at ≤ i) (l : i ≤ length s) where
-  at-end : [] ≡ actionsOf (records (drop at s)) → NextAction s at (length s)
-  at-end e =
+  at-end : [] ≡ actionsOf (records (drop at s)) → length s ≡ actionPlace (records (drop at s)) at (length s) → NextAction s at (length s)
+  at-end e p =
       record {
+        exact = p;
         same = no-actions-left s ∙ e;
         later = omega arith;
         inside = omega arith;
@@ -39,19 +59,19 @@ module _ (s : Bytes) (at i : ℕ) (inv : actionsOf (recordsFrom s i) ≡ actions
         no-limit = λ h e. omega arith;
       }
 
-  pub next-group : 64 ≤ length s - i → getD s i 0 ≡ 1 → NextAction s at (length s)
-  next-group h e = at-end (sym (acts-group s i h e) ∙ inv)
+  pub next-group : 64 ≤ length s - i → getD s i 0 ≡ 1 → length s ≡ actionPlace (records (drop at s)) at (length s) → NextAction s at (length s)
+  next-group h e p = at-end (sym (acts-group s i h e) ∙ inv) p
 
-  pub next-none : length s - i < 64 → NextAction s at (length s)
+  pub next-none : length s - i < 64 → length s ≡ actionPlace (records (drop at s)) at (length s) → NextAction s at (length s)
   unfolding actionsOf
-  next-none h = at-end (sym (ap actionsOf (rows-end s i h)) ∙ inv)
+  next-none h p = at-end (sym (ap actionsOf (rows-end s i h)) ∙ inv) p
 
   pub next-skip : 64 ≤ length s - i → (getD s i 0 ≡ 1 → ⊥) → getD s i 0 ≡ 2 → actionsOf (recordsFrom s (i + 64)) ≡ actionsOf (records (drop at s))
   next-skip h n e = sym (acts-limit s i h n e) ∙ inv
 
-  pub next-here : (getD s i 0 ≡ 1 → ⊥) → (getD s i 0 ≡ 2 → ⊥) → NextAction s at i
+  pub next-here : (getD s i 0 ≡ 1 → ⊥) → (getD s i 0 ≡ 2 → ⊥) → i ≡ actionPlace (records (drop at s)) at (length s) → NextAction s at i
   unfolding recordsFrom
-  next-here n m = record { same = inv; later = k; inside = l; no-group = λ h e. n e; no-limit = λ h e. m e }
+  next-here n m p = record { exact = p; same = inv; later = k; inside = l; no-group = λ h e. n e; no-limit = λ h e. m e }
 
 -- A loop up to a group.
 drop-more : {A : Type 0} (n : ℕ) (x : A) (xs : List A) → (n ≡ 0 → ⊥) → drop n (x ∷ xs) ≡ drop (n - 1) xs
@@ -68,17 +88,38 @@ module _ (s : Bytes) (at left : ℕ) (x : List Group) (inv : drop left (groupsOf
   from-next h e n =
       sym (ap (λ (z : List Bytes). drop left (groupsOf z)) (rows-at s at h) ∙ rw (kind-at s at, eq-eqb (getD s at 0) 1 e) (drop-more left _ _ n)) ∙ inv
 
+-- .. and its place
+module _ (s : Bytes) (at left x : ℕ) (inv : groupPlace left (recordsFrom s at) at (length s) ≡ x) where
+  pub place-skip : 64 ≤ length s - at → (getD s at 0 ≡ 1 → ⊥) → groupPlace left (recordsFrom s (at + 64)) (at + 64) (length s) ≡ x
+  unfolding groupPlace
+  place-skip h n = sym (ap (λ (z : List Bytes). groupPlace left z at (length s)) (rows-at s at h) ∙ rw (kind-at s at, ne-eqb (getD s at 0) 1 n)) ∙ inv
+
+  pub place-next : 64 ≤ length s - at → getD s at 0 ≡ 1 → (left ≡ 0 → ⊥) → groupPlace (left - 1) (recordsFrom s (at + 64)) (at + 64) (length s) ≡ x
+  unfolding groupPlace
+  place-next h e n =
+      sym (ap (λ (z : List Bytes). groupPlace left z at (length s)) (rows-at s at h) ∙ rw (kind-at s at, eq-eqb (getD s at 0) 1 e, ne-eqb left 0 n)) ∙ inv
+
+  pub place-here : 64 ≤ length s - at → getD s at 0 ≡ 1 → left ≡ 0 → at ≡ x
+  unfolding groupPlace
+  place-here h e n =
+      sym (ap (λ (z : List Bytes). groupPlace left z at (length s)) (rows-at s at h) ∙ rw (kind-at s at, eq-eqb (getD s at 0) 1 e, eq-eqb left 0 n)) ∙ inv
+
+  pub place-none : length s - at < 64 → length s ≡ x
+  unfolding groupPlace
+  place-none h = sym (ap (λ (z : List Bytes). groupPlace left z at (length s)) (rows-end s at h)) ∙ inv
+
 -- what was found
 module _ (s : Bytes) (from g at left : ℕ) (inv : drop left (groupsOf (recordsFrom s at)) ≡ drop g (groupsOf (records (drop from s)))) where
-  pub found-here : at ≤ length s → getD s at 0 ≡ 1 → left ≡ 0 → GroupAt s from g at
+  pub found-here : at ≤ length s → getD s at 0 ≡ 1 → left ≡ 0 → at ≡ groupPlace g (records (drop from s)) from (length s) → GroupAt s from g at
   unfolding recordsFrom
-  found-here l k e = record { same = rw e at inv; inside = l; head = λ h. k }
+  found-here l k e p = record { exact = p; same = rw e at inv; inside = l; head = λ h. k }
 
-  pub found-none : length s - at < 64 → GroupAt s from g (length s)
+  pub found-none : length s - at < 64 → length s ≡ groupPlace g (records (drop from s)) from (length s) → GroupAt s from g (length s)
   unfolding groupsOf
-  found-none h =
+  found-none h p =
       let z : groupsOf (records (drop (length s) s)) ≡ [] = ap groupsOf (no-rows (drop (length s) s) (omega (arith, length-drop (length s) s))) in
       record {
+        exact = p;
         same = z ∙ sym (drop-nil left) ∙ sym (ap (λ (y : List Bytes). drop left (groupsOf y)) (rows-end s at h)) ∙ inv;
         inside = omega arith;
         head = λ h. absurd (omega arith);
@@ -91,28 +132,25 @@ begins s from g r e l =
 
 pub from-place : (s : Bytes) (g r : ℕ) → GroupAt s 0 g r → FromGroup s g (lentRest s r)
 unfolding recordsFrom
-from-place s g r e = record { same = ap groupsOf (rows-rest s r) ∙ e .same; head = begins s 0 g r e }
+from-place s g r e = record { exact = lent-rest s r ∙ ap (λ (n : ℕ). drop n s) (e .exact); same = ap groupsOf (rows-rest s r) ∙ e .same; head = begins s 0 g r e }
 
 -- The records after a group's first one.
 module _ (acl : Bytes) (g : ℕ) (r : Bytes) (e : FromGroup acl g r) where
-  abbrev Body : Bytes → Type 0
-  Body b = (limitsOf (records b) ≡ firstLimits (drop g (groupsOf (records acl)))) × (actionsOf (records b) ≡ firstActions (drop g (groupsOf (records acl))))
-
-  pub body-none : length r < 64 → Body []
-  unfolding groupsOf limitsOf actionsOf
+  pub body-none : length r < 64 → GroupBody acl g []
+  unfolding groupsOf limitsOf
   body-none h =
       let n : records [] ≡ [] = no-rows [] (omega arith) in
       let z : drop g (groupsOf (records acl)) ≡ [] = sym (e .same) ∙ ap groupsOf (no-rows r h) in
-      (rw (n, z), rw (n, z))
+      record { exact = sym (drop-of-length-le r {i = 64} (omega arith)) ∙ ap (drop 64) (e .exact); limits = rw (n, z) }
 
-  pub body-some : 64 ≤ length r → Body (take (length r - 64) (drop 64 r))
+  pub body-some : 64 ≤ length r → GroupBody acl g (take (length r - 64) (drop 64 r))
   unfolding groupsOf
   body-some h =
       let b : records (take (length r - 64) (drop 64 r)) ≡ recordsFrom r 64 = rows-rest r 64 in
       let k : eqb (kind (take 64 r)) 1 ≡ true = eq-eqb (kind (take 64 r)) 1 (getD-take 64 r 0 0 (omega arith) ∙ e .head h) in
       let f : records r ≡ take 64 r ∷ recordsFrom r 64 = sym (rows-start r) ∙ rows-at r 0 (omega arith) in
       let z : drop g (groupsOf (records acl)) ≡ groupOf (take 64 r) (recordsFrom r 64) ∷ groupsOf (recordsFrom r 64) = sym (e .same) ∙ ap groupsOf f ∙ rw k in
-      (rw (b, z), rw (b, z))
+      record { exact = lent-rest r 64 ∙ ap (drop 64) (e .exact); limits = rw (b, z) }
 
 -- What stands at a place of a group: an action, a limit, or the end of either.
 module _ (s : Bytes) (at : ℕ) where

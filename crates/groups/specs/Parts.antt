@@ -1,37 +1,59 @@
 -- Parts of an ACL: where one of its groups stands, and where a group's next action does.
-use Prim.Native.Nat.{ℕ, _-_, _≤_}
+use Prim.Native.Nat.{ℕ, _+_, _-_, _≤_}
 use mathlib.Core.Path.{_≡_}
 use mathlib.Core.List.{List, [], _∷_}
 use lib.ListN.{length, getD, drop}
-use Rattle.rules.specs.Basics.{Bytes, records}
-use Rattle.rules.specs.Acl.{Limit, Action, actionsOf, Group, groupsOf}
+use lib.Dec.{eqb}
+use Rattle.rules.specs.Sizes.{recordBytes}
+use Rattle.rules.specs.Basics.{if_then_else_, Bytes, kind, records}
+use Rattle.rules.specs.Acl.{Limit, limitsOf, actionsOf, Group, groupsOf}
 
--- Where the next action of a group stands from `at` on: the same actions are left from there, and a record that stands there is one. (Where the group
--- has no more actions the file's end serves; which place it is beyond that is left open.)
+-- Where the next action stands among a group's records, the first of which begins at the byte `at`; the file's end where the group has no more.
+unfoldable pub actionPlace : List Bytes → ℕ → ℕ → ℕ
+actionPlace [] at end = end
+actionPlace (r ∷ rs) at end = if eqb (kind r) 1 then end else if eqb (kind r) 2 then actionPlace rs (at + recordBytes) end else at
+
+-- Where group g begins, of those among the records of which the first begins at the byte `at`; the file's end where there are fewer.
+unfoldable pub groupPlace : ℕ → List Bytes → ℕ → ℕ → ℕ
+groupPlace g [] at end = end
+groupPlace g (r ∷ rs) at end =
+    if eqb (kind r) 1 then if eqb g 0 then at else groupPlace (g - 1) rs (at + recordBytes) end
+    else groupPlace g rs (at + recordBytes) end
+
+-- Each answer below is one place, or one part of the file: `exact`. What else is said of it follows from that, and is what callers go by.
+
+-- The place of a group's next action, from `at` on: the same actions are left from there, and a record that stands there is one.
 pub record NextAction (s : Bytes) (at r : ℕ) : Type 0 where
+  pub exact : r ≡ actionPlace (records (drop at s)) at (length s)
   pub same : actionsOf (records (drop r s)) ≡ actionsOf (records (drop at s))
   pub later : at ≤ r
   pub inside : r ≤ length s
-  pub no-group : 64 ≤ length s - r → getD s r 0 ≡ 1 → ⊥
-  pub no-limit : 64 ≤ length s - r → getD s r 0 ≡ 2 → ⊥
+  pub no-group : recordBytes ≤ length s - r → getD s r 0 ≡ 1 → ⊥
+  pub no-limit : recordBytes ≤ length s - r → getD s r 0 ≡ 2 → ⊥
 
--- Where group g stands, of those from the byte `at` on: what is left from there are the groups without the first g, and a record that stands there
--- begins one. (Where there are fewer groups the file's end serves.)
+-- The place of group g, of those from `at` on: what is left from there are the groups without the first g, and a record that stands there begins one.
 pub record GroupAt (acl : Bytes) (at g r : ℕ) : Type 0 where
+  pub exact : r ≡ groupPlace g (records (drop at acl)) at (length acl)
   pub same : groupsOf (records (drop r acl)) ≡ drop g (groupsOf (records (drop at acl)))
   pub inside : r ≤ length acl
-  pub head : 64 ≤ length acl - r → getD acl r 0 ≡ 1
+  pub head : recordBytes ≤ length acl - r → getD acl r 0 ≡ 1
 
--- An ACL from one of its groups on: the same groups are left, and the first record is that group's.
+-- an ACL from its group g on
+abbrev pub fromGroup : Bytes → ℕ → Bytes
+fromGroup acl g = drop (groupPlace g (records acl) 0 (length acl)) acl
+
+-- .. as answered: the same groups are left, and the first record is that group's
 pub record FromGroup (acl : Bytes) (g : ℕ) (r : Bytes) : Type 0 where
+  pub exact : r ≡ fromGroup acl g
   pub same : groupsOf (records r) ≡ drop g (groupsOf (records acl))
-  pub head : 64 ≤ length r → getD r 0 0 ≡ 1
+  pub head : recordBytes ≤ length r → getD r 0 0 ≡ 1
 
--- the limits and the actions of the first of some groups; none where there is no group
+-- the limits of the first of some groups; none where there is no group
 abbrev pub firstLimits : List Group → List Limit
 firstLimits [] = []
 firstLimits (g ∷ gs) = g .limits
 
-abbrev pub firstActions : List Group → List Action
-firstActions [] = []
-firstActions (g ∷ gs) = g .actions
+-- what follows the first record of group g: the limits there are the group's
+pub record GroupBody (acl : Bytes) (g : ℕ) (r : Bytes) : Type 0 where
+  pub exact : r ≡ drop recordBytes (fromGroup acl g)
+  pub limits : limitsOf (records r) ≡ firstLimits (drop g (groupsOf (records acl)))

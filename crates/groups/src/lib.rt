@@ -1,11 +1,8 @@
 // Finding one's way in an ACL: a group by its number, the group's own records, its limits, its actions one after the other. Each is total: it goes
 // by whatever bytes stand there, and the file may or may not have been tested.
-ghost use mathlib.Core.Path.{_≡_};
 ghost use Prim.Native.Nat.{_≤_};
-ghost use lib.ListN.{length, drop};
-ghost use Rattle.rules.specs.Basics.{records};
-ghost use Rattle.rules.specs.Acl.{limitsOf, actionsOf, aclOf};
-ghost use Rattle.groups.specs.Parts.{NextAction, GroupAt, FromGroup, firstLimits, firstActions};
+ghost use lib.ListN.{length};
+ghost use Rattle.groups.specs.Parts.{NextAction, GroupAt, FromGroup, GroupBody};
 
 // Where group g stands, of those from the byte `at` on; the end of the file where there are fewer. A search can so go on where one before it ended.
 pub fn group_at(acl: &[u8], at: usize, g: usize) -> usize
@@ -29,7 +26,7 @@ pub fn group_at(acl: &[u8], at: usize, g: usize) -> usize
 }
 
 // The ACL from its group g on; empty where there is none.
-pub fn from_group(acl: &[u8], g: usize) -> &[u8]
+fn from_group(acl: &[u8], g: usize) -> &[u8]
     ensures { λ r. ⌜ FromGroup (now (acl .entry)) g (now r) ⌝ }
 {
     let at = group_at(acl, 0, g);
@@ -38,7 +35,7 @@ pub fn from_group(acl: &[u8], g: usize) -> &[u8]
 
 // The records that follow the first one of group g; empty where there is no such group.
 pub fn group_body(acl: &[u8], g: usize) -> &[u8]
-    ensures { λ r. ⌜ (limitsOf (records (now r)) ≡ firstLimits (drop g (aclOf (now (acl .entry))))) × (actionsOf (records (now r)) ≡ firstActions (drop g (aclOf (now (acl .entry))))) ⌝ }
+    ensures { λ r. ⌜ GroupBody (now (acl .entry)) g (now r) ⌝ }
 {
     let rest = from_group(acl, g);
     if rest.len() < sizes::RECORD {

@@ -2,23 +2,23 @@
 use Prim.Native.Nat.{ℕ, suc, _-_, _≤_, _<_}
 use mathlib.Core.Path.{_≡_, refl, sym, _∙_, ap}
 use mathlib.Core.List.{List, [], _∷_}
-use mathlib.Core.Bool.{Bool, true, false, _&&_, _||_}
+use mathlib.Core.Bool.{Bool, true, false, _&&_}
 use borrow.Author.Tests.{lt-ltb, le-ltb}
-use lib.ListN.{length, take}
+use lib.ListN.{length, take, drop}
 use lib.Dec.{ltb}
-use Rattle.rules.specs.Basics.{if_then_else_, Bytes, any}
+use Rattle.rules.specs.Basics.{Bytes, records}
 use Rattle.rules.specs.Acl.{Group}
-use Rattle.rules.specs.Request.{Request, Wanted, Certificate, wantedOf, requestFrom, requestOf}
+use Rattle.rules.specs.Request.{Request, Wanted, Certificate, wantedOf, certificatesOf, requestFrom, requestOf}
 use Rattle.rules.specs.Ledger.{Ledger}
-use Rattle.rules.specs.Grant.{admits, groupAdmits, certified, unspent}
-use Rattle.rules.specs.Gate.{Lowest, nobody, group, lowest, ofCertified, admitsCertified, whyNot, grants, tooEarly, judgedBy, judge}
+use Rattle.rules.specs.Grant.{groupAdmits, certified, unspent}
+use Rattle.rules.specs.Gate.{Lowest, nobody, group, lowest, ofCertified, whyNot, grants, judgedBy, judge}
 use Rattle.rules.proofs.Rows.{first}
 use Rattle.judging.specs.declared.Standing.{Standing}
 use Rattle.judging.specs.declared.Near.{Near}
 use Rattle.judging.specs.declared.Near.the-variants as near
 use Rattle.judging.specs.declared.Judged.{Judged}
-use Rattle.judging.specs.declared.Judged.the-variants.{Granted, Early, Unadmitted, Uncertified, Exhausted}
-use Rattle.judging.specs.Standings.{standingOf, isGranting, nearer, denialOf, judgedFrom, standing, denialAs, judgedAs, tablesOf}
+use Rattle.judging.specs.declared.Judged.the-variants.{Granted, Early, Uncertified, Exhausted}
+use Rattle.judging.specs.Standings.{standingOf, denialOf, judgedFrom, standing, denialAs, judgedAs, tablesOf}
 
 -- why no group grants, by the nearest before and the lowest groups from there on
 abbrev combined : Near → Lowest → Lowest → Judged
@@ -121,3 +121,8 @@ module _ (counts counters : List ℕ) (loaded last t : ℕ) (km0 : Bytes) (gs : 
 pub wanted-first : (s : Bytes) → 64 ≤ length s → wantedOf (take 64 s) ≡ requestOf s .wanted
 unfolding requestFrom
 wanted-first s h = sym (ap (λ (l : List Bytes). requestFrom l .wanted) (first s h))
+
+-- .. and the certificates that follow it
+pub certificates-rest : (s r : Bytes) → 64 ≤ length s → r ≡ drop 64 s → certificatesOf (records r) ≡ requestOf s .certificates
+unfolding requestFrom
+certificates-rest s r h e = ap (λ (b : Bytes). certificatesOf (records b)) e ∙ sym (ap (λ (l : List Bytes). requestFrom l .certificates) (first s h))

@@ -1,18 +1,18 @@
 -- A request file by its first record and the rest, and the fault of one certificate or hint by what the tests answered.
-use Prim.Native.Nat.{ℕ, _+_, _-_, _≤_, _<_}
+use Prim.Native.Nat.{ℕ, _-_, _≤_, _<_}
 use native.Mathlib.Omega.{arith}
 use mathlib.Core.Path.{_≡_, refl, sym, _∙_, ap}
 use mathlib.Core.List.{List, [], _∷_}
 use mathlib.Core.Option.{Option, none, some}
 use mathlib.Core.Bool.{Bool, true, false, not}
-use lib.ListN.{length, take, drop}
+use lib.ListN.{length, take, drop, drop-of-length-le}
 use lib.Dec.{ltb}
 use borrow.Author.Tests.{not-true, not-false}
 use Rattle.rules.specs.Sizes.{certificatesMax}
 use Rattle.rules.specs.Numbers.{malformed}
-use Rattle.rules.specs.Basics.{Bytes, number, records, unless, orNext, recordFault}
-use Rattle.rules.specs.Request.{Certificate, certificateRecord, certificateFault, certificatesFault, requestFault, requestFrom, requestOf, certificatesOf, hintRecord, hintFault}
-use Rattle.rules.proofs.Rows.{recordsFrom, no-rows, rows-start, rows-at, rows-rest}
+use Rattle.rules.specs.Basics.{Bytes, number, records, recordFault}
+use Rattle.rules.specs.Request.{certificateRecord, certificateFault, certificatesFault, requestFault, requestFrom, requestOf, hintRecord, hintFault}
+use Rattle.rules.proofs.Rows.{no-rows, rows-start, rows-at, rows-rest, lent-rest}
 
 -- the first record as code lends it, `&s[..64]`, and what follows
 request-rows : (s : Bytes) → 64 ≤ length s → records s ≡ take 64 s ∷ records (take (length s - 64) (drop 64 s))
@@ -57,10 +57,9 @@ module _ (s : Bytes) where
   unfolding requestFrom
   time-some x h e = e ∙ sym (ap (λ (l : List Bytes). requestFrom l .time) (request-rows s h))
 
-  pub presented-none : length s < 64 → certificatesOf (records s) ≡ requestOf s .certificates
-  unfolding requestFrom certificatesOf
-  presented-none h = ap certificatesOf (no-rows s h) ∙ sym (ap (λ (l : List Bytes). requestFrom l .certificates) (no-rows s h))
+  -- what follows the first record, as code lends it
+  pub presented-none : length s < 64 → [] ≡ drop 64 s
+  presented-none h = sym (drop-of-length-le s {i = 64} (omega arith))
 
-  pub presented-some : 64 ≤ length s → certificatesOf (records (take (length s - 64) (drop 64 s))) ≡ requestOf s .certificates
-  unfolding requestFrom
-  presented-some h = sym (ap (λ (l : List Bytes). requestFrom l .certificates) (request-rows s h))
+  pub presented-some : take (length s - 64) (drop 64 s) ≡ drop 64 s
+  presented-some = lent-rest s 64

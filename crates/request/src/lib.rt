@@ -1,9 +1,9 @@
 // A request file with its certificates, and a hints file: their first faults; a request's time and certificates.
 ghost use mathlib.Core.Path.{_≡_};
-ghost use lib.ListN.{length};
+ghost use lib.ListN.{length, drop};
 ghost use Rattle.rules.specs.Sizes.{recordBytes};
 ghost use Rattle.rules.specs.Basics.{records};
-ghost use Rattle.rules.specs.Request.{requestLaidOut, useOf, certificateRecord, certificatesFault, requestFault, requestOf, certificatesOf, hintRecord, hintsFault};
+ghost use Rattle.rules.specs.Request.{requestLaidOut, useOf, certificateRecord, certificatesFault, requestFault, requestOf, hintRecord, hintsFault};
 ghost use Rattle.files.specs.Refusals.{faultOf};
 use files::Checked;
 use files::Refusal;
@@ -119,12 +119,12 @@ pub fn time(req: &[u8]) -> u64
     fields::be64(&req[0..sizes::RECORD], 56)
 }
 
-// The part of a request file that holds its certificates.
+// The part of a request file that holds its certificates: what follows the first record.
 pub fn presented(req: &[u8]) -> &[u8]
-    ensures { λ r. ⌜ certificatesOf (records (now r)) ≡ requestOf (now (req .entry)) .certificates ⌝ }
+    ensures { λ r. ⌜ now r ≡ drop recordBytes (now (req .entry)) ⌝ }
 {
     if req.len() < sizes::RECORD {
-        return req;
+        return &req[0..0];
     }
     &req[sizes::RECORD..]
 }

@@ -1,4 +1,4 @@
-use Rattle.judging.proofs.OnePass.{early-loaded, early-last, in-time, wanted-first}
+use Rattle.judging.proofs.OnePass.{early-loaded, early-last, in-time, wanted-first, certificates-rest}
 use borrow.Author.Needs.{needs}
 use Rattle.judging.proofs.judge_request.Statement.{statement}
 use Rattle.judging.proofs.judge_request.Tie as tie
@@ -33,7 +33,8 @@ returns-3 c =
     let t = e .before .before in
     let s = t .before .before .before .before .before .before in
     let w = wanted-first (s .args .req .now) (s .pre) in
-    in-time _ _ _ _ _ _ _ _ (t .time .ensures) _ _ _ (e .before .if1 .left) (e .if2 .left) w (c .before .presented .ensures) (c .judge-groups .ensures)
+    let p = certificates-rest (s .args .req .now) _ (s .pre) (c .before .presented .ensures) in
+    in-time _ _ _ _ _ _ _ _ (t .time .ensures) _ _ _ (e .before .if1 .left) (e .if2 .left) w p (c .judge-groups .ensures)
 
 pub judge-request-spec : {M : Type 1} → statement M
 judge-request-spec =

@@ -1,7 +1,6 @@
 use Prim.Native.Nat.{_≤_, _-_}
 use mathlib.Core.Path.{_≡_, refl}
 use lib.ListN.{length}
-use Rattle.rules.specs.Sizes.{certificatesMax}
 use Rattle.rules.specs.Basics.{records, scan}
 use Rattle.rules.specs.Request.{certificateFault, afterCertificate, certificatesEnd, certificatesFault}
 use Rattle.rules.proofs.Rows.{recordsFrom, scan-stop, scan-next, scan-done, bad-record, full-record, sound-record}

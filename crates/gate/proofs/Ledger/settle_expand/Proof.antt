@@ -20,7 +20,7 @@ expand-granted-requires : tie.Need-expand-granted-requires
 expand-granted-requires c κs =
     let d = c .before .before .before in
     let e = rw (d .d .given .1) at (d .before .before .decide .ensures) in
-    charge-room _ _ _ _ _ _ e (c .group-body .ensures .0)
+    charge-room _ _ _ _ _ _ e (c .group-body .ensures .limits)
 
 enum-known-d-2 : tie.Need-enum-known-d-2
 enum-known-d-2 c = search needs
@@ -33,7 +33,7 @@ returns c =
     let t = c .before .before in
     let d = t .before .before in
     let e = rw (d .d .given .1) at (d .before .before .decide .ensures) in
-    settle-granted _ _ _ _ expanded _ _ _ _ e (c .before .group-body .ensures .0) (t .time .ensures) (c .expand-granted .ensures)
+    settle-granted _ _ _ _ expanded _ _ _ _ e (c .before .group-body .ensures .limits) (t .time .ensures) (c .expand-granted .ensures)
 
 returns-2 : tie.Need-returns-2
 returns-2 c =

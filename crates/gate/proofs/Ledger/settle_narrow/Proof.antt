@@ -20,7 +20,7 @@ narrow-granted-requires : tie.Need-narrow-granted-requires
 narrow-granted-requires c κs =
     let d = c .before .before .before in
     let e = rw (d .d .given .1) at (d .before .before .decide .ensures) in
-    (charge-room _ _ _ _ _ _ e (c .group-body .ensures .0), search needs)
+    (charge-room _ _ _ _ _ _ e (c .group-body .ensures .limits), search needs)
 
 enum-known-d-2 : tie.Need-enum-known-d-2
 enum-known-d-2 c = search needs
@@ -33,7 +33,7 @@ returns c =
     let t = c .before .before in
     let d = t .before .before in
     let e = rw (d .d .given .1) at (d .before .before .decide .ensures) in
-    settle-granted _ _ _ _ (narrowed _ _ _ _) _ _ _ _ e (c .before .group-body .ensures .0) (t .time .ensures) (c .narrow-granted .ensures)
+    settle-granted _ _ _ _ (narrowed _ _ _ _) _ _ _ _ e (c .before .group-body .ensures .limits) (t .time .ensures) (c .narrow-granted .ensures)
 
 returns-2 : tie.Need-returns-2
 returns-2 c =
