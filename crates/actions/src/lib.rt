@@ -18,16 +18,16 @@ use steps::Step;
 use suites::Lookup;
 
 // The numbers of the protections, the smallest the weakest.
-pub const BY_MODULE: u8 = 1;
+const BY_MODULE: u8 = 1;
 
-pub const BY_SOFTCARD: u8 = 2;
+const BY_SOFTCARD: u8 = 2;
 
-pub const BY_CARDSET: u8 = 3;
+const BY_CARDSET: u8 = 3;
 
 pub const NOT_KEPT: u8 = 4;
 
 // What a permission lets its holder do with the key.
-pub enum Class {
+enum Class {
     Harmless,
     Signature,
     Encryption,
@@ -55,7 +55,7 @@ const CLASSES: [Class; 16] = [
 ];
 
 // The class of permission b.
-pub fn class_of(b: u16) -> Class
+fn class_of(b: u16) -> Class
     requires { ⌜ b < 16 ⌝ }
     ensures { λ r. ⌜ classAs r ≡ classOf b ⌝ }
 {

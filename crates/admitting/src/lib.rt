@@ -1,17 +1,14 @@
 // Whether an action admits a request, and whether a group does: one of its actions has to. Each function decodes whatever bytes stand there.
 ghost use mathlib.Core.Path.{_≡_};
-ghost use mathlib.Core.Bool.{Bool, _&&_};
-ghost use Prim.Native.Nat.{_+_, _≤_};
 ghost use lib.ListN.{length};
-ghost use lib.Dec.{eqb};
 ghost use Rattle.rules.specs.Sizes.{recordBytes};
-ghost use Rattle.rules.specs.Basics.{any, same, optional, matches, number, byte, records};
+ghost use Rattle.rules.specs.Basics.{any, same, optional, matches, records};
 ghost use Rattle.rules.specs.Acl.{parametersOf, blobRuleOf, archiveRuleOf, actionOf, actionsOf};
-ghost use Rattle.rules.specs.Request.{operation, workingBlob, recoveryBlob, tokenOf, workingBlobOf, recoveryBlobOf, wantedOf};
+ghost use Rattle.rules.specs.Request.{tokenOf, workingBlobOf, recoveryBlobOf, wantedOf};
 ghost use Rattle.rules.specs.Grant.{timeAnswers, tighter, meets, nullKey, admitsDirect, admitsToken, admitsKey, admitsBlob, admitsArchive, admitsUse, admitsWorking, admitsRecovery, admits};
 
 // The null module key: 01, then nineteen zero bytes.
-const NULL_KEY: [u8; 20] = [1, 0, 0, 0, 0, 0, 0, 0, 0, 0, 0, 0, 0, 0, 0, 0, 0, 0, 0, 0];
+const NULL_KEY: [u8; sizes::HASH] = [1, 0, 0, 0, 0, 0, 0, 0, 0, 0, 0, 0, 0, 0, 0, 0, 0, 0, 0, 0];
 
 // Whether a time limit answers another: a limit of zero is none.
 fn time_answers(new: u32, old: u32) -> bool
@@ -152,7 +149,7 @@ fn admits_recovery(rec: &[u8], act: &[u8]) -> bool
 }
 
 // Whether an action admits what a request record asks for.
-pub fn action_admits(km0: &[u8], rec: &[u8], act: &[u8]) -> bool
+fn action_admits(km0: &[u8], rec: &[u8], act: &[u8]) -> bool
     requires { ⌜ (length (now act) ≡ recordBytes) × (length (now rec) ≡ recordBytes) ⌝ }
     ensures { λ r. ⌜ r ≡ admits (now (km0 .entry)) (wantedOf (now (rec .entry))) (actionOf (now (act .entry))) ⌝ }
 {

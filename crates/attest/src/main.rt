@@ -1,6 +1,5 @@
 // attest BUNDLE ACL: prints the desk's verdict on two files, one line. Where a file cannot be read, or the arguments are not two, it says so in one line
 // on standard error and prints nothing.
-ghost use Prim.Native.Nat.{_≤_};
 ghost use lib.ListN.{length};
 ghost use Rattle.attest.specs.Inputs.{Within};
 use libc::STDERR_FILENO;
@@ -13,7 +12,7 @@ enum Input {
 }
 
 // Reads an open file, up to the buffer's length. A read that fails ends it like the file's end does, so that one more read has to tell them apart: it
-// fails too, or finds more where the buffer still had room.
+// fails too, or finds more where the buffer still had room. What was read is the file's matter: the promise says no more than that it lies in the buffer.
 fn read_open(fd: i32, path: &[u8], buffer: &mut [u8]) -> Input
     ensures { λ r. ⌜ Within r (length (now (buffer .exit))) ⌝ }
 {
@@ -28,7 +27,8 @@ fn read_open(fd: i32, path: &[u8], buffer: &mut [u8]) -> Input
     Input::Read(n)
 }
 
-// Reads the file that argument i names. No file that fits its greatest length fills the buffer, so that a longer one is cut and still too long.
+// Reads the file that argument i names; the promise leaves open what is in it. No file that fits its greatest length fills the buffer, so that a
+// longer one is cut and still too long.
 fn read_file(i: usize, buffer: &mut [u8]) -> Input
     ensures { λ r. ⌜ Within r (length (now (buffer .exit))) ⌝ }
 {
@@ -52,7 +52,7 @@ fn read_file(i: usize, buffer: &mut [u8]) -> Input
 
 // The verdict's line.
 fn print_verdict(bundle: &[u8], acl: &[u8]) {
-    let mut line = io::buffer();
+    let mut line = [0u8; verdicts::LINE];
     let n = verdicts::verdict_line(desk::assess(bundle, acl), &mut line);
     io::write_all(STDOUT_FILENO, &line[..n]);
 }

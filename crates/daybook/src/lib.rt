@@ -8,7 +8,7 @@ use files::Checked;
 use files::Refusal;
 
 // Request records of one day.
-const REQUESTS: usize = 1000;
+pub const REQUESTS: usize = 1000;
 
 // Whether the three files have lengths that they may have.
 fn lengths_fit(km0: &[u8], acl: &[u8], requests: &[u8]) -> bool

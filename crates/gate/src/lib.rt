@@ -1,17 +1,15 @@
 // The gate: the ledger, and the steps that take it whole and hand it back.
 ghost use mathlib.Core.Path.{_≡_};
 ghost use mathlib.Core.Bool.{true};
-ghost use mathlib.Core.Option.{none};
 ghost use Prim.Native.Nat.{_≤_, _<_};
-ghost use lib.ListN.{length, getD, set, replicate, drop};
-ghost use Rattle.rules.specs.Sizes.{fullCount, groupsMax, countersMax};
+ghost use lib.ListN.{length, getD, set, replicate};
+ghost use Rattle.rules.specs.Sizes.{recordBytes, groupsMax, countersMax, fullCount};
 ghost use Rattle.rules.specs.Basics.{all, records};
-ghost use Rattle.rules.specs.Acl.{limitsOf, aclOf, aclFault};
-ghost use Rattle.rules.specs.Request.{requestOf, requestFault, useOf, reduceAcl, expandAcl, hintsOf, hintsFault};
+ghost use Rattle.rules.specs.Acl.{limitsOf, aclOf};
+ghost use Rattle.rules.specs.Request.{requestOf, hintsOf};
 ghost use Rattle.rules.specs.Ledger.{freshLedger, raised, raisedBy, recounted};
 ghost use Rattle.rules.specs.Gate.{load, clear, request, lengthsFit, requestFiles, refused, permitted, settle, judge, narrowFiles, narrowed, narrow, expandFiles, expanded, expand};
 ghost use Rattle.files.specs.Refusals.{refusalNumber, faultOf};
-ghost use Rattle.groups.specs.Parts.{firstLimits};
 ghost use Rattle.gate.specs.Outcomes.{ledgerOf, outcomeOf, hasRoom, limitHasRoom, raisedOnce, chargedWith, Decides, carriedFrom};
 ghost use Rattle.judging.specs.Standings.{judgedAs, tablesOf};
 use files::Checked;
@@ -92,10 +90,6 @@ impl Ledger {
     pub const RECORD: usize = sizes::RECORD;
 
     pub const GROUPS: usize = sizes::GROUPS;
-
-    pub const LIMITS: usize = sizes::LIMITS;
-
-    pub const ACTIONS: usize = sizes::ACTIONS;
 
     pub const COUNTERS: usize = sizes::COUNTERS;
 
@@ -217,7 +211,7 @@ fn decide<'a>(
     acl: &[u8],
     req: &[u8],
 ) -> Decision
-    requires { ⌜ 64 ≤ length (now req) ⌝ }
+    requires { ⌜ recordBytes ≤ length (now req) ⌝ }
     ensures { λ r. ⌜ Decides r (judgedAs (judge (tablesOf (now (counts .entry)) (now (counters .entry)) loaded last) (now (km0 .entry)) (aclOf (now (acl .entry))) (requestOf (now (req .entry))))) ⌝ }
 {
     decided(judging::judge_request(counts, counters, loaded, last, km0, acl, req))
@@ -226,7 +220,7 @@ fn decide<'a>(
 impl Ledger {
     // What becomes of a request whose files are sound: the lowest group that grants is charged, or the refusal says how far the groups came.
     fn settle(self, km0: &[u8], acl: &[u8], req: &[u8]) -> Outcome
-        requires { ⌜ 64 ≤ length (now req) ⌝ }
+        requires { ⌜ recordBytes ≤ length (now req) ⌝ }
         ensures { λ r. ⌜ outcomeOf r ≡ settle (ledgerOf self) (requestOf (now (req .entry)) .time) permitted (judge (ledgerOf self) (now (km0 .entry)) (aclOf (now (acl .entry))) (requestOf (now (req .entry)))) ⌝ }
     {
         let loaded = self.loaded;
@@ -398,7 +392,7 @@ impl Ledger {
 
     // What becomes of a narrowing whose files are sound.
     fn settle_narrow(self, km0: &[u8], acl: &[u8], req: &[u8], new: &[u8], hints: &[u8]) -> Outcome
-        requires { ⌜ (64 ≤ length (now req)) × (length (hintsOf (now hints)) ≤ groupsMax) ⌝ }
+        requires { ⌜ (recordBytes ≤ length (now req)) × (length (hintsOf (now hints)) ≤ groupsMax) ⌝ }
         ensures { λ r. ⌜ outcomeOf r ≡ settle (ledgerOf self) (requestOf (now (req .entry)) .time) (narrowed (ledgerOf self) (aclOf (now (acl .entry))) (aclOf (now (new .entry))) (hintsOf (now (hints .entry)))) (judge (ledgerOf self) (now (km0 .entry)) (aclOf (now (acl .entry))) (requestOf (now (req .entry)))) ⌝ }
     {
         let loaded = self.loaded;
@@ -419,7 +413,7 @@ impl Ledger {
 
     // What becomes of an expansion whose files are sound.
     fn settle_expand(self, km0: &[u8], acl: &[u8], req: &[u8]) -> Outcome
-        requires { ⌜ 64 ≤ length (now req) ⌝ }
+        requires { ⌜ recordBytes ≤ length (now req) ⌝ }
         ensures { λ r. ⌜ outcomeOf r ≡ settle (ledgerOf self) (requestOf (now (req .entry)) .time) expanded (judge (ledgerOf self) (now (km0 .entry)) (aclOf (now (acl .entry))) (requestOf (now (req .entry)))) ⌝ }
     {
         let loaded = self.loaded;

@@ -1,22 +1,21 @@
 // Judging a request on an ACL: whether a group is certified and unspent, the lowest group that admits and is both, and else how far the groups come.
 // The functions take the ledger's tables and times, not the ledger; they decode whatever bytes stand there.
 ghost use mathlib.Core.Path.{_≡_};
-ghost use mathlib.Core.Bool.{_&&_};
-ghost use Prim.Native.Nat.{_-_, _≤_};
+ghost use Prim.Native.Nat.{_≤_};
 ghost use lib.ListN.{length, getD};
-ghost use Rattle.rules.specs.Sizes.{recordBytes};
-ghost use Rattle.rules.specs.Basics.{any, all, part, number, flag, optional, matchesNumber, records};
+ghost use Rattle.rules.specs.Sizes.{recordBytes, hashBytes};
+ghost use Rattle.rules.specs.Basics.{any, part, number, flag, optional, matchesNumber, records};
 ghost use Rattle.rules.specs.Acl.{limitOf, limitsOf, aclOf};
 ghost use Rattle.rules.specs.Request.{certificateOf, certificatesOf, requestOf, wantedOf};
 ghost use Rattle.rules.specs.Grant.{serves, certifiedBy, counterLeft, limitLeft, limitsLeft, unspentWith};
 ghost use Rattle.rules.specs.Gate.{judge};
-ghost use Rattle.judging.specs.Standings.{isGranting, standingOf, nearer, denialOf, judgedFrom, standing, recordStanding, judgedAs, tablesOf};
+ghost use Rattle.judging.specs.Standings.{isGranting, nearer, denialOf, judgedFrom, standing, recordStanding, judgedAs, tablesOf};
 
 // A full count: one more would not fit.
 const FULL: u32 = 4294967295;
 
 // How far a group comes: it does not admit; it admits; it admits and is certified; it admits, is certified and unspent.
-pub enum Standing {
+enum Standing {
     Silent,
     Admitting,
     Certified,
@@ -24,7 +23,7 @@ pub enum Standing {
 }
 
 // The nearest that came before: no group; the lowest that admits; the lowest that admits and is certified.
-pub enum Near {
+enum Near {
     Nothing,
     Admitting(usize),
     Certified(usize),
@@ -52,7 +51,7 @@ fn matches_number(used: bool, wanted: u16, n: u16) -> bool
 // Whether a certificate has the hash of a group's certifier and, where named, its mechanism.
 fn certificate_serves(group: &[u8], cert: &[u8]) -> bool
     requires { ⌜ (length (now group) ≡ recordBytes) × (length (now cert) ≡ recordBytes) ⌝ }
-    ensures { λ r. ⌜ r ≡ serves (part 4 20 (now (group .entry))) (optional (flag 1 (now (group .entry))) (number 24 2 (now (group .entry)))) (certificateOf (now (cert .entry))) ⌝ }
+    ensures { λ r. ⌜ r ≡ serves (part 4 hashBytes (now (group .entry))) (optional (flag 1 (now (group .entry))) (number 24 2 (now (group .entry)))) (certificateOf (now (cert .entry))) ⌝ }
 {
     fields::same_bytes(&cert[4..24], &group[4..24])
         & matches_number(
@@ -65,7 +64,7 @@ fn certificate_serves(group: &[u8], cert: &[u8]) -> bool
 // Whether one of the presented certificates does.
 fn some_serves(group: &[u8], certs: &[u8]) -> bool
     requires { ⌜ length (now group) ≡ recordBytes ⌝ }
-    ensures { λ r. ⌜ r ≡ any (serves (part 4 20 (now (group .entry))) (optional (flag 1 (now (group .entry))) (number 24 2 (now (group .entry))))) (certificatesOf (records (now (certs .entry)))) ⌝ }
+    ensures { λ r. ⌜ r ≡ any (serves (part 4 hashBytes (now (group .entry))) (optional (flag 1 (now (group .entry))) (number 24 2 (now (group .entry))))) (certificatesOf (records (now (certs .entry)))) ⌝ }
 {
     let mut at = 0;
     while sizes::RECORD <= certs.len() - at {
@@ -82,9 +81,9 @@ fn some_serves(group: &[u8], certs: &[u8]) -> bool
 }
 
 // Whether a group is certified: it has no certifier, or a presented certificate serves.
-pub fn is_certified(group: &[u8], certs: &[u8]) -> bool
+fn is_certified(group: &[u8], certs: &[u8]) -> bool
     requires { ⌜ length (now group) ≡ recordBytes ⌝ }
-    ensures { λ r. ⌜ r ≡ certifiedBy (optional (flag 0 (now (group .entry))) (part 4 20 (now (group .entry)))) (optional (flag 1 (now (group .entry))) (number 24 2 (now (group .entry)))) (certificatesOf (records (now (certs .entry)))) ⌝ }
+    ensures { λ r. ⌜ r ≡ certifiedBy (optional (flag 0 (now (group .entry))) (part 4 hashBytes (now (group .entry)))) (optional (flag 1 (now (group .entry))) (number 24 2 (now (group .entry)))) (certificatesOf (records (now (certs .entry)))) ⌝ }
 {
     if !fields::flag_of(0, group) {
         return true;
@@ -144,7 +143,7 @@ fn limits_left(counters: &[u32], own: u32, elapsed: u64, body: &[u8]) -> bool
 }
 
 // Whether a group is unspent.
-pub fn is_unspent(counters: &[u32], own: u32, elapsed: u64, body: &[u8]) -> bool
+fn is_unspent(counters: &[u32], own: u32, elapsed: u64, body: &[u8]) -> bool
     ensures { λ r. ⌜ r ≡ unspentWith (now (counters .entry)) own elapsed (limitsOf (records (now (body .entry)))) ⌝ }
 {
     (own < FULL) & limits_left(counters, own, elapsed, body)
@@ -278,7 +277,7 @@ pub fn judge_request<'a>(
     acl: &[u8],
     req: &[u8],
 ) -> Judged
-    requires { ⌜ 64 ≤ length (now req) ⌝ }
+    requires { ⌜ recordBytes ≤ length (now req) ⌝ }
     ensures { λ r. ⌜ r ≡ judgedAs (judge (tablesOf (now (counts .entry)) (now (counters .entry)) loaded last) (now (km0 .entry)) (aclOf (now (acl .entry))) (requestOf (now (req .entry)))) ⌝ }
 {
     let time = request::time(req);

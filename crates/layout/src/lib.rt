@@ -78,7 +78,7 @@ pub fn group(s: &[u8]) -> bool
     ensures { λ r. ⌜ r ≡ groupLaidOut (now (s .entry)) ⌝ }
 {
     plain_header(3, s)
-        & zero_unless(0, 4, 20, s)
+        & zero_unless(0, 4, sizes::HASH, s)
         & certifier_mechanism(s)
         & fields::zero_part(s, 26, 38)
 }
@@ -111,8 +111,8 @@ pub fn blob_action(s: &[u8]) -> bool
     ensures { λ r. ⌜ r ≡ blobActionLaidOut (now (s .entry)) ⌝ }
 {
     plain_header(63, s)
-        & zero_unless(2, 4, 20, s)
-        & zero_unless(3, 24, 20, s)
+        & zero_unless(2, 4, sizes::HASH, s)
+        & zero_unless(3, 24, sizes::HASH, s)
         & token_parameters_if(4, 44, s)
         & fields::zero_part(s, 52, 12)
 }
@@ -123,7 +123,7 @@ pub fn archive_action(s: &[u8]) -> bool
     ensures { λ r. ⌜ r ≡ archiveActionLaidOut (now (s .entry)) ⌝ }
 {
     plain_header(1, s)
-        & zero_unless(0, 4, 20, s)
+        & zero_unless(0, 4, sizes::HASH, s)
         & mechanism_at(24, s)
         & fields::zero_part(s, 26, 38)
 }
@@ -142,7 +142,7 @@ pub fn blob_request(s: &[u8]) -> bool
     ensures { λ r. ⌜ r ≡ blobRequestLaidOut (now (s .entry)) ⌝ }
 {
     plain_header(1, s)
-        & zero_unless(0, 24, 20, s)
+        & zero_unless(0, 24, sizes::HASH, s)
         & token_parameters_if(0, 44, s)
         & fields::zero_part(s, 52, 4)
 }

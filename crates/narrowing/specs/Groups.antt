@@ -4,6 +4,7 @@ use mathlib.Core.List.{List, [], _∷_}
 use mathlib.Core.Option.{Option, none, some}
 use mathlib.Core.Bool.{Bool, _&&_}
 use lib.Dec.{eqb}
+use Rattle.rules.specs.Sizes.{hashBytes}
 use Rattle.rules.specs.Basics.{if_then_else_, Bytes, part, number, flag, optional}
 use Rattle.rules.specs.Acl.{Action, actionOf, groupOf}
 use Rattle.rules.specs.Narrow.{kept, keptNumber, groupNarrows}
@@ -20,7 +21,7 @@ actionIn (b ∷ bs) = some (actionOf (b ∷ bs))
 -- "a new group keeps any certifier and mechanism", by the groups' first records
 unfoldable pub certifierKept : Bytes → Bytes → Bool
 certifierKept n o =
-    kept (optional (flag 0 n) (part 4 20 n)) (optional (flag 0 o) (part 4 20 o))
+    kept (optional (flag 0 n) (part 4 hashBytes n)) (optional (flag 0 o) (part 4 hashBytes o))
     && keptNumber (optional (flag 1 n) (number 24 2 n)) (optional (flag 1 o) (number 24 2 o))
 
 -- a new group against its source, by their records

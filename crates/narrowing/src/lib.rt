@@ -1,13 +1,13 @@
 // Whether hints show that a new ACL is a narrowing of an old one. Each function decodes whatever bytes stand there.
 ghost use mathlib.Core.Path.{_≡_};
-ghost use Prim.Native.Nat.{_+_, _-_, _≤_, _<_};
+ghost use Prim.Native.Nat.{_+_, _≤_, _<_};
 ghost use lib.ListN.{length, getD, getElem?};
-ghost use Rattle.rules.specs.Sizes.{recordBytes};
-ghost use Rattle.rules.specs.Basics.{any, all, within, implies, part, number, flag, optional, records};
+ghost use Rattle.rules.specs.Sizes.{recordBytes, hashBytes};
+ghost use Rattle.rules.specs.Basics.{all, implies, part, flag, optional, records};
 ghost use Rattle.rules.specs.Acl.{parametersOf, blobRuleOf, archiveRuleOf, limitOf, limitsOf, actionOf, actionsOf, groupOf, aclOf};
 ghost use Rattle.rules.specs.Request.{hintsOf};
 ghost use Rattle.narrowing.specs.Groups.{actionKind, actionIn, certifierKept, recordsNarrow};
-ghost use Rattle.rules.specs.Narrow.{kept, keptNumber, keptParameters, blobNoWider, archiveNoWider, noWider, noWiderThan, actionsNoWider, answers, isAnswered, groupNarrows, narrowsSource, narrows};
+ghost use Rattle.rules.specs.Narrow.{kept, keptNumber, keptParameters, blobNoWider, archiveNoWider, noWider, noWiderThan, actionsNoWider, answers, isAnswered, narrowsSource, narrows};
 
 // A hash against the old one: kept equal or added.
 fn kept_hash(has: bool, new: &[u8], had: bool, old: &[u8]) -> bool
@@ -59,8 +59,8 @@ fn not_added(f: u16, new: &[u8], old: &[u8]) -> bool
 
 // The hash that flag f of a MakeBlob action announces, at an offset.
 fn hash_kept(f: u16, at: usize, new: &[u8], old: &[u8]) -> bool
-    requires { ⌜ (f < 16) × (at + 20 ≤ 64) × (length (now new) ≡ recordBytes) × (length (now old) ≡ recordBytes) ⌝ }
-    ensures { λ r. ⌜ r ≡ kept (optional (flag f (now (new .entry))) (part at 20 (now (new .entry)))) (optional (flag f (now (old .entry))) (part at 20 (now (old .entry)))) ⌝ }
+    requires { ⌜ (f < 16) × (at + hashBytes ≤ recordBytes) × (length (now new) ≡ recordBytes) × (length (now old) ≡ recordBytes) ⌝ }
+    ensures { λ r. ⌜ r ≡ kept (optional (flag f (now (new .entry))) (part at hashBytes (now (new .entry)))) (optional (flag f (now (old .entry))) (part at hashBytes (now (old .entry)))) ⌝ }
 {
     kept_hash(
         fields::flag_of(f, new),
@@ -259,7 +259,7 @@ fn group_narrows(new: &[u8], new_body: &[u8], hints: &[u8], old: &[u8], old_body
 
 // A new group against its source, the first of what is left of the old ACL; nothing where the hint names no group.
 fn source_narrows(new: &[u8], body: &[u8], hints: &[u8], rest: &[u8]) -> bool
-    requires { ⌜ (length (now new) ≡ recordBytes) × (64 ≤ length (now rest) → getD (now rest) 0 0 ≡ 1) ⌝ }
+    requires { ⌜ (length (now new) ≡ recordBytes) × (recordBytes ≤ length (now rest) → getD (now rest) 0 0 ≡ 1) ⌝ }
     ensures { λ r. ⌜ r ≡ narrowsSource (groupOf (now (new .entry)) (records (now (body .entry)))) (now (hints .entry)) (getElem? (aclOf (now (rest .entry))) 0) ⌝ }
 {
     if rest.len() < sizes::RECORD {

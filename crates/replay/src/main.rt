@@ -301,7 +301,7 @@ fn expand_call(
 
 // The desk's verdict, in its own line.
 fn print_verdict(k: u64, bundle: &[u8], acl: &[u8]) {
-    let mut line = io::buffer();
+    let mut line = [0u8; verdicts::LINE];
     let n = verdicts::verdict_line(desk::assess(bundle, acl), &mut line);
     print_number(k);
     print(b" ");

@@ -1,14 +1,13 @@
 -- Bytes put into a buffer: by a loop, and one text after the other.
-use Prim.Native.Nat.{ℕ, suc, _+_, _/_, _%_, _≤_, _<_}
+use Prim.Native.Nat.{ℕ, _+_, _/_, _%_, _≤_, _<_}
 use native.Mathlib.Omega.{arith}
 use native.Mathlib.Numerals.{add-one}
 use mathlib.Core.Path.{_≡_, refl, sym, _∙_, ap}
-use mathlib.Core.List.{List, [], _∷_, _++_, append-assoc}
+use mathlib.Core.List.{[], _∷_, _++_, append-assoc}
 use lib.ListN.{length, take, drop, getD, set, length-append}
 use lib.Seq.{take-all, length-take-le, take-at, drop-at, drop-drop, paste, paste-zero, paste-suc, length-paste}
 use mathlib.Core.Bool.{Bool}
 use borrow.Author.Tests.{eq-eqb, ne-eqb, lt-ltb, le-ltb}
-use lib.Dec.{eqb}
 use Rattle.rules.specs.Basics.{Bytes, ascii}
 use Rattle.rules.specs.Desk.{Step}
 use Rattle.desk.specs.Replies.{Named}

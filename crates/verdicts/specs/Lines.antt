@@ -10,6 +10,10 @@ use Rattle.rules.specs.Basics.{if_then_else_, Bytes, ascii}
 use Rattle.rules.specs.Desk as rules
 use Rattle.desk.specs.Replies.{Named, Reply, accepting, failing, refusing}
 
+-- room for every line
+abbrev pub lineBytes : ℕ
+lineBytes = 64
+
 -- bytes put into a buffer from a place on: what stands before them and past them stays
 unfoldable pub put : Bytes → ℕ → Bytes → Bytes
 put new at old = take at old ++ new ++ drop (at + length new) old

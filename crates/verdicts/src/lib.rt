@@ -1,12 +1,11 @@
 // A verdict of the desk as a line of text: `accept 1`, `accept 2 protection P recoverable yes` or `no`, `fail STEP`, `refuse N`.
-ghost use mathlib.Core.Path.{_≡_};
 ghost use Prim.Native.Nat.{_+_, _≤_};
 ghost use lib.ListN.{length};
 ghost use Rattle.rules.specs.Basics.{ascii};
 ghost use Rattle.files.specs.Refusals.{refusalNumber};
 ghost use Rattle.steps.specs.Steps.{stepOf};
 ghost use Rattle.desk.specs.Replies.{namedBy, replyOf};
-ghost use Rattle.verdicts.specs.Lines.{Put, decimal, stepText, acceptanceLine, failureLine, refusalLine, lineOf};
+ghost use Rattle.verdicts.specs.Lines.{lineBytes, Put, decimal, stepText, acceptanceLine, failureLine, refusalLine, lineOf};
 use desk::Acceptance;
 use desk::Verdict;
 use files::Refusal;
@@ -75,7 +74,7 @@ fn append_step(s: Step, at: usize, buffer: &mut [u8]) -> usize
 
 // An acceptance.
 fn acceptance_line(a: Acceptance, buffer: &mut [u8]) -> usize
-    requires { ⌜ 64 ≤ length (now buffer) ⌝ }
+    requires { ⌜ lineBytes ≤ length (now buffer) ⌝ }
     ensures { λ r. ⌜ Put (acceptanceLine (namedBy a)) 0 (now (buffer .entry)) (now (buffer .exit)) r ⌝ }
 {
     if a.approach != 2 {
@@ -92,7 +91,7 @@ fn acceptance_line(a: Acceptance, buffer: &mut [u8]) -> usize
 
 // A failing step.
 fn failure_line(s: Step, buffer: &mut [u8]) -> usize
-    requires { ⌜ 64 ≤ length (now buffer) ⌝ }
+    requires { ⌜ lineBytes ≤ length (now buffer) ⌝ }
     ensures { λ r. ⌜ Put (failureLine (stepOf s)) 0 (now (buffer .entry)) (now (buffer .exit)) r ⌝ }
 {
     let begun = append(b"fail ", 0, buffer);
@@ -102,7 +101,7 @@ fn failure_line(s: Step, buffer: &mut [u8]) -> usize
 
 // A refusal.
 fn refusal_line(r: Refusal, buffer: &mut [u8]) -> usize
-    requires { ⌜ 64 ≤ length (now buffer) ⌝ }
+    requires { ⌜ lineBytes ≤ length (now buffer) ⌝ }
     ensures { λ n. ⌜ Put (refusalLine (refusalNumber r)) 0 (now (buffer .entry)) (now (buffer .exit)) n ⌝ }
 {
     let begun = append(b"refuse ", 0, buffer);
@@ -112,7 +111,7 @@ fn refusal_line(r: Refusal, buffer: &mut [u8]) -> usize
 
 // The line of a verdict at the front of the buffer, and its length. Every byte past it stays.
 pub fn verdict_line(v: Verdict, buffer: &mut [u8]) -> usize
-    requires { ⌜ 64 ≤ length (now buffer) ⌝ }
+    requires { ⌜ lineBytes ≤ length (now buffer) ⌝ }
     ensures { λ r. ⌜ Put (lineOf (replyOf v)) 0 (now (buffer .entry)) (now (buffer .exit)) r ⌝ }
 {
     match v {

@@ -1,4 +1,3 @@
-use native.Mathlib.Omega.{arith}
 use Rattle.rules.specs.Basics.{ascii}
 use Rattle.verdicts.proofs.Laws.{put-then, acceptance-short, acceptance-long}
 use borrow.Author.Needs.{needs}
