@@ -6,7 +6,7 @@ use mathlib.Core.Path.{_≡_, refl, sym, _∙_, ap}
 use mathlib.Core.List.{List, [], _∷_, map}
 use mathlib.Core.Option.{Option, none, some}
 use mathlib.Core.Bool.{Bool, true, false, not, _&&_, _||_}
-use borrow.Author.Tests.{eq-eqb, ne-eqb, eqb-true, not-true, not-false}
+use borrow.Author.Tests.{eq-eqb, ne-eqb, not-true, not-false}
 use lib.ListN.{length, take, drop, getD, length-drop}
 use lib.Seq.{length-take-le, take-take}
 use lib.Dec.{eqb}
@@ -16,7 +16,7 @@ use Rattle.rules.specs.Bundle.{Policy}
 use Rattle.rules.specs.Suites.{suiteMechanism}
 use Rattle.rules.specs.Numbers.{notKept}
 use Rattle.rules.specs.Desk.{Step, Class, classOf, policyAdmits, ACLV3, WB1, WB2, WB3, WB6, permissionsFailure, blobFailure, isMechanism, actionProtection, softParameters, isArchive}
-use Rattle.rules.proofs.Laws.{and-left, and-right, and-both, allBelow-at, not-both, decided}
+use Rattle.rules.proofs.Laws.{and-both, allBelow-at, not-both}
 use Rattle.evidence.specs.Given.{given}
 use Rattle.evidence.proofs.Laws.{given-some}
 use Rattle.suites.specs.Calls.{Calls, Answer, calls, refuses, calledFor}

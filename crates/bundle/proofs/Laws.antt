@@ -1,14 +1,13 @@
 -- What the tests of this crate come to in the definitions' terms.
-use Prim.Native.Nat.{ℕ, _+_, _≤_}
-use native.Mathlib.Omega.{arith}
-use mathlib.Core.Path.{_≡_, refl, sym, _∙_, ap}
-use mathlib.Core.Option.{Option, none, some}
+use Prim.Native.Nat.{ℕ, _+_}
+use mathlib.Core.Path.{_≡_, refl, sym, _∙_}
+use mathlib.Core.Option.{none, some}
 use mathlib.Core.Bool.{Bool, true, false, not, _&&_, _||_}
 use lib.Dec.{eqb, ltb}
 use borrow.Author.Tests.{eq-eqb, ne-eqb, not-true, not-false}
 use Rattle.rules.specs.Numbers.{malformed}
 use Rattle.rules.specs.Sizes.{listedMax}
-use Rattle.rules.specs.Basics.{Bytes, implies, unless, recordFault}
+use Rattle.rules.specs.Basics.{Bytes, recordFault}
 use Rattle.rules.specs.Bundle.{BundlePlace, orderOf, inOrder, listedOrder, policyOrder, bundleRecordLaidOut, bundleInPlace, bundleHasRoom, bundleRecordFault, listedAfter, afterBundleRecord, bundleEnd}
 
 -- the fault of a record by its two tests

@@ -4,7 +4,7 @@ use mathlib.Core.Option.{none, some}
 use mathlib.Core.Bool.{Bool, true, false, not}
 use borrow.Author.Tests.{not-true, not-false}
 use Rattle.rules.specs.Numbers.{malformed}
-use Rattle.rules.specs.Basics.{Bytes, unless}
+use Rattle.rules.specs.Basics.{Bytes}
 use Rattle.rules.specs.Request.{requestLaidOut, requestRecordFault}
 
 module _ (r : Bytes) (a : Bool) (e : a ≡ requestLaidOut r) where

@@ -10,7 +10,6 @@ use Rattle.steps.specs.declared.Step.the-variants.{WV1, MSCV1, MSCV2, MSCV3, MS
 use Rattle.steps.specs.Steps.{stepOf}
 use Rattle.desk.specs.declared.Protection.{Protection}
 use Rattle.desk.specs.declared.Protection.the-variants.{NotJudged, Module, Softcard, Cardset, NotKept}
-use Rattle.desk.specs.declared.Acceptance.{Acceptance}
 use Rattle.desk.specs.declared.Verdict.{Verdict}
 use Rattle.desk.specs.declared.Verdict.the-variants.{Accepted, Failed, Refused}
 use Rattle.desk.specs.Replies.{Reply, accepting, failing, refusing, protectionNumber, replyOf}

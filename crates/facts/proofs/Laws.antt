@@ -6,7 +6,7 @@ use mathlib.Core.List.{List, [], _∷_}
 use mathlib.Core.Option.{Option, none, some}
 use mathlib.Core.Bool.{Bool, true, false}
 use borrow.Author.Tests.{eq-eqb, ne-eqb}
-use lib.ListN.{length, take, drop, getD}
+use lib.ListN.{length, getD}
 use Rattle.rules.specs.Basics.{Bytes, any, Every, bit, part, records}
 use Rattle.rules.specs.Bundle.{firstRecord, numbered, field, signatureOutcome, Policy, policyFrom, policyRecord, policyOf}
 use Rattle.rules.proofs.Laws.{never}

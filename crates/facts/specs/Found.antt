@@ -1,5 +1,4 @@
 -- What the lookups of this crate answer, in the definitions' terms.
-use Prim.Native.Nat.{ℕ}
 use mathlib.Core.List.{[]}
 use mathlib.Core.Option.{Option, none, some}
 use mathlib.Core.Bool.{Bool, true, false}

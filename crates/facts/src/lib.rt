@@ -1,7 +1,7 @@
 // What a bundle says: a field's content, a signature's outcome, the policy, whether a module key is listed. Each is total: it decodes whatever bytes
 // stand there, and the file may or may not have been tested.
 ghost use mathlib.Core.Path.{_≡_};
-ghost use Prim.Native.Nat.{_≤_, _<_};
+ghost use Prim.Native.Nat.{_<_};
 ghost use lib.ListN.{length};
 ghost use Rattle.rules.specs.Sizes.{recordBytes};
 ghost use Rattle.rules.specs.Basics.{bit, records};

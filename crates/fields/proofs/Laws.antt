@@ -1,11 +1,11 @@
 -- Laws of bytes and numbers, each proved once over the offset and the length: the turns of the loops, and a number from its halves.
-use Prim.Native.Nat.{ℕ, zero, suc, _≤_, _<_, _-_, _+_, _*_, _^_}
+use Prim.Native.Nat.{ℕ, suc, _≤_, _<_, _-_, _+_, _*_, _^_}
 use native.Mathlib.Nat.{add-zero, zero-add, zero-mul, mul-one, mul-comm, mul-assoc, add-mul, add-assoc, pow-suc, add-sub-cancel-left}
 use native.Mathlib.Numerals.{add-one}
 use native.Mathlib.Omega.{arith}
 use mathlib.Core.Path.{_≡_, refl, sym, _∙_, ap}
 use mathlib.Core.Bool.{Bool, true, false, _&&_}
-use mathlib.Core.List.{List, [], _∷_, _++_}
+use mathlib.Core.List.{[], _∷_, _++_}
 use lib.ListN.{length, take, drop, getD, length-drop, drop-of-length-le}
 use lib.Dec.{eqb}
 use lib.Seq.{drop-cons, take-add, drop-drop, length-take-le}

@@ -2,12 +2,12 @@
 use Prim.Native.Nat.{ℕ, zero, suc, _+_, _-_, _≤_, _<_}
 use native.Mathlib.Omega.{arith}
 use native.Mathlib.Numerals.{add-one}
-use mathlib.Core.Path.{_≡_, refl, sym, _∙_, ap}
+use mathlib.Core.Path.{_≡_, sym, _∙_, ap}
 use mathlib.Core.List.{List, [], _∷_, _++_, map, append-assoc}
 use lib.ListN.{length, take, drop, getD, set, replicate, length-set, length-replicate, List·getD-eq-default, take-append-drop}
 use lib.Seq.{take-suc-set, drop-set-lt, set-out, getD-take, getD-drop}
 use Rattle.rules.specs.Sizes.{groupsMax}
-use Rattle.rules.specs.Basics.{Bytes, part, byte, records}
+use Rattle.rules.specs.Basics.{Bytes, part, byte}
 use Rattle.rules.specs.Request.{Hint, hintOf, hintsOf}
 use Rattle.rules.specs.Ledger.{carried}
 use Rattle.rules.proofs.Rows.{recordsFrom, rows-start, rows-at, rows-end}

@@ -1,16 +1,15 @@
 -- What a charge does to the tables, limit by limit.
 use Prim.Native.Nat.{ℕ, _+_, _-_, _≤_, _<_}
 use native.Mathlib.Omega.{arith}
-use mathlib.Core.Path.{_≡_, refl, sym, _∙_, ap}
-use mathlib.Core.List.{List, [], _∷_}
-use mathlib.Core.Option.{Option, none, some}
-use mathlib.Core.Bool.{Bool, true, false, _&&_}
+use mathlib.Core.Path.{_≡_, sym, _∙_, ap}
+use mathlib.Core.List.{List, _∷_}
+use mathlib.Core.Bool.{Bool, true, false}
 use borrow.Author.Tests.{eq-eqb, ne-eqb, ltb-true}
-use lib.ListN.{length, take, drop, getD, set, length-set}
+use lib.ListN.{length, drop, getD, set, length-set}
 use lib.Seq.{set-out, getD-take, getD-drop}
-use lib.Dec.{eqb, ltb}
+use lib.Dec.{eqb}
 use Rattle.rules.specs.Sizes.{fullCount}
-use Rattle.rules.specs.Basics.{Bytes, if_then_else_, all, part, byte, records}
+use Rattle.rules.specs.Basics.{Bytes, if_then_else_, all, part, byte}
 use Rattle.rules.specs.Acl.{Limit, limitOf, limitsOf}
 use Rattle.rules.specs.Ledger.{raised, raisedBy}
 use Rattle.rules.proofs.Laws.{and-left, and-right}

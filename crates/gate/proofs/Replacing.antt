@@ -1,19 +1,19 @@
 -- Narrowing and expansion: the first fault of their files, and what a permit comes to.
 use Prim.Native.Nat.{ℕ, _≤_}
-use mathlib.Core.Path.{_≡_, refl, sym, _∙_, ap}
-use mathlib.Core.List.{List, [], _∷_}
-use mathlib.Core.Option.{Option, none, some}
+use mathlib.Core.Path.{_≡_, sym, _∙_, ap}
+use mathlib.Core.List.{List, _∷_}
+use mathlib.Core.Option.{Option, none}
 use mathlib.Core.Bool.{Bool, true, false, _&&_, not}
 use borrow.Author.Tests.{not-true, not-false}
 use lib.ListN.{length, replicate}
 use Rattle.rules.specs.Sizes.{groupsMax}
 use Rattle.rules.specs.Numbers.{notNarrower}
-use Rattle.rules.specs.Basics.{if_then_else_, Bytes, orNext, firstFault}
+use Rattle.rules.specs.Basics.{Bytes, orNext, firstFault}
 use Rattle.rules.specs.Acl.{Group}
 use Rattle.rules.specs.Request.{Hint, hintsOf, useOf, reduceAcl, expandAcl}
 use Rattle.rules.specs.Ledger.{Ledger, recounted, carried}
 use Rattle.rules.specs.Narrow.{narrows}
-use Rattle.rules.specs.Gate.{Outcome, refused, permitted, narrowed, expanded, narrowFiles, expandFiles}
+use Rattle.rules.specs.Gate.{Outcome, refused, permitted, narrowed, narrowFiles, expandFiles}
 use Rattle.rules.proofs.Laws.{fault-none-every}
 use Rattle.rules.proofs.Few.{narrow-few}
 use Rattle.gate.specs.Outcomes.{carriedFrom}

@@ -1,29 +1,28 @@
 -- From a judgement to the outcome: the group that grants stands at its place, is not full, and is charged; a denial keeps the ledger.
-use Prim.Native.Nat.{ℕ, zero, suc, _+_, _-_, _≤_, _<_}
+use Prim.Native.Nat.{ℕ, suc, _+_, _-_, _≤_, _<_}
 use native.Mathlib.Omega.{arith}
-use native.Mathlib.Nat.{zero-add}
 use mathlib.Core.Path.{_≡_, refl, sym, _∙_, ap}
 use mathlib.Core.List.{List, [], _∷_}
 use mathlib.Core.Option.{Option, none, some}
-use mathlib.Core.Bool.{Bool, true, false, _&&_, false≢true}
-use borrow.Author.Tests.{eq-eqb, ne-eqb, eqb-true, ltb-true, ltb-false}
-use lib.ListN.{length, take, drop, getD}
+use mathlib.Core.Bool.{Bool, true, false, _&&_}
+use borrow.Author.Tests.{eqb-true, ltb-true, ltb-false}
+use lib.ListN.{length, drop, getD}
 use lib.Dec.{eqb, ltb}
 use Rattle.rules.specs.Sizes.{fullCount}
 use Rattle.rules.specs.Numbers.{malformed}
-use Rattle.rules.specs.Basics.{if_then_else_, Bytes, implies, all, records, unless, orNext, firstFault}
-use Rattle.rules.specs.Acl.{Limit, limitsOf, Group, aclOf, aclFault}
-use Rattle.rules.specs.Request.{Request, requestOf, requestLaidOut, requestFault}
+use Rattle.rules.specs.Basics.{Bytes, all, records}
+use Rattle.rules.specs.Acl.{Limit, Group}
+use Rattle.rules.specs.Request.{Request, requestLaidOut, requestFault}
 use Rattle.rules.specs.Ledger.{Ledger, charge}
 use Rattle.rules.specs.Grant.{limitLeft, limitsLeft, groupAdmits, certified, unspent}
-use Rattle.rules.specs.Gate.{Outcome, Lowest, nobody, group, lowest, Denial, early, unadmitted, uncertified, exhausted, numberOf, Judgement, granted, denied, grants, tooEarly, whyNot, judgedBy, judge, refused, permitted, settle, unlessFault, requestFiles}
+use Rattle.rules.specs.Gate.{Outcome, Lowest, nobody, group, lowest, Denial, early, unadmitted, uncertified, exhausted, numberOf, Judgement, granted, denied, grants, tooEarly, whyNot, judgedBy, judge, refused, settle, unlessFault, requestFiles}
 use Rattle.rules.proofs.Laws.{never, and-left, and-right, and-both, implication, fault-none-every}
 use Rattle.rules.proofs.Rows.{no-rows}
 use Rattle.groups.specs.Parts.{firstLimits}
 use Rattle.judging.specs.declared.Judged.{Judged}
-use Rattle.judging.specs.declared.Judged.the-variants.{Granted, Early, Unadmitted, Uncertified, Exhausted}
+use Rattle.judging.specs.declared.Judged.the-variants.{Granted}
 use Rattle.judging.specs.Standings.{denialAs, judgedAs}
-use Rattle.gate.specs.Outcomes.{hasRoom, limitHasRoom, chargedWith, numberAs}
+use Rattle.gate.specs.Outcomes.{limitHasRoom, chargedWith, numberAs}
 
 -- the lowest group stands at its place, counted from `place`, and passes
 lowest-at : (test : ℕ → Group → Bool) (place : ℕ) (gs : List Group) (k : ℕ) (g : Group) → lowest test place gs ≡ group k g

@@ -11,9 +11,9 @@ use lib.Dec.{T, eqb}
 use Rattle.rules.specs.Numbers.{notKept}
 use Rattle.rules.specs.Sizes.{hashBytes}
 use Rattle.rules.specs.Basics.{if_then_else_, Bytes, any, kind, flag, part, optional, bothSame, orNext, firstFault, records}
-use Rattle.rules.specs.Acl.{Action, permissions, makeBlob, makeArchive, actionOf, actionsOf, Group, groupOf, groupsOf}
+use Rattle.rules.specs.Acl.{Action, actionOf, actionsOf, Group, groupOf, groupsOf}
 use Rattle.rules.specs.Bundle.{field, Policy, policyOf}
-use Rattle.rules.specs.Desk.{moduleKey, recoveryKey, failureUnder, officersGroup, aclFailure, actionProtection, softParameters, smallest, isArchive, keyProtection, recoverableKey}
+use Rattle.rules.specs.Desk.{moduleKey, recoveryKey, failureUnder, officersGroup, aclFailure, smallest, isArchive, keyProtection, recoverableKey}
 use Rattle.rules.proofs.Rows.{recordsFrom, rows-at, rows-lent, rows-end, lentRecord, lent-record, kind-at}
 use Rattle.groups.proofs.Laws.{acts-group, acts-limit, acts-step, acts-end}
 use Rattle.grading.specs.Grades.{Graded, both, noActions, inOrder, actionGraded, actionsGraded, groupGraded, groupsGraded, aclGraded}
@@ -64,10 +64,6 @@ both-none x h =
     let m : min (x .protection) notKept ≡ x .protection = omega arith in
     rw (or-next-none (x .failure), m, or-false (x .recoverable))
 
-both-first : (x : Graded) → x .protection ≤ notKept → both (noActions false) x ≡ x
-unfolding both
-both-first x h = let m : min notKept (x .protection) ≡ x .protection = omega arith in rw m
-
 pub first-most : (found : Graded) → found ≡ noActions false → found .protection ≤ notKept
 first-most found e = let p : found .protection ≡ notKept = ap (λ (g : Graded). g .protection) e in omega arith
 
@@ -76,17 +72,6 @@ unfolding both
 join-most found one next e m = let p : next .protection ≡ min (found .protection) (one .protection) = ap (λ (g : Graded). g .protection) e in omega arith
 
 -- No protection is over 4, "not kept".
-action-most : (a : Action) → actionProtection a ≤ notKept
-unfolding actionProtection
-action-most (permissions bits) = omega arith
-action-most (makeBlob r) = pick (r .kmOnly) (softParameters (r .ktparams))
-  where
-    pick : (s t : Bool) → (if s then 1 else if t then 2 else 3) ≤ 4
-    pick true t = omega arith
-    pick false true = omega arith
-    pick false false = omega arith
-action-most (makeArchive a) = omega arith
-
 in-order-most : {A : Type 0} (f : A → Graded) (list : List A) → inOrder f list .protection ≤ notKept
 unfolding inOrder both
 in-order-most f [] = omega arith
@@ -170,11 +155,6 @@ module _ (officer : Option Bytes) (policy : Policy) (hkm hkre : Option Bytes) wh
 
     pub left-done : found .protection ≤ notKept → length s - at < 64 → found ≡ x
     left-done m h = sym (both-none found m) ∙ sym (ap (both found) (end-left s at checked h)) ∙ inv
-
-smallest-most : (list : List Action) → smallest list ≤ notKept
-unfolding smallest
-smallest-most [] = omega arith
-smallest-most (a ∷ list) = let h = action-most a in omega arith
 
 pub protection-most : (b : List Bytes) (gs : List Group) → keyProtection b gs ≤ notKept
 unfolding keyProtection

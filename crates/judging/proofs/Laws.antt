@@ -1,18 +1,17 @@
 -- The turns of the loops of this crate, and what its tests come to in the definitions' terms.
-use Prim.Native.Nat.{ℕ, suc, _+_, _-_, _≤_, _<_}
-use native.Mathlib.Omega.{arith}
+use Prim.Native.Nat.{ℕ, _+_, _-_, _≤_, _<_}
 use native.Mathlib.Numerals.{add-one}
-use mathlib.Core.Path.{_≡_, refl, sym, _∙_, ap}
-use mathlib.Core.List.{List, [], _∷_}
-use mathlib.Core.Option.{Option, none, some}
+use mathlib.Core.Path.{_≡_, sym, _∙_, ap}
+use mathlib.Core.List.{List, _∷_}
+use mathlib.Core.Option.{Option}
 use mathlib.Core.Bool.{Bool, true, false, not, _&&_}
 use borrow.Author.Tests.{eq-eqb, ne-eqb, not-true, not-false}
-use lib.ListN.{length, take, drop, getD, List·getD-eq-default}
+use lib.ListN.{length, getD, List·getD-eq-default}
 use lib.Dec.{eqb, ltb}
-use Rattle.rules.specs.Basics.{Bytes, any, all, same, part, number, byte, kind, flag, optional, matchesNumber, records}
-use Rattle.rules.specs.Acl.{Limit, limitOf, limitsOf, Group, groupOf, groupsOf}
+use Rattle.rules.specs.Basics.{Bytes, any, same, part, number, byte, flag, optional, matchesNumber, records}
+use Rattle.rules.specs.Acl.{limitOf, Group, groupOf, groupsOf}
 use Rattle.rules.specs.Request.{Wanted, Certificate, certificateOf, certificatesOf}
-use Rattle.rules.specs.Grant.{serves, certifiedBy, counterLeft, limitLeft, limitsLeft}
+use Rattle.rules.specs.Grant.{serves, certifiedBy, counterLeft, limitLeft}
 use Rattle.rules.proofs.Rows.{recordsFrom, rows-lent, rows-end, rows-rest, lentRecord, lentRest, lent-record, kind-at}
 use Rattle.judging.specs.declared.Standing.{Standing}
 use Rattle.judging.specs.declared.Near.{Near}

@@ -3,8 +3,8 @@ use Prim.Native.Nat.{ℕ, suc}
 use mathlib.Core.List.{List, [], _∷_}
 use mathlib.Core.Bool.{Bool, true, false}
 use lib.ListN.{getD}
-use Rattle.rules.specs.Basics.{if_then_else_, Bytes, any, part, number, flag, optional, records}
-use Rattle.rules.specs.Acl.{Group, groupOf, limitsOf, actionsOf}
+use Rattle.rules.specs.Basics.{if_then_else_, Bytes, any}
+use Rattle.rules.specs.Acl.{Group, groupOf}
 use Rattle.rules.specs.Request.{Wanted, Certificate}
 use Rattle.rules.specs.Ledger.{Ledger}
 use Rattle.rules.specs.Grant.{admits, certifiedBy, unspentWith}

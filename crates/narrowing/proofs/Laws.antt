@@ -3,16 +3,16 @@ use Prim.Native.Nat.{ℕ, zero, suc, _+_, _-_, _≤_, _<_}
 use native.Mathlib.Omega.{arith}
 use native.Mathlib.Numerals.{add-one}
 use mathlib.Core.Path.{_≡_, refl, sym, _∙_, ap}
-use mathlib.Core.List.{List, [], _∷_, map}
-use mathlib.Core.Option.{Option, none, some}
-use mathlib.Core.Bool.{Bool, true, false, not, _&&_, _||_}
-use borrow.Author.Tests.{eq-eqb, ne-eqb, eqb-true, not-true, not-false}
-use lib.ListN.{length, take, drop, getD, getElem?, length-take, length-drop, drop-of-length-le}
+use mathlib.Core.List.{List, [], _∷_}
+use mathlib.Core.Option.{Option, some}
+use mathlib.Core.Bool.{Bool, true, false, not, _&&_}
+use borrow.Author.Tests.{not-true, not-false}
+use lib.ListN.{length, take, drop, getD, getElem?, length-drop, drop-of-length-le}
 use lib.Seq.{drop-cons, length-take-le, take-all}
-use lib.Dec.{eqb, leb}
-use Rattle.rules.specs.Basics.{Bytes, any, all, allZero, same, within, part, number, byte, kind, flag, optional, records}
-use Rattle.rules.specs.Acl.{Parameters, parametersOf, BlobRule, blobRuleOf, archiveRuleOf, Action, permissions, makeBlob, makeArchive, actionOf, actionsOf, Limit, limitOf, limitsOf, Group, groupOf, groupsOf}
-use Rattle.rules.specs.Narrow.{keptBy, kept, keptNumber, blobNoWider, archiveNoWider, noWider, noWiderThan, actionsNoWider, answers, isAnswered, groupNarrows}
+use lib.Dec.{eqb}
+use Rattle.rules.specs.Basics.{Bytes, any, all, allZero, same, within, part, number, kind, flag, optional, records}
+use Rattle.rules.specs.Acl.{blobRuleOf, archiveRuleOf, Action, permissions, makeBlob, makeArchive, actionOf, actionsOf, Limit, limitOf, limitsOf}
+use Rattle.rules.specs.Narrow.{keptBy, kept, keptNumber, blobNoWider, archiveNoWider, noWider, noWiderThan, actionsNoWider, isAnswered}
 use Rattle.rules.proofs.Rows.{recordsFrom, rows-rest, lentRecord, lent-record, lentRest}
 use Rattle.fields.proofs.Laws.{lent}
 use Rattle.groups.specs.Parts.{NextAction}

@@ -4,16 +4,15 @@ use native.Mathlib.Omega.{arith}
 use native.Mathlib.Numerals.{add-one}
 use mathlib.Core.Path.{_≡_, refl, sym, _∙_, ap}
 use mathlib.Core.List.{List, [], _∷_, map}
-use mathlib.Core.Option.{Option, none, some}
 use mathlib.Core.Bool.{Bool, true, false, not, _&&_}
 use borrow.Author.Tests.{eq-eqb, ne-eqb, not-true, not-false, lt-leb, le-leb, ltb-true, ltb-false}
-use lib.ListN.{length, take, drop, getD, getElem?, length-drop}
+use lib.ListN.{length, take, drop, getD, getElem?}
 use lib.Seq.{getD-take, drop-nil, drop-drop}
 use lib.Dec.{eqb, leb, ltb}
 use Rattle.rules.specs.Basics.{Bytes, part, byte, kind, records}
 use Rattle.rules.specs.Acl.{Group, groupOf, groupsOf}
 use Rattle.rules.specs.Request.{Hint, hintOf, hintsOf}
-use Rattle.rules.specs.Narrow.{groupNarrows, narrowsSource, narrowsFrom, narrows}
+use Rattle.rules.specs.Narrow.{narrowsSource, narrowsFrom}
 use Rattle.rules.proofs.Rows.{recordsFrom, rows-start, rows-at, rows-lent, rows-end, rows-rest, lentRecord, lent-record, lentRest, kind-at, no-rows}
 use Rattle.groups.specs.Parts.{GroupAt}
 use Rattle.narrowing.specs.Groups.{recordsNarrow}

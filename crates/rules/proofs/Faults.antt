@@ -1,5 +1,4 @@
 -- What settles the first of several faults: laws for `search`, by the tests that the code made.
-use Prim.Native.Nat.{ℕ}
 use mathlib.Core.Path.{_≡_, refl, sym, _∙_}
 use mathlib.Core.List.{List, [], _∷_}
 use mathlib.Core.Option.{Option, none, some}

@@ -3,15 +3,14 @@ use Prim.Native.Nat.{ℕ, zero, suc, _≤_, _<_, _+_, _-_, _*_, _/_}
 use native.Mathlib.Omega.{arith}
 use native.Mathlib.Nat.{add-sub-cancel-left, add-zero}
 use mathlib.Core.Path.{_≡_, refl, sym, _∙_, ap}
-use mathlib.Core.List.{List, [], _∷_, map}
+use mathlib.Core.List.{List, [], _∷_}
 use mathlib.Core.Option.{Option, none, some}
-use mathlib.Core.Bool.{Bool, true, false, not, _&&_}
+use mathlib.Core.Bool.{Bool, true, false, not}
 use borrow.Author.Tests.{not-true, not-false}
 use lib.ListN.{length, take, drop, getD, length-drop}
 use lib.Seq.{drop-drop, take-all, length-take-le, getD-take, getD-drop}
-use Rattle.rules.specs.Sizes.{recordBytes}
 use Rattle.rules.specs.Numbers.{malformed, tooMany}
-use Rattle.rules.specs.Basics.{Bytes, Every, part, chunks, records, unless, orNext, firstFault, recordFault, eachFault, scan}
+use Rattle.rules.specs.Basics.{Bytes, Every, part, chunks, records, orNext, firstFault, recordFault, eachFault, scan}
 
 -- the records from a place on: shut, so that a search reads the file and the place off it
 unfoldable pub recordsFrom : Bytes → ℕ → List Bytes

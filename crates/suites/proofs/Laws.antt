@@ -5,7 +5,7 @@ use mathlib.Core.Option.{Option, none, some}
 use borrow.Author.Tests.{ne-eqb}
 use Rattle.rules.specs.Numbers.{unknownSuite}
 use Rattle.rules.specs.Suites as rules
-use Rattle.suites.specs.Calls.{Calls, Answer, calls, refuses, callsOf, calledFor, Measured}
+use Rattle.suites.specs.Calls.{Answer, calls, refuses, callsOf, calledFor, Measured}
 
 -- no arm of the match was taken
 pub no-suite : (n : ℕ) → (n ≡ 1 → ⊥) → (n ≡ 2 → ⊥) → (n ≡ 3 → ⊥) → (n ≡ 4 → ⊥) → refuses unknownSuite ≡ calledFor n

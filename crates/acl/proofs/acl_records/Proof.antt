@@ -1,10 +1,10 @@
 use Prim.Native.Nat.{_≤_, _-_}
-use mathlib.Core.Path.{_≡_, refl}
+use mathlib.Core.Path.{_≡_}
 use lib.ListN.{length}
 use Rattle.rules.specs.Sizes.{limitsMax}
 use Rattle.rules.specs.Basics.{records, scan}
 use Rattle.rules.specs.Acl.{aclRecordFault, afterRecord, aclEnd, aclFault}
-use Rattle.rules.proofs.Rows.{recordsFrom, rows-start, scan-stop, scan-next, scan-done, bad-record, full-record, sound-record}
+use Rattle.rules.proofs.Rows.{recordsFrom, scan-stop, scan-next, scan-done, bad-record, full-record, sound-record}
 use Rattle.acl.specs.Places.{placeOf}
 use Rattle.acl.proofs.Laws.{was-true, acl-is}
 use borrow.Author.Needs.{needs}

@@ -1,5 +1,5 @@
 use Prim.Native.Nat.{_≤_, _-_}
-use mathlib.Core.Path.{_≡_, _∙_, ap}
+use mathlib.Core.Path.{_≡_, ap}
 use lib.ListN.{length, getD}
 use Rattle.rules.specs.Basics.{any, records}
 use Rattle.rules.specs.Acl.{actionsOf}

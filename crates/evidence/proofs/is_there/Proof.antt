@@ -1,5 +1,4 @@
 use Rattle.evidence.proofs.Laws.{there-is}
-use borrow.Author.Needs.{needs}
 use Rattle.evidence.proofs.is_there.Statement.{statement}
 use Rattle.evidence.proofs.is_there.Tie as tie
 

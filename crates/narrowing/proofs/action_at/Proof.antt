@@ -1,6 +1,6 @@
 use Prim.Native.Nat.{_≤_, _-_}
 use mathlib.Core.Path.{_≡_, refl}
-use lib.ListN.{length, drop, getD, getElem?}
+use lib.ListN.{length, getElem?}
 use Rattle.rules.proofs.Rows.{recordsFrom}
 use Rattle.rules.specs.Basics.{records}
 use Rattle.rules.specs.Acl.{actionsOf}

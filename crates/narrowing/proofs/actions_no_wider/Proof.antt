@@ -1,9 +1,9 @@
 use Prim.Native.Nat.{_≤_, _-_}
-use mathlib.Core.Path.{_≡_, refl, ap}
-use lib.ListN.{length, drop, getD, getElem?}
+use mathlib.Core.Path.{_≡_, ap}
+use lib.ListN.{length, drop, getD}
 use Rattle.rules.proofs.Rows.{recordsFrom}
-use Rattle.rules.specs.Basics.{any, all, records}
-use Rattle.rules.specs.Acl.{limitOf, limitsOf, actionsOf}
+use Rattle.rules.specs.Basics.{records}
+use Rattle.rules.specs.Acl.{actionsOf}
 use Rattle.rules.specs.Narrow.{actionsNoWider}
 use Rattle.narrowing.proofs.Laws.{hints-short, action-wider, action-kept, hints-over}
 use borrow.Author.Needs.{needs}
