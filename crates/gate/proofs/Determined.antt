@@ -9,7 +9,7 @@ use Rattle.gate.specs.declared.Reply.the-variants.{Done, Permit, Refuse}
 use Rattle.gate.specs.declared.Outcome.{Outcome}
 use Rattle.gate.specs.Outcomes.{ledgerOf, answerOf, outcomeOf}
 
-abbrev ledgerBack : rules.Ledger → Ledger
+abbrev pub ledgerBack : rules.Ledger → Ledger
 ledgerBack l = record { counts = l .counts; counters = l .counters; loaded = l .loaded; last = l .last }
 
 pub ledger-determined : (l m : Ledger) → ledgerOf l ≡ ledgerOf m → l ≡ m

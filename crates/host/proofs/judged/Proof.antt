@@ -1,4 +1,4 @@
-use mathlib.Core.Path.{_≡_, sym, _∙_, ap}
+use mathlib.Core.Path.{sym, _∙_, ap}
 use Rattle.desk.specs.declared.Verdict.{Verdict}
 use Rattle.desk.specs.Replies.{replyOf}
 use Rattle.host.specs.Surface.{Judged, judgedIn, otherwise}

@@ -1,0 +1,99 @@
+-- The numbers of the C surface lose nothing. Structs that read the same are the same, so that a promise determines what the host gets; and outcomes,
+-- replies and verdicts with the same numbers are the same, so that the host can tell from the numbers what was answered.
+use Prim.Native.Nat.{ℕ}
+use mathlib.Core.Path.{_≡_, refl, sym, _∙_, ap}
+use mathlib.Core.List.{List, [], _∷_}
+use lib.ListN.{getD}
+use lib.Dec.{eqb}
+use Rattle.rules.specs.Basics.{if_then_else_}
+use Rattle.rules.specs.Gate.{Answer, done, permit, refuse, Outcome}
+use Rattle.rules.specs.Desk.{Step, WV1, MSCV1, MSCV2, MSCV3, MSCV4, MSCV5, WBCV1, WBCV2, WBCV3, KGCV1, KGCV2, ACLV3, WB1, WB2, WB3, WB6, RB1, RB2, RB3, KV3, CSRL1}
+use Rattle.rules.specs.Subject.{SubjectReply, written, unwritten}
+use Rattle.desk.specs.Replies.{Reply, accepting, failing, refusing}
+use Rattle.gate.proofs.Determined.{ledgerBack}
+use Rattle.host.specs.declared.HostOutcome.{HostOutcome}
+use Rattle.host.specs.declared.HostVerdict.{HostVerdict}
+use Rattle.host.specs.declared.HostWritten.{HostWritten}
+use Rattle.host.specs.Surface.{Told, toldBy, answerCode, answerNumber, toldFor, Wrote, wroteBy, wroteFor, stepNumber, Judged, judgedBy, judgedIn}
+
+-- The structs.
+pub told-determined : (o p : HostOutcome) → toldBy o ≡ toldBy p → o ≡ p
+told-determined o p e = ap (λ (t : Told). record { ledger = ledgerBack (t .ledger); answer = t .answer; number = t .number }) e
+
+pub judged-determined : (v w : HostVerdict) → judgedBy v ≡ judgedBy w → v ≡ w
+judged-determined v w e =
+    ap (λ (j : Judged). record { answer = j .answer; approach = j .approach; protection = j .protection; recoverable = j .recoverable; number = j .number }) e
+
+pub wrote-determined : (w v : HostWritten) → wroteBy w ≡ wroteBy v → w ≡ v
+wrote-determined w v e = ap (λ (n : Wrote). record { answer = n .answer; number = n .number }) e
+
+-- What the numbers stand for: an outcome ..
+abbrev answerBack : ℕ → ℕ → Answer
+answerBack code n = if eqb code 0 then done else if eqb code 1 then permit n else refuse n
+
+answer-back : (a : Answer) → answerBack (answerCode a) (answerNumber a) ≡ a
+answer-back done = refl
+answer-back (permit place) = refl
+answer-back (refuse n) = refl
+
+abbrev outcomeBack : Told → Outcome
+outcomeBack t = record { answer = answerBack (t .answer) (t .number); ledger = t .ledger }
+
+outcome-back : (o : Outcome) → outcomeBack (toldFor o) ≡ o
+outcome-back o = ap (λ (a : Answer). record { answer = a; ledger = o .ledger }) (answer-back (o .answer))
+
+pub outcome-told : (o p : Outcome) → toldFor o ≡ toldFor p → o ≡ p
+outcome-told o p e = sym (outcome-back o) ∙ ap outcomeBack e ∙ outcome-back p
+
+-- .. a subject's reply ..
+abbrev replyBack : Wrote → SubjectReply
+replyBack w = if eqb (w .answer) 1 then written (w .number) else unwritten (w .number)
+
+reply-back : (r : SubjectReply) → replyBack (wroteFor r) ≡ r
+reply-back (written n) = refl
+reply-back (unwritten n) = refl
+
+pub reply-wrote : (r s : SubjectReply) → wroteFor r ≡ wroteFor s → r ≡ s
+reply-wrote r s e = sym (reply-back r) ∙ ap replyBack e ∙ reply-back s
+
+-- .. a verdict. No step has the number 0.
+abbrev steps : List Step
+steps =
+    WV1 ∷ WV1 ∷ MSCV1 ∷ MSCV2 ∷ MSCV3 ∷ MSCV4 ∷ MSCV5 ∷ WBCV1 ∷ WBCV2 ∷ WBCV3 ∷ KGCV1 ∷ KGCV2 ∷ ACLV3 ∷ WB1 ∷ WB2 ∷ WB3 ∷ WB6 ∷ RB1 ∷ RB2 ∷ RB3 ∷ KV3 ∷ CSRL1 ∷ []
+
+step-back : (s : Step) → getD steps (stepNumber s) WV1 ≡ s
+step-back WV1 = refl
+step-back MSCV1 = refl
+step-back MSCV2 = refl
+step-back MSCV3 = refl
+step-back MSCV4 = refl
+step-back MSCV5 = refl
+step-back WBCV1 = refl
+step-back WBCV2 = refl
+step-back WBCV3 = refl
+step-back KGCV1 = refl
+step-back KGCV2 = refl
+step-back ACLV3 = refl
+step-back WB1 = refl
+step-back WB2 = refl
+step-back WB3 = refl
+step-back WB6 = refl
+step-back RB1 = refl
+step-back RB2 = refl
+step-back RB3 = refl
+step-back KV3 = refl
+step-back CSRL1 = refl
+
+abbrev verdictBack : Judged → Reply
+verdictBack j =
+    if eqb (j .answer) 1 then accepting (record { approach = j .approach; protection = j .protection; recoverable = j .recoverable })
+    else if eqb (j .answer) 2 then failing (getD steps (j .number) WV1)
+    else refusing (j .number)
+
+verdict-back : (r : Reply) → verdictBack (judgedIn r) ≡ r
+verdict-back (accepting a) = refl
+verdict-back (failing s) = ap failing (step-back s)
+verdict-back (refusing n) = refl
+
+pub verdict-judged : (r s : Reply) → judgedIn r ≡ judgedIn s → r ≡ s
+verdict-judged r s e = sym (verdict-back r) ∙ ap verdictBack e ∙ verdict-back s
