@@ -3,9 +3,6 @@ use borrow.Author.Needs.{needs}
 use Rattle.replay.proofs.print_verdict.Statement.{statement}
 use Rattle.replay.proofs.print_verdict.Tie as tie
 
-buffer-requires : tie.Need-buffer-requires
-buffer-requires c κs = search needs
-
 assess-requires : tie.Need-assess-requires
 assess-requires c κs = search needs
 
@@ -40,7 +37,6 @@ pub print-verdict-spec : {M : Type 1} → statement M
 print-verdict-spec =
     tie.close
     (tie.spec
-    buffer-requires
     assess-requires
     slice-aggregate-verdict-line
     verdict-line-requires
