@@ -1,3 +1,7 @@
+use mathlib.Core.Path.{ap}
+use mathlib.Core.Bool.{Bool, _&&_}
+use lib.Dec.{ltb}
+use Rattle.rules.specs.Sizes.{fullCount}
 use borrow.Author.Needs.{needs}
 use Rattle.judging.proofs.is_unspent.Statement.{statement}
 use Rattle.judging.proofs.is_unspent.Tie as tie
@@ -6,7 +10,7 @@ limits-left-requires : tie.Need-limits-left-requires
 limits-left-requires c κs = search needs
 
 returns : tie.Need-returns
-returns c = cc
+returns c = ap (λ (b : Bool). ltb (c .before .before .before .args .own) fullCount && b) (c .limits-left .ensures)
 
 pub is-unspent-spec : {M : Type 1} → statement M
 is-unspent-spec = tie.close (tie.spec limits-left-requires returns)
