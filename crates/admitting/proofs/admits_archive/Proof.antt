@@ -1,3 +1,4 @@
+use Rattle.admitting.proofs.Laws.{archive-is}
 use borrow.Author.Needs.{needs}
 use Rattle.admitting.proofs.admits_archive.Statement.{statement}
 use Rattle.admitting.proofs.admits_archive.Tie as tie
@@ -33,7 +34,7 @@ matches-hash-requires : tie.Need-matches-hash-requires
 matches-hash-requires c κs = search needs
 
 returns : tie.Need-returns
-returns c = cc
+returns c = search (needs, archive-is)
 
 pub admits-archive-spec : {M : Type 1} → statement M
 admits-archive-spec =

@@ -1,3 +1,4 @@
+use Rattle.admitting.proofs.Laws.{key-is}
 use borrow.Author.Needs.{needs}
 use Rattle.admitting.proofs.admits_key.Statement.{statement}
 use Rattle.admitting.proofs.admits_key.Tie as tie
@@ -24,7 +25,7 @@ same-bytes-requires : tie.Need-same-bytes-requires
 same-bytes-requires c κs = search needs
 
 returns : tie.Need-returns
-returns c = cc
+returns c = search (needs, key-is)
 
 pub admits-key-spec : {M : Type 1} → statement M
 admits-key-spec =

@@ -1,3 +1,4 @@
+use Rattle.admitting.proofs.Laws.{tighter-is}
 use borrow.Author.Needs.{needs}
 use Rattle.admitting.proofs.is_tighter.Statement.{statement}
 use Rattle.admitting.proofs.is_tighter.Tie as tie
@@ -33,7 +34,12 @@ time-answers-requires : tie.Need-time-answers-requires
 time-answers-requires c κs = search needs
 
 returns : tie.Need-returns
-returns c = cc
+returns c =
+    let e = c .before in
+    let b = e .before in
+    let s = b .before .before .before .before .before in
+    let a = s .before .before .before .before .before .args in
+    tighter-is (a .new .now) (a .old .now) _ _ _ _ _ _ (s .before .before .be16 .ensures) (s .before .be162 .ensures) (s .subset16 .ensures) (b .be32 .ensures) (e .be322 .ensures) (c .time-answers .ensures)
 
 pub is-tighter-spec : {M : Type 1} → statement M
 is-tighter-spec =
