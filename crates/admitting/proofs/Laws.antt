@@ -6,12 +6,12 @@ use mathlib.Core.Path.{_≡_, refl, sym, _∙_, ap}
 use mathlib.Core.Bool.{Bool, true, false, not, _&&_, _||_}
 use borrow.Author.Tests.{eq-eqb, ne-eqb, not-true, not-false}
 use lib.ListN.{length, drop, getD}
-use lib.Dec.{eqb, leb}
+use lib.Dec.{eqb}
 use lib.Pow.{pow-mono}
-use Rattle.rules.specs.Basics.{Bytes, any, same, bit, within, part, number, byte, kind, flag, optional, present, matches, records}
+use Rattle.rules.specs.Basics.{Bytes, any, same, bit, part, number, byte, kind, flag, optional, present, matches, records}
 use Rattle.rules.specs.Acl.{Parameters, parametersOf, blobRuleOf, archiveRuleOf, actionOf, Action, actionsOf}
 use Rattle.rules.specs.Request.{tokenOf, workingBlobOf, recoveryBlobOf, wantedOf}
-use Rattle.rules.specs.Grant.{timeAnswers, tighter, meets, nullKey, admitsDirect, admitsToken, admitsKey, admitsBlob, admitsArchive, admitsUse, admitsWorking, admitsRecovery, admits}
+use Rattle.rules.specs.Grant.{tighter, meets, nullKey, admitsDirect, admitsToken, admitsKey, admitsBlob, admitsArchive, admitsUse, admitsWorking, admitsRecovery, admits}
 use Rattle.rules.proofs.Rows.{recordsFrom, lentRecord}
 use Rattle.groups.proofs.Laws.{acts-step, acts-end}
 
@@ -54,21 +54,6 @@ pub token-is : (act key rec : Bytes) (f g m n z w : Bool) → f ≡ flag 3 act �
     → n ≡ meets (optional g (parametersOf (part 44 8 act))) (parametersOf (part 44 8 rec)) → z ≡ same key nullKey → w ≡ flag 5 act
     → (m && n && (not z || w)) ≡ admitsToken (blobRuleOf act) key (tokenOf rec)
 token-is act key rec f g m n z w a b c d e h = rw (b, a, d, c, e, h)
-
--- the module key of a blob
-pub key-is : (km0 act key : Bytes) (f g m s : Bool) → f ≡ flag 2 act → m ≡ matches (optional f (part 4 20 act)) key → g ≡ flag 1 act → s ≡ same key km0
-    → (m && (g || s)) ≡ admitsKey km0 (blobRuleOf act) key
-key-is km0 act key f g m s a b c d = rw (b, a, c, d)
-
--- token parameters against others
-pub tighter-is : (new old : Bytes) (a b x y : ℕ) (s t : Bool) → a ≡ number 0 2 new → b ≡ number 0 2 old → s ≡ within 16 a b → x ≡ number 4 4 new → y ≡ number 4 4 old
-    → t ≡ timeAnswers x y → (s && leb (byte 2 old) (byte 2 new) && leb (byte 3 new) (byte 3 old) && t) ≡ tighter (parametersOf new) (parametersOf old)
-tighter-is new old a b x y s t c d e f g h = rw (e, c, d, h, f, g)
-
--- a recovery blob
-pub archive-is : (act rec : Bytes) (x y : ℕ) (f m : Bool) → x ≡ number 24 2 act → y ≡ number 24 2 rec → f ≡ flag 0 act → m ≡ matches (optional f (part 4 20 act)) (part 4 20 rec)
-    → (eqb x y && m) ≡ admitsArchive (archiveRuleOf act) (recoveryBlobOf rec)
-archive-is act rec x y f m a b c d = rw (a, b, d, c)
 
 -- An action by its kind, against what a request record asks for.
 high-bit : (p n : ℕ) → n < 65536 → 16 ≤ p → bit p n ≡ false

@@ -1,4 +1,4 @@
-use Rattle.admitting.proofs.Laws.{archive-is}
+use Rattle.admitting.proofs.Tests.{archive-is}
 use borrow.Author.Needs.{needs}
 use Rattle.admitting.proofs.admits_archive.Statement.{statement}
 use Rattle.admitting.proofs.admits_archive.Tie as tie

@@ -1,4 +1,4 @@
-use Rattle.admitting.proofs.Laws.{key-is}
+use Rattle.admitting.proofs.Tests.{key-is}
 use borrow.Author.Needs.{needs}
 use Rattle.admitting.proofs.admits_key.Statement.{statement}
 use Rattle.admitting.proofs.admits_key.Tie as tie

@@ -1,4 +1,4 @@
-use Rattle.admitting.proofs.Laws.{tighter-is}
+use Rattle.admitting.proofs.Tests.{tighter-is}
 use borrow.Author.Needs.{needs}
 use Rattle.admitting.proofs.is_tighter.Statement.{statement}
 use Rattle.admitting.proofs.is_tighter.Tie as tie

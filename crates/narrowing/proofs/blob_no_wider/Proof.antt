@@ -1,3 +1,4 @@
+use Rattle.rules.proofs.Choices.{and-is}
 use borrow.Author.Needs.{needs}
 use Rattle.narrowing.proofs.blob_no_wider.Statement.{statement}
 use Rattle.narrowing.proofs.blob_no_wider.Tie as tie
@@ -21,7 +22,14 @@ parameters-kept-requires : tie.Need-parameters-kept-requires
 parameters-kept-requires c κs = search needs
 
 returns : tie.Need-returns
-returns c = cc
+returns c =
+    let h = c .before in
+    let g = h .before in
+    let f = g .before in
+    let e = f .before in
+    let flags = and-is _ _ _ _ (and-is _ _ _ _ (e .before .not-added .ensures) (e .not-added2 .ensures)) (f .not-added3 .ensures) in
+    let hashes = and-is _ _ _ _ (and-is _ _ _ _ flags (g .hash-kept .ensures)) (h .hash-kept2 .ensures) in
+    and-is _ _ _ _ hashes (c .parameters-kept .ensures)
 
 pub blob-no-wider-spec : {M : Type 1} → statement M
 blob-no-wider-spec =

@@ -1,4 +1,4 @@
-use Rattle.rules.specs.Narrow.{answers}
+use Rattle.narrowing.proofs.Tests.{answers-is}
 use borrow.Author.Needs.{needs}
 use Rattle.narrowing.proofs.limit_answers.Statement.{statement}
 use Rattle.narrowing.proofs.limit_answers.Tie as tie
@@ -22,8 +22,9 @@ be32-requires-2 : tie.Need-be32-requires-2
 be32-requires-2 c κs = search needs
 
 returns : tie.Need-returns
-unfolding answers
-returns c = cc
+returns c =
+    let a = c .before .before .before .before .before .before .before .before .args in
+    answers-is (a .old .now) (a .new .now) _ _ (c .before .be32 .ensures) (c .be322 .ensures)
 
 pub limit-answers-spec : {M : Type 1} → statement M
 limit-answers-spec =

@@ -1,3 +1,4 @@
+use Rattle.narrowing.proofs.Tests.{allowed-is}
 use borrow.Author.Needs.{needs}
 use Rattle.narrowing.proofs.not_added.Statement.{statement}
 use Rattle.narrowing.proofs.not_added.Tie as tie
@@ -9,7 +10,7 @@ flag-of-requires-2 : tie.Need-flag-of-requires-2
 flag-of-requires-2 c κs = search needs
 
 returns : tie.Need-returns
-returns c = cc
+returns c = allowed-is _ _ _ _ (c .before .flag-of .ensures) (c .flag-of2 .ensures)
 
 pub not-added-spec : {M : Type 1} → statement M
 not-added-spec = tie.close (tie.spec flag-of-requires flag-of-requires-2 returns)
