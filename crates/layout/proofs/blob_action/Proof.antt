@@ -1,3 +1,4 @@
+use Rattle.rules.proofs.Choices.{and-is}
 use Rattle.rules.specs.Layout.{blobActionLaidOut}
 use borrow.Author.Needs.{needs}
 use Rattle.layout.proofs.blob_action.Statement.{statement}
@@ -20,7 +21,12 @@ zero-part-requires c κs = search needs
 
 returns : tie.Need-returns
 unfolding blobActionLaidOut
-returns c = cc
+returns c =
+    let t = c .before in
+    let z = t .before in
+    let y = z .before in
+    let front = and-is _ _ _ _ (and-is _ _ _ _ (y .before .plain-header .ensures) (y .zero-unless .ensures)) (z .zero-unless2 .ensures) in
+    and-is _ _ _ _ (and-is _ _ _ _ front (t .token-parameters-if .ensures)) (c .zero-part .ensures)
 
 pub blob-action-spec : {M : Type 1} → statement M
 blob-action-spec =

@@ -1,3 +1,7 @@
+use mathlib.Core.Path.{ap}
+use mathlib.Core.Bool.{Bool, _&&_}
+use lib.Dec.{eqb}
+use Rattle.rules.specs.Basics.{kind, byte}
 use Rattle.rules.specs.Request.{useOf}
 use borrow.Author.Needs.{needs}
 use Rattle.request.proofs.use_record.Statement.{statement}
@@ -14,7 +18,9 @@ shared-slice-read-result-2 c = search needs
 
 returns : tie.Need-returns
 unfolding useOf
-returns c = cc
+returns c =
+    let a = c .before .before .before .before .args in
+    ap (λ (b : Bool). eqb (kind (a .rec .now)) 6 && b && eqb (byte 4 (a .rec .now)) (a .p)) (c .before .use-request .ensures)
 
 pub use-record-spec : {M : Type 1} → statement M
 use-record-spec =
