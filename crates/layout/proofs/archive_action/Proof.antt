@@ -1,3 +1,4 @@
+use Rattle.rules.proofs.Choices.{and-is}
 use Rattle.rules.specs.Layout.{archiveActionLaidOut}
 use borrow.Author.Needs.{needs}
 use Rattle.layout.proofs.archive_action.Statement.{statement}
@@ -17,7 +18,10 @@ zero-part-requires c κs = search needs
 
 returns : tie.Need-returns
 unfolding archiveActionLaidOut
-returns c = cc
+returns c =
+    let b = c .before in
+    let d = b .before in
+    and-is _ _ _ _ (and-is _ _ _ _ (and-is _ _ _ _ (d .before .plain-header .ensures) (d .zero-unless .ensures)) (b .mechanism-at .ensures)) (c .zero-part .ensures)
 
 pub archive-action-spec : {M : Type 1} → statement M
 archive-action-spec =

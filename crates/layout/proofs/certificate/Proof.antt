@@ -1,3 +1,4 @@
+use Rattle.rules.proofs.Choices.{and-is}
 use Rattle.rules.specs.Layout.{certificateLaidOut}
 use borrow.Author.Needs.{needs}
 use Rattle.layout.proofs.certificate.Statement.{statement}
@@ -14,7 +15,9 @@ zero-part-requires c κs = search needs
 
 returns : tie.Need-returns
 unfolding certificateLaidOut
-returns c = cc
+returns c =
+    let b = c .before in
+    and-is _ _ _ _ (and-is _ _ _ _ (b .before .plain-header .ensures) (b .mechanism-at .ensures)) (c .zero-part .ensures)
 
 pub certificate-spec : {M : Type 1} → statement M
 certificate-spec =

@@ -1,4 +1,4 @@
-use Rattle.rules.specs.Layout.{factLaidOut}
+use Rattle.layout.proofs.Tests.{fact-is}
 use borrow.Author.Needs.{needs}
 use Rattle.layout.proofs.fact.Statement.{statement}
 use Rattle.layout.proofs.fact.Tie as tie
@@ -16,8 +16,7 @@ zero-part-requires-2 : tie.Need-zero-part-requires-2
 zero-part-requires-2 c κs = search needs
 
 returns : tie.Need-returns
-unfolding factLaidOut
-returns c = cc
+returns c = search (needs, fact-is)
 
 pub fact-spec : {M : Type 1} → statement M
 fact-spec =

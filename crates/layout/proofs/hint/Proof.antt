@@ -1,3 +1,4 @@
+use Rattle.rules.proofs.Choices.{and-is}
 use Rattle.rules.specs.Layout.{hintLaidOut}
 use borrow.Author.Needs.{needs}
 use Rattle.layout.proofs.hint.Statement.{statement}
@@ -14,7 +15,9 @@ zero-part-requires-2 c κs = search needs
 
 returns : tie.Need-returns
 unfolding hintLaidOut
-returns c = cc
+returns c =
+    let b = c .before in
+    and-is _ _ _ _ (and-is _ _ _ _ (b .before .plain-header .ensures) (b .zero-part .ensures)) (c .zero-part2 .ensures)
 
 pub hint-spec : {M : Type 1} → statement M
 hint-spec =

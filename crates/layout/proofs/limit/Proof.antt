@@ -1,4 +1,4 @@
-use Rattle.rules.specs.Layout.{limitLaidOut}
+use Rattle.layout.proofs.Tests.{limit-is}
 use borrow.Author.Needs.{needs}
 use Rattle.layout.proofs.limit.Statement.{statement}
 use Rattle.layout.proofs.limit.Tie as tie
@@ -22,8 +22,7 @@ zero-part-requires-2 : tie.Need-zero-part-requires-2
 zero-part-requires-2 c κs = search needs
 
 returns : tie.Need-returns
-unfolding limitLaidOut
-returns c = cc
+returns c = search (needs, limit-is)
 
 pub limit-spec : {M : Type 1} → statement M
 limit-spec =

@@ -1,3 +1,4 @@
+use Rattle.rules.proofs.Choices.{and-is}
 use Rattle.rules.specs.Layout.{permissionsLaidOut}
 use borrow.Author.Needs.{needs}
 use Rattle.layout.proofs.permissions.Statement.{statement}
@@ -11,7 +12,7 @@ zero-part-requires c κs = search needs
 
 returns : tie.Need-returns
 unfolding permissionsLaidOut
-returns c = cc
+returns c = and-is _ _ _ _ (c .before .plain-header .ensures) (c .zero-part .ensures)
 
 pub permissions-spec : {M : Type 1} → statement M
 permissions-spec = tie.close (tie.spec plain-header-requires zero-part-requires returns)

@@ -1,4 +1,4 @@
-use Rattle.rules.specs.Layout.{policyLaidOut}
+use Rattle.layout.proofs.Tests.{policy-is}
 use borrow.Author.Needs.{needs}
 use Rattle.layout.proofs.policy.Statement.{statement}
 use Rattle.layout.proofs.policy.Tie as tie
@@ -22,8 +22,7 @@ zero-part-requires : tie.Need-zero-part-requires
 zero-part-requires c κs = search needs
 
 returns : tie.Need-returns
-unfolding policyLaidOut
-returns c = cc
+returns c = search (needs, policy-is)
 
 pub policy-spec : {M : Type 1} → statement M
 policy-spec =

@@ -1,4 +1,4 @@
-use Rattle.rules.specs.Layout.{signatureLaidOut}
+use Rattle.layout.proofs.Tests.{signature-is}
 use borrow.Author.Needs.{needs}
 use Rattle.layout.proofs.signature.Statement.{statement}
 use Rattle.layout.proofs.signature.Tie as tie
@@ -16,8 +16,7 @@ zero-part-requires : tie.Need-zero-part-requires
 zero-part-requires c κs = search needs
 
 returns : tie.Need-returns
-unfolding signatureLaidOut
-returns c = cc
+returns c = search (needs, signature-is)
 
 pub signature-spec : {M : Type 1} → statement M
 signature-spec =

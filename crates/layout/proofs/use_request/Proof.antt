@@ -1,4 +1,4 @@
-use Rattle.rules.specs.Layout.{useLaidOut}
+use Rattle.layout.proofs.Tests.{use-is}
 use borrow.Author.Needs.{needs}
 use Rattle.layout.proofs.use_request.Statement.{statement}
 use Rattle.layout.proofs.use_request.Tie as tie
@@ -13,8 +13,7 @@ zero-part-requires : tie.Need-zero-part-requires
 zero-part-requires c κs = search needs
 
 returns : tie.Need-returns
-unfolding useLaidOut
-returns c = cc
+returns c = search (needs, use-is)
 
 pub use-request-spec : {M : Type 1} → statement M
 use-request-spec =
