@@ -103,7 +103,7 @@ typedef struct {
     uint64_t number;
 } akubolinfe_written;
 
-/* The subject of world certificate 3, 4 or 5 under a suite 1 to 4, at the front of the buffer. */
+/* The subject of world certificate 3, 4 or 5 under a suite 1 to 5, at the front of the buffer. */
 akubolinfe_written akubolinfe_subject(uint64_t certificate, uint64_t suite, const uint8_t *hashes, size_t hashes_length,
                                       uint8_t *buffer, size_t buffer_length);
 

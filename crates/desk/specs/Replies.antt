@@ -66,7 +66,7 @@ abbrev pub verdictFrom : Failure → Acceptance → Verdict
 verdictFrom Nothing a = Accepted a
 verdictFrom (At s) a = Failed s
 
--- "suite not 1 to 4"
+-- "suite not 1 to 4", and with document 02 not 1 to 5
 unfoldable pub suiteFault : List Bytes → Option ℕ
 suiteFault b = firstFault (unless (isSuite (policyOf b .suite)) numbers.unknownSuite ∷ [])
 

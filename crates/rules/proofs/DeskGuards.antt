@@ -95,6 +95,7 @@ pub record StepRows : Type 0 where
   pub rb1 : desk (damaged (signatureAt 5) []) fine ≡ failed RB1
   pub rb2 : desk whole (openGroup ++ rec (5 ∷ 0 ∷ 0 ∷ 1 ∷ [] ++ hash 6 ++ (0 ∷ 2 ∷ []))) ≡ failed RB2
   pub rb3 : desk whole (openGroup ++ rec (5 ∷ 0 ∷ 0 ∷ 1 ∷ [] ++ hash 7 ++ (0 ∷ 1 ∷ []))) ≡ failed RB3
+  pub rb3-suite-5 : desk (damaged policyAt (policy 5 2 7 1)) fine ≡ failed RB3
   pub kv3 : desk (damaged policyAt (policy 3 2 7 4)) fine ≡ failed KV3
 
 pub step-rows : StepRows
@@ -127,6 +128,7 @@ step-rows =
       rb1 = refl;
       rb2 = refl;
       rb3 = refl;
+      rb3-suite-5 = refl;
       kv3 = refl;
     }
 
@@ -168,6 +170,7 @@ pub record GradeRows : Type 0 where
   pub trusted-by-4-alone : desk (damaged (signatureAt 3) []) fine ≡ graded 3 true
   pub trusted-by-3-alone : desk (damaged (signatureAt 4) []) fine ≡ graded 3 true
   pub no-csr : desk (damage 10 [] (damaged policyAt (policy 3 2 3 1))) fine ≡ graded 3 true
+  pub suite-5 : desk (damaged policyAt (policy 5 2 7 1)) (openGroup ++ rec (5 ∷ 0 ∷ 0 ∷ 1 ∷ [] ++ hash 7 ++ (0 ∷ 4 ∷ []))) ≡ graded 4 true
 
 pub grade-rows : GradeRows
 unfolding computing
@@ -180,6 +183,7 @@ grade-rows =
       trusted-by-4-alone = refl;
       trusted-by-3-alone = refl;
       no-csr = refl;
+      suite-5 = refl;
     }
 
 -- "1 over all inputs, then records from the first .. (desk: bundle, ACL) .. suite 11 after that".

@@ -34,20 +34,23 @@ three = hash 1 ++ hash 2 ++ hash 3
 abbrev four : Bytes
 four = three ++ hash 4
 
--- "Total lengths (the reply), suites 1 to 4"; "Bytes past the length stay."
+-- "Total lengths (the reply), suites 1 to 4", and suite 5 of document 02; "Bytes past the length stay."
 pub record SubjectRows : Type 0 where
   pub certificate-3-suite-1 : writes 3 1 three 140 ≡ wrote 72 "Module keys" three 68
   pub certificate-3-suite-2 : writes 3 2 three 140 ≡ wrote 90 "Module keys: KM type Rijndael" three 50
   pub certificate-3-suite-3 : writes 3 3 three 140 ≡ wrote 102 "Module keys: suite = DLf3072s256mRijndael" three 38
   pub certificate-3-suite-4 : writes 3 4 three 140 ≡ wrote 109 "Module keys: suite = DLf3072s256mAEScSP800131Ar1" three 31
+  pub certificate-3-suite-5 : writes 3 5 three 140 ≡ wrote 92 "Module keys: suite = ECp521mAES" three 48
   pub certificate-4-suite-1 : writes 4 1 four 140 ≡ wrote 100 "Module setup, FIPS3" four 40
   pub certificate-4-suite-2 : writes 4 2 four 140 ≡ wrote 118 "Module setup, FIPS3; KM type Rijndael" four 22
   pub certificate-4-suite-3 : writes 4 3 four 140 ≡ wrote 130 "Module setup, FIPS3; suite = DLf3072s256mRijndael" four 10
   pub certificate-4-suite-4 : writes 4 4 four 140 ≡ wrote 137 "Module setup, FIPS3; suite = DLf3072s256mAEScSP800131Ar1" four 3
+  pub certificate-4-suite-5 : writes 4 5 four 140 ≡ wrote 120 "Module setup, FIPS3; suite = ECp521mAES" four 20
   pub certificate-5-suite-1 : writes 5 1 three 140 ≡ wrote 74 "Card Recovery" three 66
   pub certificate-5-suite-2 : writes 5 2 three 140 ≡ wrote 74 "Card Recovery" three 66
   pub certificate-5-suite-3 : writes 5 3 three 140 ≡ wrote 74 "Card Recovery" three 66
   pub certificate-5-suite-4 : writes 5 4 three 140 ≡ wrote 74 "Card Recovery" three 66
+  pub certificate-5-suite-5 : writes 5 5 three 140 ≡ wrote 74 "Card Recovery" three 66
   pub buffer-just-long : writes 3 1 three 72 ≡ wrote 72 "Module keys" three 0
 
 pub subject-rows : SubjectRows
@@ -58,14 +61,17 @@ subject-rows =
       certificate-3-suite-2 = refl;
       certificate-3-suite-3 = refl;
       certificate-3-suite-4 = refl;
+      certificate-3-suite-5 = refl;
       certificate-4-suite-1 = refl;
       certificate-4-suite-2 = refl;
       certificate-4-suite-3 = refl;
       certificate-4-suite-4 = refl;
+      certificate-4-suite-5 = refl;
       certificate-5-suite-1 = refl;
       certificate-5-suite-2 = refl;
       certificate-5-suite-3 = refl;
       certificate-5-suite-4 = refl;
+      certificate-5-suite-5 = refl;
       buffer-just-long = refl;
     }
 

@@ -104,6 +104,13 @@ fn write_module_keys(header: Header, total: usize, hashes: &[u8], buffer: &mut [
             hashes,
             buffer,
         ),
+        Header::Ecp521Aes => write_headed(
+            b"Module keys: suite = ECp521mAES\0",
+            3,
+            total,
+            hashes,
+            buffer,
+        ),
     }
 }
 
@@ -131,6 +138,13 @@ fn write_module_setup(header: Header, total: usize, hashes: &[u8], buffer: &mut 
         ),
         Header::Dlf3072Aes => write_headed(
             b"Module setup, FIPS3; suite = DLf3072s256mAEScSP800131Ar1\0",
+            4,
+            total,
+            hashes,
+            buffer,
+        ),
+        Header::Ecp521Aes => write_headed(
+            b"Module setup, FIPS3; suite = ECp521mAES\0",
             4,
             total,
             hashes,

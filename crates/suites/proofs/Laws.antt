@@ -8,9 +8,9 @@ use Rattle.rules.specs.Suites as rules
 use Rattle.suites.specs.Calls.{Answer, calls, refuses, callsOf, calledFor, Measured}
 
 -- no arm of the match was taken
-pub no-suite : (n : ℕ) → (n ≡ 1 → ⊥) → (n ≡ 2 → ⊥) → (n ≡ 3 → ⊥) → (n ≡ 4 → ⊥) → refuses unknownSuite ≡ calledFor n
+pub no-suite : (n : ℕ) → (n ≡ 1 → ⊥) → (n ≡ 2 → ⊥) → (n ≡ 3 → ⊥) → (n ≡ 4 → ⊥) → (n ≡ 5 → ⊥) → refuses unknownSuite ≡ calledFor n
 unfolding calledFor rules.suite
-no-suite n a b c d = rw (ne-eqb n 1 a, ne-eqb n 2 b, ne-eqb n 3 c, ne-eqb n 4 d)
+no-suite n a b c d e = rw (ne-eqb n 1 a, ne-eqb n 2 b, ne-eqb n 3 c, ne-eqb n 4 d, ne-eqb n 5 e)
 
 -- what an answer calls for, read back
 abbrev pub suiteIn : Answer → Option rules.Suite

@@ -10,7 +10,7 @@ use Rattle.rules.specs.Basics.{ascii}
 use Rattle.rules.specs.Suites as rules
 use Rattle.files.specs.Refusals.{refusalNumber}
 use Rattle.suites.specs.declared.Header.{Header}
-use Rattle.suites.specs.declared.Header.the-variants.{Plain, TypeRijndael, Dlf3072Rijndael, Dlf3072Aes}
+use Rattle.suites.specs.declared.Header.the-variants.{Plain, TypeRijndael, Dlf3072Rijndael, Dlf3072Aes, Ecp521Aes}
 use Rattle.suites.specs.declared.Suite.{Suite}
 use Rattle.suites.specs.declared.Lookup.{Lookup}
 use Rattle.suites.specs.declared.Lookup.the-variants.{Known, Refused}
@@ -32,6 +32,7 @@ keysText Plain = "Module keys\0"
 keysText TypeRijndael = "Module keys: KM type Rijndael\0"
 keysText Dlf3072Rijndael = "Module keys: suite = DLf3072s256mRijndael\0"
 keysText Dlf3072Aes = "Module keys: suite = DLf3072s256mAEScSP800131Ar1\0"
+keysText Ecp521Aes = "Module keys: suite = ECp521mAES\0"
 
 -- .. of certificate 4
 abbrev pub setupText : Header → String
@@ -39,6 +40,7 @@ setupText Plain = "Module setup, FIPS3\0"
 setupText TypeRijndael = "Module setup, FIPS3; KM type Rijndael\0"
 setupText Dlf3072Rijndael = "Module setup, FIPS3; suite = DLf3072s256mRijndael\0"
 setupText Dlf3072Aes = "Module setup, FIPS3; suite = DLf3072s256mAEScSP800131Ar1\0"
+setupText Ecp521Aes = "Module setup, FIPS3; suite = ECp521mAES\0"
 
 -- the suite that the code's struct stands for
 abbrev pub suiteAs : Suite → rules.Suite

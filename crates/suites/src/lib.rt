@@ -9,6 +9,7 @@ pub enum Header {
     TypeRijndael,
     Dlf3072Rijndael,
     Dlf3072Aes,
+    Ecp521Aes,
 }
 
 // What a suite calls for: its recovery mechanism, the choice of the header texts, and the total lengths of the subjects of certificates 3 and 4.
@@ -53,6 +54,12 @@ pub fn suite_of(n: u64) -> Lookup
             header: Header::Dlf3072Aes,
             keys: 109,
             setup: 137,
+        }),
+        5 => Lookup::Known(Suite {
+            mechanism: 4,
+            header: Header::Ecp521Aes,
+            keys: 92,
+            setup: 120,
         }),
         _ => Lookup::Refused(Refusal::UnknownSuite),
     }

@@ -1,20 +1,43 @@
--- The nine total lengths of document 01: "suites 1 to 4: certificate 3: 72, 90, 102, 109; certificate 4: 100, 118, 130, 137; certificate 5: 74." Two
--- wrong products that this rules out: a header without its zero byte, and a header of suite 2 under suite 3.
-use Prim.Native.Nat.{ℕ}
+-- The suites and the total lengths of subjects: "suites 1 to 4: certificate 3: 72, 90, 102, 109; certificate 4: 100, 118, 130, 137; certificate 5: 74."
+-- and of suite 5 "92 bytes for certificate 3, 120 for certificate 4". Two wrong products that this rules out: a header without its zero byte, and a
+-- header of suite 2 under suite 3.
+use Prim.Native.Nat.{ℕ, zero, suc}
+use native.Mathlib.Omega.{arith}
 use mathlib.Core.Path.{_≡_, refl}
 use mathlib.Core.List.{List, [], _∷_, map}
+use mathlib.Core.Option.{some}
 use lib.ListN.{replicate}
+use borrow.Author.Tests.{ne-eqb, le-leb, lt-leb}
 use Rattle.rules.specs.Basics.{ascii, firstFault}
-use Rattle.rules.specs.Suites.{suite}
+use Rattle.rules.specs.Layout.{between}
+use Rattle.rules.specs.Suites.{suite, isSuite, suiteMechanism}
 use Rattle.rules.specs.Subject.{SubjectReply, written, hashesBytes, subject, subjectFault, subjectReply}
 
--- the replies to a certificate under suites 1 to 4, with hashes of the length that is due and a buffer that holds any subject
+-- "Refusal 11 now means not 1 to 5": every number from 1 to 5 is a suite's, and no other is
+pub suite-numbers : (n : ℕ) → isSuite n ≡ between 1 5 n
+unfolding suite
+suite-numbers zero = refl
+suite-numbers (suc zero) = refl
+suite-numbers (suc (suc zero)) = refl
+suite-numbers (suc (suc (suc zero))) = refl
+suite-numbers (suc (suc (suc (suc zero)))) = refl
+suite-numbers (suc (suc (suc (suc (suc zero))))) = refl
+suite-numbers (suc (suc (suc (suc (suc (suc n)))))) =
+    let m : ℕ = suc (suc (suc (suc (suc (suc n))))) in
+    rw (ne-eqb m 1 (λ e. omega arith), ne-eqb m 2 (λ e. omega arith), ne-eqb m 3 (λ e. omega arith), ne-eqb m 4 (λ e. omega arith), ne-eqb m 5 (λ e. omega arith), le-leb 1 m (omega arith), lt-leb m 5 (omega arith))
+
+-- "Mech_RSApPKCS1 (number 1); .. (2); .. (3)", "mechanism number 4": the mechanisms that RB3 and demand 3 go by
+pub suite-mechanisms : map suiteMechanism (1 ∷ 2 ∷ 3 ∷ 4 ∷ 5 ∷ []) ≡ map some (1 ∷ 2 ∷ 2 ∷ 3 ∷ 4 ∷ [])
+unfolding suite
+suite-mechanisms = refl
+
+-- the replies to a certificate under suites 1 to 5, with hashes of the length that is due and a buffer that holds any subject
 abbrev pub replies : ℕ → List SubjectReply
 replies certificate =
-    map (λ n. subjectReply certificate n (replicate (hashesBytes certificate) 9) (replicate 137 8)) (1 ∷ 2 ∷ 3 ∷ 4 ∷ [])
+    map (λ n. subjectReply certificate n (replicate (hashesBytes certificate) 9) (replicate 137 8)) (1 ∷ 2 ∷ 3 ∷ 4 ∷ 5 ∷ [])
 
-pub subject-lengths : (replies 3 ≡ map written (72 ∷ 90 ∷ 102 ∷ 109 ∷ []))
-    × (replies 4 ≡ map written (100 ∷ 118 ∷ 130 ∷ 137 ∷ []))
-    × (replies 5 ≡ map written (74 ∷ 74 ∷ 74 ∷ 74 ∷ []))
+pub subject-lengths : (replies 3 ≡ map written (72 ∷ 90 ∷ 102 ∷ 109 ∷ 92 ∷ []))
+    × (replies 4 ≡ map written (100 ∷ 118 ∷ 130 ∷ 137 ∷ 120 ∷ []))
+    × (replies 5 ≡ map written (74 ∷ 74 ∷ 74 ∷ 74 ∷ 74 ∷ []))
 unfolding ascii firstFault suite subject subjectFault subjectReply
 subject-lengths = (refl, refl, refl)

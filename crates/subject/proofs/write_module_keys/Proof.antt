@@ -1,5 +1,5 @@
 use Rattle.rules.specs.Basics.{ascii}
-use Rattle.suites.specs.declared.Header.the-variants.{Plain, TypeRijndael, Dlf3072Rijndael, Dlf3072Aes}
+use Rattle.suites.specs.declared.Header.the-variants.{Plain, TypeRijndael, Dlf3072Rijndael, Dlf3072Aes, Ecp521Aes}
 use Rattle.suites.specs.Calls.{keysText}
 use Rattle.subject.proofs.Laws.{measured-at}
 use borrow.Author.Needs.{needs}
@@ -54,6 +54,18 @@ write-headed-requires-4 c κs =
     let told = c .before .before in
     (search needs, measured-at keysText 3 _ _ Dlf3072Aes (told .before .before .before .before .pre) (told .enum-told4 .given .1))
 
+enum-told-5 : tie.Need-enum-told-5
+enum-told-5 c = search needs
+
+slice-aggregate-write-headed-5 : tie.Need-slice-aggregate-write-headed-5
+slice-aggregate-write-headed-5 c = search needs
+
+write-headed-requires-5 : tie.Need-write-headed-requires-5
+unfolding ascii
+write-headed-requires-5 c κs =
+    let told = c .before .before in
+    (search needs, measured-at keysText 3 _ _ Ecp521Aes (told .before .before .before .before .pre) (told .enum-told5 .given .1))
+
 same-length : tie.Need-same-length
 same-length c = search needs
 
@@ -90,6 +102,15 @@ returns-4 c =
     let done = c .before .before in
     rw (done .before .before .before .enum-told4 .given .1) (done .write-headed4 .ensures)
 
+same-length-5 : tie.Need-same-length-5
+same-length-5 c = search needs
+
+returns-5 : tie.Need-returns-5
+unfolding ascii
+returns-5 c =
+    let done = c .before .before in
+    rw (done .before .before .before .enum-told5 .given .1) (done .write-headed5 .ensures)
+
 pub write-module-keys-spec : {M : Type 1} → statement M
 write-module-keys-spec =
     tie.close
@@ -106,6 +127,9 @@ write-module-keys-spec =
     enum-told-4
     slice-aggregate-write-headed-4
     write-headed-requires-4
+    enum-told-5
+    slice-aggregate-write-headed-5
+    write-headed-requires-5
     same-length
     returns
     same-length-2
@@ -113,4 +137,6 @@ write-module-keys-spec =
     same-length-3
     returns-3
     same-length-4
-    returns-4)
+    returns-4
+    same-length-5
+    returns-5)

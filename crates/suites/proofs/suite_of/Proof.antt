@@ -23,7 +23,11 @@ unfolding calledFor suite ascii
 returns-4 c = rw (c .match .keys4)
 
 returns-5 : tie.Need-returns-5
-returns-5 c = search (needs, no-suite)
+unfolding calledFor suite ascii
+returns-5 c = rw (c .match .keys5)
+
+returns-6 : tie.Need-returns-6
+returns-6 c = search (needs, no-suite)
 
 pub suite-of-spec : {M : Type 1} → statement M
-suite-of-spec = tie.close (tie.spec returns returns-2 returns-3 returns-4 returns-5)
+suite-of-spec = tie.close (tie.spec returns returns-2 returns-3 returns-4 returns-5 returns-6)
