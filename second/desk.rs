@@ -549,10 +549,26 @@ mod tests {
     #[test]
     fn an_unknown_suite_comes_after_every_record() {
         let mut bundle = good_bundle();
-        bundle.policy.suite = 5;
+        bundle.policy.suite = 6;
         let file = encode::bundle(&bundle);
         assert_eq!(attest(&file, &[]), Err(Refusal::NoSuchSuite));
         assert_eq!(attest(&file, &[0; 64]), Err(Refusal::Malformed));
+    }
+
+    #[test]
+    fn the_elliptic_curve_suite_calls_for_mechanism_4() {
+        let mut bundle = good_bundle();
+        bundle.policy.suite = 5;
+        let archive = |mechanism| {
+            one_group(vec![Action::MakeArchiveBlob {
+                kahash: Some([HKRE as u8; 20]),
+                mechanism,
+            }])
+        };
+        assert_eq!(verdict(&bundle, &archive(4)), accepted(4, true));
+        assert_eq!(verdict(&bundle, &archive(3)), Verdict::Fail("RB3"));
+        bundle.policy.suite = 4;
+        assert_eq!(verdict(&bundle, &archive(4)), Verdict::Fail("RB3"));
     }
 
     #[test]

@@ -349,7 +349,7 @@ impl Maker {
         }
         let policy = records.len() - 1;
         match self.random.below(17) {
-            0 | 1 => records[policy][4] = self.random.pick(&[0, 5, 6, 128, 255]),
+            0 | 1 => records[policy][4] = self.random.pick(&[0, 4, 5, 6, 7, 128, 255]),
             2 => records[policy][5] = self.random.pick(&[0, 1, 2, 3, 255]),
             3 => records[policy][6] ^= self.random.pick(&[1, 2, 4, 8, 16, 128]),
             4 => records[policy][7] = self.random.pick(&[0, 1, 4, 5, 255]),
@@ -375,7 +375,7 @@ impl Maker {
             12 | 13 => self.number_out_of_range(&mut records),
             _ => {
                 // An unknown suite beside a malformed or missing record.
-                records[policy][4] = self.random.pick(&[0, 5, 255]);
+                records[policy][4] = self.random.pick(&[0, 6, 255]);
                 if self.random.chance(50) {
                     records.swap(0, policy);
                 }

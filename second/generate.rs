@@ -302,7 +302,7 @@ impl Generator {
             },
         };
         if self.maker.random.chance(3) {
-            case.bundle.policy.suite = self.maker.random.pick(&[0, 5, 6, 128, 255]);
+            case.bundle.policy.suite = self.maker.random.pick(&[0, 6, 7, 128, 255]);
         }
         let mut call = Call::Desk {
             bundle: encode::bundle(&case.bundle),

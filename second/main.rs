@@ -1,5 +1,5 @@
 //! A second program for the permission gate, the attestation desk and the subject writer, written
-//! from document 01 alone, so that its answers can be compared with those of the proved program.
+//! from the papers alone, so that its answers can be compared with those of the proved program.
 //! See README.md.
 
 mod acl;

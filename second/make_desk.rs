@@ -10,7 +10,7 @@ use crate::desk::{
 };
 use crate::make_acl::{stock, Maker, ZERO_HASH};
 use crate::record::Hash;
-use crate::subject::recovery_mechanism;
+use crate::subject::{recovery_mechanism, LAST_SUITE};
 
 /// A bundle and the key's ACL.
 #[derive(Clone, Debug)]
@@ -93,7 +93,7 @@ impl Maker {
     fn passing_bundle(&mut self, approach: u8) -> Bundle {
         let bits = self.random.below(8) as u8;
         let policy = Policy {
-            suite: self.random.between(1, 4) as u8,
+            suite: self.random.between(1, LAST_SUITE) as u8,
             approach,
             bits,
             lowest_protection: 1,
@@ -415,7 +415,7 @@ impl Maker {
             ("RB2", 0) => kahash = None,
             ("RB2", _) => kahash = Some(self.near(hkre)),
             _ => {
-                let wrong: Vec<u16> = [1, 2, 3, 4, 256]
+                let wrong: Vec<u16> = [1, 2, 3, 4, 5, 256]
                     .into_iter()
                     .filter(|number| *number != mechanism)
                     .collect();
@@ -445,7 +445,7 @@ impl Maker {
             };
             Action::MakeArchiveBlob {
                 kahash,
-                mechanism: self.random.between(1, 3) as u16,
+                mechanism: self.random.between(1, 4) as u16,
             }
         };
         self.add_action(case, action);

@@ -3,12 +3,12 @@
 use crate::acl::{Acl, Sort, LAST_COUNTER};
 use crate::make_acl::Maker;
 use crate::script::{Call, LONGEST_BYTES};
-use crate::subject::{hashes_length, write_subject};
+use crate::subject::{hashes_length, write_subject, LAST_SUITE};
 
 impl Maker {
     pub fn subject_call(&mut self) -> Call {
         let certificate = self.number_near(3, 5);
-        let suite = self.number_near(1, 4);
+        let suite = self.number_near(1, LAST_SUITE);
         let right = hashes_length(certificate);
         let other = self.random.pick(&[0, 1, 20, 59, 60, 61, 79, 80, 81, 100]);
         let length = self.random.pick_weighted(&[(80, right), (20, other)]);

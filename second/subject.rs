@@ -2,6 +2,9 @@
 
 use crate::record::Refusal;
 
+/// Refusal 11: "suite not 1 to 5".
+pub const LAST_SUITE: u64 = 5;
+
 /// The recovery mechanism that each ciphersuite calls for.
 pub fn recovery_mechanism(suite: u64) -> Option<u16> {
     match suite {
@@ -11,21 +14,25 @@ pub fn recovery_mechanism(suite: u64) -> Option<u16> {
         2 | 3 => Some(2),
         // Mech_BlobCryptv3kRSAOAEPeAESCBC0dCTRCMACmSHA512HMAC
         4 => Some(3),
+        // BlobCryptv4kECDHeAESmCTRhSHA256mSHA256HMAC
+        LAST_SUITE => Some(4),
         _ => None,
     }
 }
 
-/// Document 001's header texts, zero byte included, for certificates 3 to 5 and suites 1 to 4.
+/// Document 001's header texts, zero byte included, for certificates 3 to 5 and suites 1 to 5.
 fn header(certificate: u64, suite: u64) -> &'static [u8] {
     match (certificate, suite) {
         (3, 1) => b"Module keys\0",
         (3, 2) => b"Module keys: KM type Rijndael\0",
         (3, 3) => b"Module keys: suite = DLf3072s256mRijndael\0",
-        (3, _) => b"Module keys: suite = DLf3072s256mAEScSP800131Ar1\0",
+        (3, 4) => b"Module keys: suite = DLf3072s256mAEScSP800131Ar1\0",
+        (3, _) => b"Module keys: suite = ECp521mAES\0",
         (4, 1) => b"Module setup, FIPS3\0",
         (4, 2) => b"Module setup, FIPS3; KM type Rijndael\0",
         (4, 3) => b"Module setup, FIPS3; suite = DLf3072s256mRijndael\0",
-        (4, _) => b"Module setup, FIPS3; suite = DLf3072s256mAEScSP800131Ar1\0",
+        (4, 4) => b"Module setup, FIPS3; suite = DLf3072s256mAEScSP800131Ar1\0",
+        (4, _) => b"Module setup, FIPS3; suite = ECp521mAES\0",
         _ => b"Card Recovery\0",
     }
 }
@@ -50,7 +57,7 @@ pub fn write_subject(
     if !(3..=5).contains(&certificate) {
         return Err(Refusal::NoSuchNumber);
     }
-    if !(1..=4).contains(&suite) {
+    if !(1..=LAST_SUITE).contains(&suite) {
         return Err(Refusal::NoSuchSuite);
     }
     if hashes.len() != hashes_length(certificate) {
@@ -77,15 +84,15 @@ mod tests {
     }
 
     #[test]
-    fn the_nine_lengths() {
+    fn the_lengths_of_all_suites() {
         let lengths = |certificate| {
-            [1, 2, 3, 4].map(|suite| {
+            [1, 2, 3, 4, 5].map(|suite| {
                 write_subject(certificate, suite, &hashes(certificate), &mut [0; 200]).unwrap()
             })
         };
-        assert_eq!(lengths(3), [72, 90, 102, 109]);
-        assert_eq!(lengths(4), [100, 118, 130, 137]);
-        assert_eq!(lengths(5), [74, 74, 74, 74]);
+        assert_eq!(lengths(3), [72, 90, 102, 109, 92]);
+        assert_eq!(lengths(4), [100, 118, 130, 137, 120]);
+        assert_eq!(lengths(5), [74, 74, 74, 74, 74]);
     }
 
     #[test]
@@ -96,6 +103,9 @@ mod tests {
             (4, 2, "Module setup, FIPS3; KM type Rijndael\0"),
             (4, 3, "Module setup, FIPS3; suite = DLf3072s256mRijndael\0"),
             (5, 3, "Card Recovery\0"),
+            (3, 5, "Module keys: suite = ECp521mAES\0"),
+            (4, 5, "Module setup, FIPS3; suite = ECp521mAES\0"),
+            (5, 5, "Card Recovery\0"),
         ] {
             let mut buffer = [0xee; 150];
             let length =
@@ -121,6 +131,10 @@ mod tests {
         );
         assert_eq!(
             write_subject(5, 0, &[], &mut buffer),
+            Err(Refusal::NoSuchSuite)
+        );
+        assert_eq!(
+            write_subject(5, 6, &[], &mut buffer),
             Err(Refusal::NoSuchSuite)
         );
         assert_eq!(
