@@ -8,7 +8,7 @@ use mathlib.Core.Bool.{Bool, true, false, not, _&&_, _||_}
 use lib.ListN.{length, getD, take, drop}
 use lib.Dec.{eqb, leb}
 use Rattle.rules.specs.Sizes.{recordBytes}
-use Rattle.rules.specs.Numbers.{malformed, tooMany}
+use Rattle.rules.specs.Numbers.{badLength, malformed, tooMany}
 
 -- a choice by a test
 infix 5 if_then_else_
@@ -164,3 +164,7 @@ eachFault fault rs = firstFault (map fault rs)
 unfoldable pub scan : {S F : Type 0} → (S → Bytes → Option F) → (S → Bytes → S) → (S → Option F) → S → List Bytes → Option F
 scan fault next end s [] = end s
 scan fault next end s (r ∷ rs) = orNext (fault s r) (scan fault next end (next s r) rs)
+
+-- A file by itself: "1 a file not whole records or over its greatest length", then its records from the first.
+unfoldable pub fileFault : ℕ → (List Bytes → Option ℕ) → Bytes → Option ℕ
+fileFault most fault file = firstFault (unless (fits most file) badLength ∷ fault (records file) ∷ [])
