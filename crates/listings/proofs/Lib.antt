@@ -1,0 +1,12 @@
+pub mod Digits
+pub mod Bits
+pub mod Words
+pub mod Parts
+pub mod Records
+pub mod Lines
+pub mod Files
+pub mod Room
+pub mod Reading
+pub mod Lengths
+pub mod Entries
+pub mod Examples

@@ -1,0 +1,182 @@
+-- The lines of a text: a record's line is one line, and a text made of lines has those lines.
+use Prim.Native.Nat.{ℕ, suc, _+_, _/_, _%_, _≤_, _<_}
+use Prim.Native.String.{String}
+use native.Mathlib.Omega.{arith}
+use mathlib.Core.Path.{_≡_, refl, _∙_, ap}
+use mathlib.Core.Logic.{_⊎_, inl, inr}
+use mathlib.Core.List.{List, [], _∷_, _++_, flatten}
+use mathlib.Core.Bool.{Bool, true, false, _&&_, false≢true}
+use lib.ListN.{length, take, drop}
+use lib.Dec.{eqb, leb}
+use borrow.Author.Tests.{leb-true, le-leb, ne-eqb, lt-ltb, le-ltb}
+use Rattle.rules.specs.Sizes.{hashBytes}
+use Rattle.rules.specs.Basics.{if_then_else_, Bytes, Every, all, ascii, part, number, byte, kind}
+use Rattle.rules.specs.Day.{decimal}
+use Rattle.rules.proofs.Laws.{and-left, and-right, and-both}
+use Rattle.listings.specs.Words.{newline, space, hexDigit, hex, Word, spaced, wordsText, counted, groupWords, limitWords, permissionNames, permissionWords, blobWords, archiveWords, lineOf}
+use Rattle.listings.specs.Listing.{ontoFirst, linesOf, lineLength}
+use Rattle.listings.proofs.Digits.{below-or-not, Digit, decimal-every}
+use Rattle.listings.proofs.Words.{text-with, text-without}
+
+-- no bytes
+abbrev empty : Bytes → Bool
+empty [] = true
+empty (c ∷ t) = false
+
+-- one line: a byte 10 at the end and none before it
+unfoldable pub oneLine : Bytes → Bool
+oneLine [] = false
+oneLine (c ∷ t) = if eqb c newline then empty t else oneLine t
+
+line-first : (l t : Bytes) → oneLine l ≡ true → linesOf (l ++ t) ≡ l ∷ linesOf t
+unfolding oneLine linesOf
+line-first [] t e = absurd (false≢true e)
+line-first (c ∷ l) t e = pick (eqb c newline) refl (line-first l t)
+  where
+    alone : (l : Bytes) → empty l ≡ true → l ≡ []
+    alone [] e = refl
+    alone (x ∷ l) e = absurd (false≢true e)
+
+    pick : (b : Bool) → eqb c newline ≡ b → (oneLine l ≡ true → linesOf (l ++ t) ≡ l ∷ linesOf t) → linesOf ((c ∷ l) ++ t) ≡ (c ∷ l) ∷ linesOf t
+    pick true d f = let n = alone l (rw d at e) in rw (d, n)
+    pick false d f = rw (d, f (rw d at e))
+
+-- A text made of lines has those lines ..
+pub lines-of-flat : (ls : List Bytes) → Every (λ l. oneLine l ≡ true) ls → linesOf (flatten ls) ≡ ls
+unfolding flatten linesOf
+lines-of-flat [] h = refl
+lines-of-flat (l ∷ ls) h = line-first l (flatten ls) (h .0) ∙ ap (λ (x : List Bytes). l ∷ x) (lines-of-flat ls (h .1))
+
+-- .. and a text is made of its lines.
+pub flat-lines : (t : Bytes) → flatten (linesOf t) ≡ t
+unfolding flatten linesOf
+flat-lines [] = refl
+flat-lines (c ∷ t) = pick (eqb c newline) refl (flat-lines t)
+  where
+    onto : (ls : List Bytes) → flatten (ontoFirst c ls) ≡ c ∷ flatten ls
+    onto [] = refl
+    onto (l ∷ ls) = refl
+
+    pick : (b : Bool) → eqb c newline ≡ b → flatten (linesOf t) ≡ t → flatten (linesOf (c ∷ t)) ≡ c ∷ t
+    pick true d i = rw d (ap (λ (x : Bytes). c ∷ x) i)
+    pick false d i = rw d (onto (linesOf t) ∙ ap (λ (x : Bytes). c ∷ x) i)
+
+-- The step of a loop over lines: a text's first line, and the rest.
+abbrev Next : Bytes → Type 0
+Next t = linesOf t ≡ take (lineLength t) t ∷ linesOf (drop (lineLength t) t)
+
+next-line : (c : ℕ) (t : Bytes) → Next (c ∷ t)
+unfolding linesOf lineLength
+next-line c [] = pick (eqb c newline) refl
+  where
+    pick : (b : Bool) → eqb c newline ≡ b → Next (c ∷ [])
+    pick true e = rw e
+    pick false e = rw e
+next-line c (d ∷ t) = pick (eqb c newline) refl (next-line d t)
+  where
+    pick : (b : Bool) → eqb c newline ≡ b → Next (d ∷ t) → Next (c ∷ d ∷ t)
+    pick true e i = rw e
+    pick false e i = rw e (ap (ontoFirst c) i)
+
+pub lines-next : (t : Bytes) → 0 < length t → linesOf t ≡ take (lineLength t) t ∷ linesOf (drop (lineLength t) t)
+lines-next [] h = absurd (omega arith)
+lines-next (c ∷ t) h = next-line c t
+
+pub line-inside : (t : Bytes) → lineLength t ≤ length t
+unfolding lineLength
+line-inside [] = omega arith
+line-inside (c ∷ t) = pick (eqb c newline) refl (line-inside t)
+  where
+    pick : (b : Bool) → eqb c newline ≡ b → lineLength t ≤ length t → lineLength (c ∷ t) ≤ suc (length t)
+    pick true e i = rw e (omega arith)
+    pick false e i = rw e (omega arith)
+
+-- Bytes of words: none below the space.
+abbrev plain : Bytes → Bool
+plain bs = all (leb space) bs
+
+plain-then : (xs t : Bytes) → plain xs ≡ true → oneLine t ≡ true → oneLine (xs ++ t) ≡ true
+unfolding all oneLine
+plain-then [] t p e = e
+plain-then (x ∷ xs) t p e =
+    let l = leb-true space x (and-left (leb space x) (plain xs) p) in
+    rw (ne-eqb x newline (λ q. omega arith)) (plain-then xs t (and-right (leb space x) (plain xs) p) e)
+
+plain-digits : (xs : Bytes) → Every Digit xs → plain xs ≡ true
+unfolding all
+plain-digits [] h = refl
+plain-digits (x ∷ xs) h =
+    let l = leb-true 48 x (and-left (leb 48 x) (leb x 57) (h .0)) in
+    and-both (leb space x) (plain xs) (le-leb space x (omega arith)) (plain-digits xs (h .1))
+
+plain-number : (n : ℕ) → plain (space ∷ decimal n) ≡ true
+unfolding all
+plain-number n = plain-digits (decimal n) (decimal-every n)
+
+plain-digit : (d : ℕ) → leb space (hexDigit d) ≡ true
+unfolding hexDigit
+plain-digit d = pick (below-or-not d 10)
+  where
+    pick : (d < 10) ⊎ (10 ≤ d) → leb space (hexDigit d) ≡ true
+    pick (inl l) = rw (lt-ltb d 10 l) (le-leb space (48 + d) (omega arith))
+    pick (inr l) = rw (le-ltb d 10 l) (le-leb space (87 + d) (omega arith))
+
+plain-hex : (h : Bytes) → plain (hex h) ≡ true
+unfolding all hex
+plain-hex [] = refl
+plain-hex (b ∷ bs) =
+    and-both (leb space (hexDigit (b / 16))) (leb space (hexDigit (b % 16)) && plain (hex bs)) (plain-digit (b / 16))
+    (and-both (leb space (hexDigit (b % 16))) (plain (hex bs)) (plain-digit (b % 16)) (plain-hex bs))
+
+plain-hash : (h : Bytes) → plain (space ∷ hex h) ≡ true
+unfolding all
+plain-hash h = plain-hex h
+
+-- A line's words are on one line.
+abbrev PlainWord : Word → Type 0
+PlainWord w = (plain (spaced (w .name)) ≡ true) × (plain (w .value) ≡ true)
+
+words-line : (ws : List Word) → Every PlainWord ws → oneLine (wordsText ws) ≡ true
+unfolding wordsText oneLine
+words-line [] h = refl
+words-line (w ∷ ws) h = pick (w .given) refl (words-line ws (h .1))
+  where
+    pick : (b : Bool) → w .given ≡ b → oneLine (wordsText ws) ≡ true → oneLine (wordsText (w ∷ ws)) ≡ true
+    pick true d i =
+        ap oneLine (text-with w ws d)
+        ∙ plain-then (spaced (w .name)) (w .value ++ wordsText ws) (h .0 .0) (plain-then (w .value) (wordsText ws) (h .0 .1) i)
+    pick false d i = ap oneLine (text-without w ws d) ∙ i
+
+plain-permissions : (b : ℕ) (names : List String) (n : ℕ) → all (λ x. plain (spaced x)) names ≡ true → Every PlainWord (permissionWords b names n)
+unfolding all permissionWords
+plain-permissions b [] n e = tt
+plain-permissions b (x ∷ xs) n e =
+    ((and-left (plain (spaced x)) (all (λ y. plain (spaced y)) xs) e, refl), plain-permissions (b + 1) xs n (and-right (plain (spaced x)) (all (λ y. plain (spaced y)) xs) e))
+
+either-line : (b : Bool) (x y : Bytes) → oneLine x ≡ true → oneLine y ≡ true → oneLine (if b then x else y) ≡ true
+either-line true x y p q = p
+either-line false x y p q = q
+
+counted-plain : (sort : ℕ) → plain (spaced (counted sort)) ≡ true
+unfolding all ascii
+counted-plain sort = pick (eqb sort 3) refl
+  where
+    pick : (b : Bool) → eqb sort 3 ≡ b → plain (spaced (counted sort)) ≡ true
+    pick true e = rw e refl
+    pick false e = rw e refl
+
+-- "one line per record, each ended by one byte 10"
+pub line-of-one : (r : Bytes) → oneLine (lineOf r) ≡ true
+unfolding lineOf all ascii
+line-of-one r =
+    either-line (eqb (kind r) 1) _ _
+    (plain-then (ascii "group") (wordsText (groupWords r)) refl (words-line (groupWords r) ((refl, plain-hash (part 4 hashBytes r)), ((refl, plain-number (number 24 2 r)), tt))))
+    (either-line (eqb (kind r) 2) _ _
+    (plain-then (ascii "limit") (wordsText (limitWords r)) refl (words-line (limitWords r) ((refl, plain-number (byte 5 r)), ((counted-plain (byte 4 r), plain-number (number 8 4 r)), tt))))
+    (either-line (eqb (kind r) 3) _ _
+    (plain-then (ascii "OpPermissions") (wordsText (permissionWords 0 permissionNames (number 4 2 r))) refl (words-line (permissionWords 0 permissionNames (number 4 2 r)) (plain-permissions 0 permissionNames (number 4 2 r) refl)))
+    (either-line (eqb (kind r) 4) _ _
+    (plain-then (ascii "MakeBlob") (wordsText (blobWords r)) refl
+    (words-line (blobWords r)
+    ((refl, refl), ((refl, refl), ((refl, plain-hash (part 4 hashBytes r)), ((refl, plain-hash (part 24 hashBytes r)), ((refl, refl), ((refl, refl), ((refl, plain-number (byte 46 r)), ((refl, plain-number (byte 47 r)), ((refl, plain-number (number 48 4 r)), ((refl, refl), tt))))))))))))
+    (plain-then (ascii "MakeArchiveBlob") (wordsText (archiveWords r)) refl (words-line (archiveWords r) ((refl, plain-hash (part 4 hashBytes r)), ((refl, plain-number (number 24 2 r)), tt)))))))
