@@ -9,12 +9,13 @@ use Rattle.rules.specs.Basics.{if_then_else_}
 use Rattle.rules.specs.Gate.{Answer, done, permit, refuse, Outcome}
 use Rattle.rules.specs.Desk.{Step, WV1, MSCV1, MSCV2, MSCV3, MSCV4, MSCV5, WBCV1, WBCV2, WBCV3, KGCV1, KGCV2, ACLV3, WB1, WB2, WB3, WB6, RB1, RB2, RB3, KV3, CSRL1}
 use Rattle.rules.specs.Subject.{SubjectReply, written, unwritten}
+use Rattle.steps.specs.Steps.{stepNumber}
 use Rattle.desk.specs.Replies.{Reply, accepting, failing, refusing}
 use Rattle.gate.proofs.Determined.{ledgerBack}
 use Rattle.host.specs.declared.HostOutcome.{HostOutcome}
 use Rattle.host.specs.declared.HostVerdict.{HostVerdict}
 use Rattle.host.specs.declared.HostWritten.{HostWritten}
-use Rattle.host.specs.Surface.{Told, toldBy, answerCode, answerNumber, toldFor, Wrote, wroteBy, wroteFor, stepNumber, Judged, judgedBy, judgedIn}
+use Rattle.host.specs.Surface.{Told, toldBy, answerCode, answerNumber, toldFor, Wrote, wroteBy, wroteFor, Judged, judgedBy, judgedIn}
 
 -- The structs.
 pub told-determined : (o p : HostOutcome) → toldBy o ≡ toldBy p → o ≡ p

@@ -3,8 +3,8 @@ use Prim.Native.Nat.{ℕ}
 use mathlib.Core.Bool.{Bool, false}
 use Rattle.rules.specs.Ledger as rules
 use Rattle.rules.specs.Gate.{Answer, done, permit, refuse, Outcome}
-use Rattle.rules.specs.Desk.{Step, WV1, MSCV1, MSCV2, MSCV3, MSCV4, MSCV5, WBCV1, WBCV2, WBCV3, KGCV1, KGCV2, ACLV3, WB1, WB2, WB3, WB6, RB1, RB2, RB3, KV3, CSRL1}
 use Rattle.rules.specs.Subject.{SubjectReply, written, unwritten}
+use Rattle.steps.specs.Steps.{stepNumber}
 use Rattle.desk.specs.Replies.{Reply, accepting, failing, refusing}
 use Rattle.gate.specs.Outcomes.{ledgerOf}
 use Rattle.host.specs.declared.HostOutcome.{HostOutcome}
@@ -48,30 +48,6 @@ wroteBy w = record { answer = w .answer; number = w .number }
 abbrev pub wroteFor : SubjectReply → Wrote
 wroteFor (written n) = record { answer = 1; number = n }
 wroteFor (unwritten n) = record { answer = 2; number = n }
-
--- The steps, numbered from 1 in document 01's order.
-abbrev pub stepNumber : Step → ℕ
-stepNumber WV1 = 1
-stepNumber MSCV1 = 2
-stepNumber MSCV2 = 3
-stepNumber MSCV3 = 4
-stepNumber MSCV4 = 5
-stepNumber MSCV5 = 6
-stepNumber WBCV1 = 7
-stepNumber WBCV2 = 8
-stepNumber WBCV3 = 9
-stepNumber KGCV1 = 10
-stepNumber KGCV2 = 11
-stepNumber ACLV3 = 12
-stepNumber WB1 = 13
-stepNumber WB2 = 14
-stepNumber WB3 = 15
-stepNumber WB6 = 16
-stepNumber RB1 = 17
-stepNumber RB2 = 18
-stepNumber RB3 = 19
-stepNumber KV3 = 20
-stepNumber CSRL1 = 21
 
 -- A verdict in numbers: 1 for an acceptance, with approach, protection (0 where none is judged) and recoverability; 2 for a failing step, with its
 -- number; 3 for a refusal, with its number. What does not belong to the answer is zero.

@@ -4,17 +4,15 @@ ghost use Rattle.rules.specs.Ledger.{freshLedger};
 ghost use Rattle.rules.specs.Gate.{load, clear, request, narrow, expand};
 ghost use Rattle.rules.specs.Desk.{desk};
 ghost use Rattle.rules.specs.Subject.{subjectReply, subjectBuffer};
-ghost use Rattle.steps.specs.Steps.{stepOf};
 ghost use Rattle.desk.specs.Replies as replies;
 ghost use Rattle.gate.specs.Outcomes.{ledgerOf, answerOf, outcomeOf};
 ghost use Rattle.subject.specs.Writing as writing;
-ghost use Rattle.host.specs.Surface.{toldBy, answerCode, answerNumber, toldFor, wroteBy, wroteFor, stepNumber, judgedBy, judgedIn, otherwise};
+ghost use Rattle.host.specs.Surface.{toldBy, answerCode, answerNumber, toldFor, wroteBy, wroteFor, judgedBy, judgedIn, otherwise};
 use desk::Acceptance;
 use desk::Verdict;
 use gate::Ledger;
 use gate::Outcome;
 use gate::Reply;
-use steps::Step;
 use subject::Written;
 
 // The ledger handed back, what the answer is (0 done, 1 permitted, 2 refused), and its number: the group, or the refusal.
@@ -142,35 +140,6 @@ pub extern "C" fn akubolinfe_expand(
     told(ledger.expand(km0, acl, req, new))
 }
 
-// The number of a step, from 1 in document 01's order.
-fn step_number(s: Step) -> u64
-    ensures { λ r. ⌜ r ≡ stepNumber (stepOf s) ⌝ }
-{
-    match s {
-        Step::WV1 => 1,
-        Step::MSCV1 => 2,
-        Step::MSCV2 => 3,
-        Step::MSCV3 => 4,
-        Step::MSCV4 => 5,
-        Step::MSCV5 => 6,
-        Step::WBCV1 => 7,
-        Step::WBCV2 => 8,
-        Step::WBCV3 => 9,
-        Step::KGCV1 => 10,
-        Step::KGCV2 => 11,
-        Step::ACLV3 => 12,
-        Step::WB1 => 13,
-        Step::WB2 => 14,
-        Step::WB3 => 15,
-        Step::WB6 => 16,
-        Step::RB1 => 17,
-        Step::RB2 => 18,
-        Step::RB3 => 19,
-        Step::KV3 => 20,
-        Step::CSRL1 => 21,
-    }
-}
-
 // An acceptance as the host gets it.
 fn acceptance(a: Acceptance) -> HostVerdict
     ensures { λ r. ⌜ judgedBy r ≡ judgedIn (replies.accepting (replies.namedBy a)) ⌝ }
@@ -204,7 +173,7 @@ fn judged(v: Verdict) -> HostVerdict
 {
     match v {
         Verdict::Accepted(a) => acceptance(a),
-        Verdict::Failed(s) => other(2, step_number(s)),
+        Verdict::Failed(s) => other(2, steps::number(s)),
         Verdict::Refused(why) => other(3, files::number(why) as u64),
     }
 }

@@ -1,4 +1,5 @@
 -- The steps and answers of this crate in the definitions' terms, and the runs of steps that the two approaches share. b is a bundle's list of records.
+use Prim.Native.Nat.{ℕ}
 use mathlib.Core.List.{List, [], _∷_}
 use mathlib.Core.Option.{Option, none, some}
 use mathlib.Core.Bool.{_&&_}
@@ -34,6 +35,30 @@ stepOf RB2 = desk.RB2
 stepOf RB3 = desk.RB3
 stepOf KV3 = desk.KV3
 stepOf CSRL1 = desk.CSRL1
+
+-- The steps, numbered from 1 in document 01's order.
+abbrev pub stepNumber : desk.Step → ℕ
+stepNumber desk.WV1 = 1
+stepNumber desk.MSCV1 = 2
+stepNumber desk.MSCV2 = 3
+stepNumber desk.MSCV3 = 4
+stepNumber desk.MSCV4 = 5
+stepNumber desk.MSCV5 = 6
+stepNumber desk.WBCV1 = 7
+stepNumber desk.WBCV2 = 8
+stepNumber desk.WBCV3 = 9
+stepNumber desk.KGCV1 = 10
+stepNumber desk.KGCV2 = 11
+stepNumber desk.ACLV3 = 12
+stepNumber desk.WB1 = 13
+stepNumber desk.WB2 = 14
+stepNumber desk.WB3 = 15
+stepNumber desk.WB6 = 16
+stepNumber desk.RB1 = 17
+stepNumber desk.RB2 = 18
+stepNumber desk.RB3 = 19
+stepNumber desk.KV3 = 20
+stepNumber desk.CSRL1 = 21
 
 -- the first failing step, if any fails
 abbrev pub failureOf : Failure → Option desk.Step

@@ -4,7 +4,7 @@ ghost use Rattle.rules.specs.Basics.{orNext, records};
 ghost use Rattle.rules.specs.Bundle.{policyOf};
 ghost use Rattle.rules.specs.Desk.{beforeAcl, basicFailure};
 ghost use Rattle.facts.specs.Found.{policyAs};
-ghost use Rattle.steps.specs.Steps.{failureOf, warrantFailure, stateFailure, worldFailure, keyFailure, csrFailure};
+ghost use Rattle.steps.specs.Steps.{stepOf, stepNumber, failureOf, warrantFailure, stateFailure, worldFailure, keyFailure, csrFailure};
 use facts::Policy;
 
 // The steps that can fail, by their names in document 01.
@@ -36,6 +36,35 @@ pub enum Step {
 pub enum Failure {
     Nothing,
     At(Step),
+}
+
+// The number of a step, from 1 in document 01's order.
+pub fn number(s: Step) -> u64
+    ensures { λ r. ⌜ r ≡ stepNumber (stepOf s) ⌝ }
+{
+    match s {
+        Step::WV1 => 1,
+        Step::MSCV1 => 2,
+        Step::MSCV2 => 3,
+        Step::MSCV3 => 4,
+        Step::MSCV4 => 5,
+        Step::MSCV5 => 6,
+        Step::WBCV1 => 7,
+        Step::WBCV2 => 8,
+        Step::WBCV3 => 9,
+        Step::KGCV1 => 10,
+        Step::KGCV2 => 11,
+        Step::ACLV3 => 12,
+        Step::WB1 => 13,
+        Step::WB2 => 14,
+        Step::WB3 => 15,
+        Step::WB6 => 16,
+        Step::RB1 => 17,
+        Step::RB2 => 18,
+        Step::RB3 => 19,
+        Step::KV3 => 20,
+        Step::CSRL1 => 21,
+    }
 }
 
 // The first failure of two runs, one after the other.

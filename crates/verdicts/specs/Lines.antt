@@ -1,33 +1,17 @@
--- The line that stands for a verdict, and bytes put into a buffer.
-use Prim.Native.Nat.{ℕ, _+_, _/_, _%_, _≤_}
+-- The line that stands for a verdict.
+use Prim.Native.Nat.{ℕ}
 use Prim.Native.String.{String}
-use mathlib.Core.Path.{_≡_}
-use mathlib.Core.List.{[], _∷_, _++_}
+use mathlib.Core.List.{_++_}
 use mathlib.Core.Bool.{Bool, true, false}
-use lib.ListN.{length, take, drop}
-use lib.Dec.{eqb, ltb}
+use lib.Dec.{eqb}
 use Rattle.rules.specs.Basics.{if_then_else_, Bytes, ascii}
+use Rattle.rules.specs.Day.{decimal}
 use Rattle.rules.specs.Desk as rules
 use Rattle.desk.specs.Replies.{Named, Reply, accepting, failing, refusing}
 
 -- room for every line
 abbrev pub lineBytes : ℕ
 lineBytes = 64
-
--- bytes put into a buffer from a place on: what stands before them and past them stays
-unfoldable pub put : Bytes → ℕ → Bytes → Bytes
-put new at old = take at old ++ new ++ drop (at + length new) old
-
--- .. by a function that answers where they end
-pub record Put (new : Bytes) (at : ℕ) (before after : Bytes) (r : ℕ) : Type 0 where
-  pub bytes : after ≡ put new at before
-  pub end : r ≡ at + length new
-  pub same-length : length after ≡ length before
-  pub inside : r ≤ length after
-
--- the digits of a number below 100
-unfoldable pub decimal : ℕ → Bytes
-decimal n = if ltb n 10 then (48 + n) ∷ [] else (48 + n / 10) ∷ (48 + n % 10) ∷ []
 
 -- the name of a step
 abbrev pub stepText : rules.Step → String

@@ -18,8 +18,8 @@ acceptance-requires c κs = search needs
 enum-known-v-2 : tie.Need-enum-known-v-2
 enum-known-v-2 c = search needs
 
-step-number-requires : tie.Need-step-number-requires
-step-number-requires c κs = search needs
+number-requires : tie.Need-number-requires
+number-requires c κs = search needs
 
 other-requires : tie.Need-other-requires
 other-requires c κs = search needs
@@ -27,8 +27,8 @@ other-requires c κs = search needs
 enum-known-v-3 : tie.Need-enum-known-v-3
 enum-known-v-3 c = search needs
 
-number-requires : tie.Need-number-requires
-number-requires c κs = search needs
+number-requires-2 : tie.Need-number-requires-2
+number-requires-2 c κs = search needs
 
 cast-other : tie.Need-cast-other
 cast-other c = search needs
@@ -40,10 +40,10 @@ returns : tie.Need-returns
 returns c = c .acceptance .ensures ∙ sym (ap judgedAs (c .before .before .v .given .1))
 
 returns-2 : tie.Need-returns-2
-returns-2 c = c .other .ensures ∙ ap (otherwise 2) (c .before .step-number .ensures) ∙ sym (ap judgedAs (c .before .before .before .v2 .given .1))
+returns-2 c = c .other .ensures ∙ ap (otherwise 2) (c .before .number .ensures) ∙ sym (ap judgedAs (c .before .before .before .v2 .given .1))
 
 returns-3 : tie.Need-returns-3
-returns-3 c = c .other2 .ensures ∙ ap (otherwise 3) (c .before .number .ensures) ∙ sym (ap judgedAs (c .before .before .before .v3 .given .1))
+returns-3 c = c .other2 .ensures ∙ ap (otherwise 3) (c .before .number2 .ensures) ∙ sym (ap judgedAs (c .before .before .before .v3 .given .1))
 
 pub judged-spec : {M : Type 1} → statement M
 judged-spec =
@@ -52,10 +52,10 @@ judged-spec =
     enum-known-v
     acceptance-requires
     enum-known-v-2
-    step-number-requires
+    number-requires
     other-requires
     enum-known-v-3
-    number-requires
+    number-requires-2
     cast-other
     other-requires-2
     returns

@@ -1,11 +1,10 @@
 use mathlib.Core.Path.{sym, ap}
 use Prim.Native.Nat.{ℕ}
 use Rattle.steps.specs.declared.Step.{Step}
-use Rattle.steps.specs.Steps.{stepOf}
-use Rattle.host.specs.Surface.{stepNumber}
+use Rattle.steps.specs.Steps.{stepOf, stepNumber}
 use borrow.Author.Needs.{needs}
-use Rattle.host.proofs.step_number.Statement.{statement}
-use Rattle.host.proofs.step_number.Tie as tie
+use Rattle.steps.proofs.number.Statement.{statement}
+use Rattle.steps.proofs.number.Tie as tie
 
 abbrev numbered : Step → ℕ
 numbered s = stepNumber (stepOf s)
@@ -136,8 +135,8 @@ returns-20 c = sym (ap numbered (c .enum-told20 .given .1))
 returns-21 : tie.Need-returns-21
 returns-21 c = sym (ap numbered (c .enum-told21 .given .1))
 
-pub step-number-spec : {M : Type 1} → statement M
-step-number-spec =
+pub number-spec : {M : Type 1} → statement M
+number-spec =
     tie.close
     (tie.spec
     enum-told
