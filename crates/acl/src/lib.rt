@@ -5,18 +5,18 @@ ghost use Prim.Native.Nat.{_≤_, _<_};
 ghost use lib.ListN.{length};
 ghost use Rattle.rules.specs.Sizes.{recordBytes, limitsMax};
 ghost use Rattle.rules.specs.Basics.{records};
-ghost use Rattle.rules.specs.Acl.{aclStart, among, limitInPlace, actionLaidOut, inPlace, hasRoom, limitAdded, afterRecord, aclFault};
+ghost use Rattle.rules.specs.Acl.{aclStart, among, limitInPlace, actionLaidOut, inPlace, hasRoom, limitAdded, afterRecord, aclFault, aclFileFault};
 ghost use Rattle.files.specs.Refusals.{faultOf};
 ghost use Rattle.acl.specs.Places.{placeOf};
 use files::Checked;
 use files::Refusal;
 
 // Where reading stands: groups begun; of the last group the limits, with the sort and counter of each, and the actions.
-struct Place {
-    groups: usize,
-    limits: usize,
-    actions: usize,
-    keys: [u16; sizes::LIMITS],
+pub struct Place {
+    pub groups: usize,
+    pub limits: usize,
+    pub actions: usize,
+    pub keys: [u16; sizes::LIMITS],
 }
 
 // Whether a number is among some.
@@ -52,7 +52,7 @@ fn action(rec: &[u8]) -> bool
 }
 
 impl Place {
-    fn start() -> Self
+    pub fn start() -> Self
         ensures { λ r. ⌜ (placeOf r ≡ aclStart) × (r .limits ≤ limitsMax) ⌝ }
     {
         Self {
@@ -74,7 +74,7 @@ impl Place {
     }
 
     // Whether a record is well formed and may stand here.
-    fn in_place(self, rec: &[u8]) -> bool
+    pub fn in_place(self, rec: &[u8]) -> bool
         requires { ⌜ (self .limits ≤ limitsMax) × (length (now rec) ≡ recordBytes) ⌝ }
         ensures { λ r. ⌜ r ≡ inPlace (placeOf self) (now (rec .entry)) ⌝ }
     {
@@ -89,7 +89,7 @@ impl Place {
     }
 
     // Whether there is room for one more of a record's kind.
-    fn has_room(self, rec: &[u8]) -> bool
+    pub fn has_room(self, rec: &[u8]) -> bool
         requires { ⌜ (self .limits ≤ limitsMax) × (length (now rec) ≡ recordBytes) ⌝ }
         ensures { λ r. ⌜ r ≡ hasRoom (placeOf self) (now (rec .entry)) ⌝ }
     {
@@ -115,7 +115,7 @@ impl Place {
     }
 
     // Where reading stands after a record for which there is room.
-    fn after(self, rec: &[u8]) -> Self
+    pub fn after(self, rec: &[u8]) -> Self
         requires { ⌜ (hasRoom (placeOf self) (now rec) ≡ true) × (self .limits ≤ limitsMax) × (length (now rec) ≡ recordBytes) ⌝ }
         ensures { λ r. ⌜ (placeOf r ≡ afterRecord (placeOf self) (now (rec .entry))) × (r .limits ≤ limitsMax) ⌝ }
     {
@@ -159,4 +159,14 @@ pub fn acl_records(acl: &[u8]) -> Checked
         at += sizes::RECORD;
     }
     Checked::Sound
+}
+
+// The first fault of an ACL file: its length, then its records.
+pub fn acl_file(acl: &[u8]) -> Checked
+    ensures { λ r. ⌜ faultOf r ≡ aclFileFault (now (acl .entry)) ⌝ }
+{
+    if !files::whole(sizes::ACL_RECORDS, acl) {
+        return Checked::Refused(Refusal::BadLength);
+    }
+    acl_records(acl)
 }

@@ -1,0 +1,188 @@
+// The text form of an ACL, written into a lent buffer and read into one.
+ghost use mathlib.Core.Path.{_≡_};
+ghost use mathlib.Core.Option.{none};
+ghost use Prim.Native.Nat.{_+_, _*_, _≤_};
+ghost use lib.ListN.{length};
+ghost use Rattle.rules.specs.Sizes.{recordBytes, aclRecords, limitsMax};
+ghost use Rattle.rules.specs.Basics.{same};
+ghost use Rattle.rules.specs.Acl.{aclFileFault};
+ghost use Rattle.acl.specs.Places.{placeOf};
+ghost use Rattle.listings.specs.Words.{lineOf, listingOf};
+ghost use Rattle.listings.specs.Decoding.{decoded};
+ghost use Rattle.listings.specs.Listing.{linesOf, goodLine, listingFault, listedBytes, writeListing, readListingInto};
+ghost use Rattle.text.specs.Putting.{Put};
+ghost use Rattle.listing.specs.Answers.{Answers, linesFound};
+use acl::Place;
+use files::Checked;
+use files::Refusal;
+
+// What the entry points answer: the result's length, a refusal, or the number of the first bad line of a listing, from 1.
+pub enum Reply {
+    Produced(usize),
+    Refused(Refusal),
+    BadLine(usize),
+}
+
+// What the first pass over a listing finds: the number of lines, or that of the first bad one, from 1.
+pub enum Lines {
+    Count(usize),
+    Bad(usize),
+}
+
+// The length of a record's line.
+fn line_length(rec: &[u8]) -> usize
+    requires { ⌜ length (now rec) ≡ recordBytes ⌝ }
+    ensures { λ r. ⌜ (r ≡ length (lineOf (now (rec .entry)))) × (r ≤ 256) ⌝ }
+{
+    let mut line = [0u8; lines::ROOM];
+    lines::line_of(rec, &mut line)
+}
+
+// A record's line into the buffer from a place on; answers where it ends. All else stays.
+fn put_line(rec: &[u8], at: usize, buffer: &mut [u8]) -> usize
+    requires { ⌜ (length (now rec) ≡ recordBytes) × (at + length (lineOf (now rec)) ≤ length (now buffer)) ⌝ }
+    ensures { λ r. ⌜ Put (lineOf (now (rec .entry))) at (now (buffer .entry)) (now (buffer .exit)) r ⌝ }
+{
+    let mut line = [0u8; lines::ROOM];
+    let n = lines::line_of(rec, &mut line);
+    text::append(&line[..n], at, buffer)
+}
+
+// Whether a line is that of a record.
+fn is_line(rec: &[u8], line: &[u8]) -> bool
+    requires { ⌜ length (now rec) ≡ recordBytes ⌝ }
+    ensures { λ r. ⌜ r ≡ same (lineOf (now (rec .entry))) (now (line .entry)) ⌝ }
+{
+    let mut written = [0u8; lines::ROOM];
+    let n = lines::line_of(rec, &mut written);
+    fields::same_bytes(&written[..n], line)
+}
+
+// The length of an ACL's listing.
+fn listing_length(acl: &[u8]) -> usize
+    requires { ⌜ length (now acl) ≤ aclRecords * recordBytes ⌝ }
+    ensures { λ r. ⌜ r ≡ length (listingOf (now (acl .entry))) ⌝ }
+{
+    let mut at = 0;
+    let mut total = 0;
+    while sizes::RECORD <= acl.len() - at {
+        total += line_length(&acl[at..at + sizes::RECORD]);
+        at += sizes::RECORD;
+    }
+    total
+}
+
+// The lines of an ACL's records at the front of the buffer; answers where they end.
+fn put_lines(acl: &[u8], buffer: &mut [u8]) -> usize
+    requires { ⌜ length (listingOf (now acl)) ≤ length (now buffer) ⌝ }
+    ensures { λ r. ⌜ Put (listingOf (now (acl .entry))) 0 (now (buffer .entry)) (now (buffer .exit)) r ⌝ }
+{
+    let mut at = 0;
+    let mut end = 0;
+    while sizes::RECORD <= acl.len() - at {
+        end = put_line(&acl[at..at + sizes::RECORD], end, buffer);
+        at += sizes::RECORD;
+    }
+    end
+}
+
+// The listing of an ACL without fault.
+fn write_sound(acl: &[u8], buffer: &mut [u8]) -> Reply
+    requires { ⌜ aclFileFault (now acl) ≡ none ⌝ }
+    ensures { λ r. ⌜ Answers (writeListing (now (acl .entry)) (now (buffer .entry))) r (now (buffer .exit)) ⌝ }
+{
+    let n = listing_length(acl);
+    if buffer.len() < n {
+        return Reply::Refused(Refusal::ShortBuffer);
+    }
+    let end = put_lines(acl, buffer);
+    Reply::Produced(end)
+}
+
+// An ACL's listing at the front of the buffer, and its length. A bad ACL gives its own number; then a short buffer gives 9. Both leave the
+// buffer; else the bytes past the listing stay.
+pub fn write_listing(acl: &[u8], buffer: &mut [u8]) -> Reply
+    ensures { λ r. ⌜ Answers (writeListing (now (acl .entry)) (now (buffer .entry))) r (now (buffer .exit)) ⌝ }
+{
+    let found = acl::acl_file(acl);
+    match found {
+        Checked::Refused(r) => Reply::Refused(r),
+        Checked::Sound => write_sound(acl, buffer),
+    }
+}
+
+// The record that a line tells.
+fn decoded_record(line: &[u8]) -> [u8; sizes::RECORD]
+    ensures { λ r. ⌜ r ≡ decoded (now (line .entry)) ⌝ }
+{
+    let mut rec = [0u8; sizes::RECORD];
+    parsing::decode(line, 0, &mut rec);
+    rec
+}
+
+// Whether a line is the written form of the record that it tells, and that record valid at a place of the ACL.
+fn is_good(place: Place, rec: [u8; sizes::RECORD], line: &[u8]) -> bool
+    requires { ⌜ (place .limits ≤ limitsMax) × (rec ≡ decoded (now line)) ⌝ }
+    ensures { λ r. ⌜ r ≡ goodLine (placeOf place) (now (line .entry)) ⌝ }
+{
+    place.in_place(&rec) & place.has_room(&rec) & is_line(&rec, line)
+}
+
+// The first pass: each line is decoded once, judged, and its record gives the next place.
+fn judge_lines(text: &[u8]) -> Lines
+    ensures { λ r. ⌜ r ≡ linesFound (now (text .entry)) ⌝ }
+{
+    let mut place = Place::start();
+    let mut at = 0;
+    let mut line = 1;
+    while at < text.len() {
+        let end = words::line_end(text, at);
+        let rec = decoded_record(&text[at..end]);
+        if !is_good(place, rec, &text[at..end]) {
+            return Lines::Bad(line);
+        }
+        place = place.after(&rec);
+        at = end;
+        line += 1;
+    }
+    Lines::Count(line - 1)
+}
+
+// The second pass: the records at the front of the buffer; answers where they end.
+fn put_records(text: &[u8], buffer: &mut [u8]) -> usize
+    requires { ⌜ length (listedBytes (now text)) ≤ length (now buffer) ⌝ }
+    ensures { λ r. ⌜ Put (listedBytes (now (text .entry))) 0 (now (buffer .entry)) (now (buffer .exit)) r ⌝ }
+{
+    let mut at = 0;
+    let mut end = 0;
+    while at < text.len() {
+        let next = words::line_end(text, at);
+        end = parsing::decode(&text[at..next], end, buffer);
+        at = next;
+    }
+    end
+}
+
+// The ACL of a listing without a bad line.
+fn read_sound(text: &[u8], count: usize, buffer: &mut [u8]) -> Reply
+    requires { ⌜ (listingFault (now text) ≡ none) × (count ≡ length (linesOf (now text))) ⌝ }
+    ensures { λ r. ⌜ Answers (readListingInto (now (text .entry)) (now (buffer .entry))) r (now (buffer .exit)) ⌝ }
+{
+    if buffer.len() / sizes::RECORD < count {
+        return Reply::Refused(Refusal::ShortBuffer);
+    }
+    let end = put_records(text, buffer);
+    Reply::Produced(end)
+}
+
+// A listing's ACL at the front of the buffer, and its length. A line that is not the written form of a record valid there gives the first such
+// line's number; then a short buffer gives 9. Both leave the buffer; else the bytes past the ACL stay.
+pub fn read_listing(text: &[u8], buffer: &mut [u8]) -> Reply
+    ensures { λ r. ⌜ Answers (readListingInto (now (text .entry)) (now (buffer .entry))) r (now (buffer .exit)) ⌝ }
+{
+    let found = judge_lines(text);
+    match found {
+        Lines::Bad(n) => Reply::BadLine(n),
+        Lines::Count(n) => read_sound(text, n, buffer),
+    }
+}
