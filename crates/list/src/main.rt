@@ -1,0 +1,33 @@
+// list ACL: prints the listing of an ACL file (docs/LISTING.md). An ACL that is not well formed gives `ACL: refuse N` on standard error, N its refusal's
+// number, and prints nothing.
+use arguments::Input;
+use libc::STDERR_FILENO;
+use libc::STDOUT_FILENO;
+use listing::Reply;
+
+// The listing of an ACL. No listing is longer than the buffer, and no line is bad where none is read.
+fn print_listing(acl: &[u8]) {
+    let mut text = io::large_buffer();
+    let reply = listing::write_listing(acl, &mut text);
+    match reply {
+        Reply::Produced(n) => {
+            io::write_all(STDOUT_FILENO, arguments::prefix(&text, n));
+        }
+        Reply::Refused(why) => arguments::refuse(1, files::number(why) as u64),
+        Reply::BadLine(_) => arguments::refuse(1, 15),
+    }
+}
+
+// No ACL fills the buffer, so that a longer file is cut and still too long.
+fn main() {
+    if os::arg_count() != 2 {
+        io::write_all(STDERR_FILENO, b"list: one file name is due: ACL\n");
+        return;
+    }
+    let mut acl = io::large_buffer();
+    let input = arguments::read(1, b"ACL", &mut acl);
+    let Input::Read(n) = input else {
+        return;
+    };
+    print_listing(arguments::prefix(&acl, n));
+}
