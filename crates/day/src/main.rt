@@ -1,5 +1,6 @@
 // The day program: `day KM0 ACL REQUESTS`, three file names. It starts with a fresh ledger loaded at 0 and prints a line for each request record; a bad
 // file or record, or too many records, print `0 refuse N` alone.
+use arguments::Input;
 use files::Checked;
 use files::Refusal;
 use gate::Ledger;
@@ -7,73 +8,12 @@ use gate::Reply;
 use libc::STDERR_FILENO;
 use libc::STDOUT_FILENO;
 
-// A file that was read: as many bytes as the buffer takes, so that one that is too long is seen to be.
-enum Size {
-    Is(usize),
-    Unread,
-}
-
 fn print(text: &[u8]) {
     io::write_all(STDOUT_FILENO, text);
 }
 
 fn print_number(n: u64) {
     io::print_decimal(STDOUT_FILENO, n);
-}
-
-// What is read of an open file, up to the buffer's length. A read that fails ends it like the file's end does, so that one more read has to tell them
-// apart: it fails too, or finds more where the buffer still had room.
-fn read_open(fd: i32, path: &[u8], buffer: &mut [u8]) -> Size {
-    let n = io::read_full(fd, buffer);
-    let mut more = [0u8; 1];
-    let got = libc::read(fd, &mut more);
-    if (got < 0) | ((0 < got) & (n < buffer.len())) {
-        os::fail(path);
-        return Size::Unread;
-    }
-    Size::Is(n)
-}
-
-// What is read of the file of that name.
-fn read_path(path: &[u8], buffer: &mut [u8]) -> Size {
-    let fd = os::open_read(path);
-    if fd < 0 {
-        os::fail(path);
-        return Size::Unread;
-    }
-    let size = read_open(fd, path, buffer);
-    libc::close(fd);
-    size
-}
-
-// Says that argument i cannot be had.
-fn fail_argument(i: usize) {
-    if i == 1 {
-        os::fail(b"KM0");
-    } else if i == 2 {
-        os::fail(b"ACL");
-    } else {
-        os::fail(b"REQUESTS");
-    }
-}
-
-// The file that argument i names.
-fn read_argument(i: usize, buffer: &mut [u8]) -> Size {
-    let mut path = io::buffer();
-    let n = os::arg(i, &mut path);
-    if os::errno() != 0 {
-        fail_argument(i);
-        return Size::Unread;
-    }
-    read_path(&path[..n], buffer)
-}
-
-// The first n bytes, or all where there are fewer.
-fn prefix(s: &[u8], n: usize) -> &[u8] {
-    if s.len() < n {
-        return s;
-    }
-    &s[0..n]
 }
 
 fn print_refusal(why: Refusal) {
@@ -133,18 +73,22 @@ fn print_day(km0: &[u8], acl: &[u8], requests: &[u8]) {
     }
 }
 
-// Reads the three files, and prints the day if all could be read.
+// Reads the three files, and prints the day if all could be read. A file that is too long is read as far as its buffer takes it, and is seen to be.
 fn read_all(km0: &mut [u8], acl: &mut [u8], requests: &mut [u8]) {
-    let Size::Is(x) = read_argument(1, km0) else {
+    let Input::Read(x) = arguments::read(1, b"KM0", km0) else {
         return;
     };
-    let Size::Is(y) = read_argument(2, acl) else {
+    let Input::Read(y) = arguments::read(2, b"ACL", acl) else {
         return;
     };
-    let Size::Is(z) = read_argument(3, requests) else {
+    let Input::Read(z) = arguments::read(3, b"REQUESTS", requests) else {
         return;
     };
-    print_day(prefix(km0, x), prefix(acl, y), prefix(requests, z));
+    print_day(
+        arguments::prefix(km0, x),
+        arguments::prefix(acl, y),
+        arguments::prefix(requests, z),
+    );
 }
 
 fn main() {
