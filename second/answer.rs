@@ -4,11 +4,14 @@ use std::collections::BTreeMap;
 use std::fmt::Write as _;
 use std::io::{self, Read, Write};
 
+use crate::call::Call;
 use crate::desk::{attest, Verdict};
 use crate::gate::{self, Ledger};
+use crate::listing::write_listing;
+use crate::read_listing::read_listing;
 use crate::record::Refusal;
 use crate::replace::{expand, narrow};
-use crate::script::{read_call, Call, Next};
+use crate::script::{read_call, Next};
 use crate::subject::write_subject;
 
 #[derive(Clone, Copy, Debug, PartialEq)]
@@ -20,7 +23,7 @@ pub enum Answer {
     Length(usize),
 }
 
-/// Makes one call. The ledger changes only where the call is not refused; a subject is written into
+/// Makes one call. The ledger changes only where the call is not refused; what is written goes into
 /// the call's own buffer.
 pub fn answer_call(ledger: &mut Ledger, call: &mut Call) -> Answer {
     match call {
@@ -49,9 +52,14 @@ pub fn answer_call(ledger: &mut Ledger, call: &mut Call) -> Answer {
             suite,
             hashes,
             buffer,
-        } => write_subject(*certificate, *suite, hashes, buffer)
-            .map_or_else(Answer::Refuse, Answer::Length),
+        } => length(write_subject(*certificate, *suite, hashes, buffer)),
+        Call::WriteListing { acl, buffer } => length(write_listing(acl, buffer)),
+        Call::ReadListing { text, buffer } => length(read_listing(text, buffer)),
     }
+}
+
+fn length(reply: Result<usize, Refusal>) -> Answer {
+    reply.map_or_else(Answer::Refuse, Answer::Length)
 }
 
 fn done(ledger: &mut Ledger, reply: Result<Ledger, Refusal>) -> Answer {
@@ -80,7 +88,10 @@ impl Answer {
         match self {
             Answer::Done => "done".to_string(),
             Answer::Permit(place) => format!("permit {place}"),
-            Answer::Refuse(refusal) => format!("refuse {}", refusal.number()),
+            Answer::Refuse(refusal) => match refusal.beside() {
+                Some(beside) => format!("refuse {} {beside}", refusal.number()),
+                None => format!("refuse {}", refusal.number()),
+            },
             Answer::Desk(Verdict::AcceptFirst) => "accept 1".to_string(),
             Answer::Desk(Verdict::AcceptSecond {
                 protection,
@@ -94,11 +105,13 @@ impl Answer {
         }
     }
 
-    /// The answer's kind: permits of any group and subjects of any length are one kind each.
+    /// The answer's kind: permits of any group, results of any length and refusals of one number
+    /// are one kind each.
     fn kind(self) -> String {
         match self {
             Answer::Permit(_) => "permit".to_string(),
             Answer::Length(_) => "length".to_string(),
+            Answer::Refuse(refusal) => format!("refuse {}", refusal.number()),
             _ => self.words(),
         }
     }
@@ -109,7 +122,9 @@ pub fn answer_line(number: u64, call: &Call, answer: Answer, ledger: &Ledger) ->
     let mut line = format!("{number} {}", answer.words());
     match call {
         Call::Desk { .. } => {}
-        Call::Subject { buffer, .. } => add_hex(&mut line, buffer),
+        Call::Subject { buffer, .. }
+        | Call::WriteListing { buffer, .. }
+        | Call::ReadListing { buffer, .. } => add_hex(&mut line, buffer),
         _ => add_ledger(&mut line, ledger),
     }
     line
@@ -284,6 +299,29 @@ mod tests {
         );
         assert_eq!(answers(&script, "FLCR"), "1 stop\n");
         assert_eq!(answers(&[], ALL_KINDS), "");
+    }
+
+    #[test]
+    fn listings_show_the_whole_buffer() {
+        let mut acl = vec![0; 64];
+        acl[0] = 1;
+        let write = Call::WriteListing {
+            acl,
+            buffer: vec![0xee; 7],
+        };
+        let read = |text: &[u8], length| Call::ReadListing {
+            text: text.to_vec(),
+            buffer: vec![0xee; length],
+        };
+        let calls = [
+            write,
+            read(b"group\ngroup", 2),
+            read(b"group\n", 2),
+            read(b"", 0),
+        ];
+        let script: Vec<u8> = calls.iter().flat_map(call_bytes).collect();
+        let lines = "1 length 6 67726f75700aee\n2 refuse 15 2 eeee\n3 refuse 9 eeee\n4 length 0 \n";
+        assert_eq!(answers(&script, ALL_KINDS), lines);
     }
 
     #[test]

@@ -1,31 +1,23 @@
 //! Damages files: single bits and bytes, records moved about, wrong lengths.
 
 use crate::acl::{Limit, MOST_ACL_RECORDS};
+use crate::call::{Argument, Bytes, Call, FileKind};
 use crate::desk::MOST_BUNDLE_RECORDS;
 use crate::encode::{self, RecordBytes};
 use crate::make_acl::{stock, Maker};
 use crate::record::RECORD_LENGTH;
 use crate::replace::{Hint, MOST_HINTS};
 use crate::request::{Certificate, Request, MOST_REQUEST_RECORDS};
-use crate::script::{Bytes, Call, LONGEST_BYTES};
-
-#[derive(Clone, Copy, PartialEq)]
-pub enum FileKind {
-    Km0,
-    Acl,
-    Request,
-    NewAcl,
-    Hints,
-    Bundle,
-}
+use crate::script::LONGEST_BYTES;
 
 impl FileKind {
-    /// How often a file of this kind is the damaged one.
+    /// How often a file of this kind is the damaged one; what is not made of records never is.
     fn weight(self) -> u64 {
         match self {
             FileKind::Km0 => 1,
             FileKind::Acl | FileKind::Request | FileKind::Hints => 8,
             FileKind::NewAcl | FileKind::Bundle => 14,
+            FileKind::Hashes | FileKind::Text | FileKind::Buffer => 0,
         }
     }
 }
@@ -241,43 +233,13 @@ impl Maker {
     }
 }
 
-/// The files that a call lends, each with its kind.
+/// The files of records that a call lends, and its KM0, each with its kind.
 fn files_of(call: &mut Call) -> Vec<(FileKind, &mut Bytes)> {
-    match call {
-        Call::Request { km0, acl, request } => {
-            vec![
-                (FileKind::Km0, km0),
-                (FileKind::Acl, acl),
-                (FileKind::Request, request),
-            ]
-        }
-        Call::Narrow {
-            km0,
-            acl,
-            request,
-            new_acl,
-            hints,
-        } => vec![
-            (FileKind::Km0, km0),
-            (FileKind::Acl, acl),
-            (FileKind::Request, request),
-            (FileKind::NewAcl, new_acl),
-            (FileKind::Hints, hints),
-        ],
-        Call::Expand {
-            km0,
-            acl,
-            request,
-            new_acl,
-        } => vec![
-            (FileKind::Km0, km0),
-            (FileKind::Acl, acl),
-            (FileKind::Request, request),
-            (FileKind::NewAcl, new_acl),
-        ],
-        Call::Desk { bundle, acl } => vec![(FileKind::Bundle, bundle), (FileKind::Acl, acl)],
-        _ => Vec::new(),
-    }
+    let file = |argument| match argument {
+        Argument::Bytes(kind, bytes) if kind.weight() > 0 => Some((kind, bytes)),
+        _ => None,
+    };
+    call.arguments().into_iter().filter_map(file).collect()
 }
 
 /// The whole records of a file; a rest at its end is left out.

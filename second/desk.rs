@@ -1,6 +1,7 @@
 //! The desk: attestation steps over the reported facts of a bundle and the key's ACL.
 
-use crate::acl::{check_acl_length, read_acl, Acl, Action, MakeBlob, ALLOW_SOFT_SLOTS};
+use crate::acl::{Acl, Action, MakeBlob, ALLOW_SOFT_SLOTS};
+use crate::read_acl::{check_acl_length, read_acl};
 use crate::record::{check_length, malformed_unless, records, Hash, Record, Refusal};
 use crate::subject::recovery_mechanism;
 

@@ -4,14 +4,14 @@
 use crate::acl::{
     Acl, Action, Group, Limit, MakeBlob, Sort, TokenParameters, MOST_ACTIONS, MOST_GROUPS,
 };
-use crate::damage::{split, FileKind};
+use crate::call::{Bytes, FileKind};
+use crate::damage::split;
 use crate::desk::MOST_LISTED;
 use crate::encode::{self, RecordBytes};
 use crate::make_acl::{stock, Maker};
 use crate::record::RECORD_LENGTH;
 use crate::replace::{Hint, MOST_HINTS};
 use crate::request::{Asked, Certificate, Request, Token};
-use crate::script::Bytes;
 
 impl Maker {
     /// A file at an edge of its own rules.
@@ -26,37 +26,42 @@ impl Maker {
 
     /// An ACL at an edge: one thing too many, one out of place, one barely good or barely bad.
     fn edge_acl(&mut self) -> Bytes {
+        let acl = self.edge_groups();
+        match self.random.below(15) {
+            0 => self.edge_sort(&acl),
+            1 | 2 => self.limit_out_of_place(&acl),
+            3 => encode::acl(&acl)[RECORD_LENGTH..].to_vec(),
+            4 => self.two_before_three(&acl),
+            _ => encode::acl(&acl),
+        }
+    }
+
+    /// Groups with one thing too many, or one barely good or barely bad.
+    pub fn edge_groups(&mut self) -> Acl {
         let mut acl = self.acl();
         acl.groups.truncate(4);
         if acl.groups.is_empty() {
             acl.groups.push(self.group(0));
         }
         let place = self.random.place(acl.groups.len());
-        match self.random.below(12) {
+        let group = &mut acl.groups[place];
+        match self.random.below(9) {
             0 => self.groups_up_to(&mut acl, MOST_GROUPS + 1),
             1 => self.groups_up_to(&mut acl, MOST_GROUPS),
-            2 => self.five_limits(&mut acl.groups[place]),
-            3 => self.actions_up_to(&mut acl.groups[place], MOST_ACTIONS + 1),
-            4 => self.actions_up_to(&mut acl.groups[place], MOST_ACTIONS),
-            5 => self.repeat_a_limit(&mut acl.groups[place]),
-            6 => self.edge_certification(&mut acl.groups[place]),
+            2 => self.five_limits(group),
+            3 => self.actions_up_to(group, MOST_ACTIONS + 1),
+            4 => self.actions_up_to(group, MOST_ACTIONS),
+            5 => self.repeat_a_limit(group),
+            6 => self.edge_certification(group),
             7 => {
                 let action = self.edge_action();
-                let actions = &mut acl.groups[place].actions;
-                actions.truncate(MOST_ACTIONS - 1);
-                actions.insert(self.random.place(actions.len() + 1), action);
+                group.actions.truncate(MOST_ACTIONS - 1);
+                let place = self.random.place(group.actions.len() + 1);
+                group.actions.insert(place, action);
             }
-            8 => {
-                acl.groups[place].limits = vec![self.edge_limit()];
-                if self.random.chance(50) {
-                    return self.edge_sort(&acl);
-                }
-            }
-            9 => return self.limit_out_of_place(&acl),
-            10 => return encode::acl(&acl)[RECORD_LENGTH..].to_vec(),
-            _ => return self.two_before_three(&acl),
+            _ => group.limits = vec![self.edge_limit()],
         }
-        encode::acl(&acl)
+        acl
     }
 
     /// An ACL or a bundle with one thing too many.

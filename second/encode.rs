@@ -9,25 +9,30 @@ use crate::request::{Asked, Certificate, Request};
 
 pub type RecordBytes = [u8; RECORD_LENGTH];
 
-fn record(kind: u8) -> RecordBytes {
+pub fn record(kind: u8) -> RecordBytes {
     let mut bytes = [0; RECORD_LENGTH];
     bytes[0] = kind;
     bytes
 }
 
-fn put(bytes: &mut RecordBytes, place: usize, part: &[u8]) {
+pub fn put(bytes: &mut RecordBytes, place: usize, part: &[u8]) {
     bytes[place..place + part.len()].copy_from_slice(part);
 }
 
 /// Sets a flag below 8; the records know no higher one.
-fn set_flag(bytes: &mut RecordBytes, flag: u32) {
+pub fn set_flag(bytes: &mut RecordBytes, flag: u32) {
     bytes[3] |= 1 << flag;
+}
+
+/// A hash that is there, and its flag.
+pub fn put_hash(bytes: &mut RecordBytes, flag: u32, place: usize, hash: &Hash) {
+    set_flag(bytes, flag);
+    put(bytes, place, hash);
 }
 
 fn put_optional_hash(bytes: &mut RecordBytes, flag: u32, place: usize, hash: &Option<Hash>) {
     if let Some(hash) = hash {
-        set_flag(bytes, flag);
-        put(bytes, place, hash);
+        put_hash(bytes, flag, place, hash);
     }
 }
 

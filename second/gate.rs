@@ -1,9 +1,7 @@
 //! The gate: the ledger, and when a group of an ACL grants a request.
 
-use crate::acl::{
-    check_acl_length, read_acl, Acl, Action, Group, Limit, MakeBlob, Sort, LAST_COUNTER,
-    MOST_GROUPS,
-};
+use crate::acl::{Acl, Action, Group, Limit, MakeBlob, Sort, LAST_COUNTER, MOST_GROUPS};
+use crate::read_acl::{check_acl_length, read_acl};
 use crate::record::{Hash, Refusal};
 use crate::request::{check_request_length, read_request, Asked, Certificate, Request, Token};
 

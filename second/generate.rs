@@ -3,19 +3,21 @@
 
 use std::io::{self, Write};
 
-use crate::acl::{read_acl, Acl};
+use crate::acl::Acl;
 use crate::answer::{answer_call, Answer};
+use crate::call::{Bytes, Call};
 use crate::encode;
 use crate::make_acl::Maker;
 use crate::make_desk::{DeskCase, FIRST_STEPS, STEPS};
 use crate::make_narrowing::{Narrowing, BREACHES};
 use crate::make_request::{Asking, FAR_TIME};
+use crate::read_acl::read_acl;
 use crate::record::Hash;
 use crate::request::{EXPAND_ACL, REDUCE_ACL};
-use crate::script::{call_bytes, write_call, Bytes, Call, LONGEST_BYTES};
+use crate::script::write_call;
 
 /// How often each letter is drawn.
-const WEIGHTS: [(u8, u64); 8] = [
+const WEIGHTS: [(u8, u64); 10] = [
     (b'F', 12),
     (b'L', 60),
     (b'C', 45),
@@ -24,6 +26,8 @@ const WEIGHTS: [(u8, u64); 8] = [
     (b'X', 70),
     (b'D', 190),
     (b'S', 60),
+    (b'W', 60),
+    (b'T', 120),
 ];
 
 /// After so many refusals in a row the host takes another ACL.
@@ -36,11 +40,11 @@ struct Host {
     refusals: u32,
 }
 
-struct Generator {
-    maker: Maker,
+pub struct Generator {
+    pub maker: Maker,
     host: Host,
-    kinds: Vec<u8>,
-    seed: u64,
+    pub kinds: Vec<u8>,
+    pub seed: u64,
 }
 
 /// Writes a script of so many calls; a seed divisible by 16 adds an ending that stops the run.
@@ -126,7 +130,7 @@ impl Generator {
     }
 
     /// The call, and whether it is the host's own.
-    fn make_call(&mut self, letter: u8) -> (Call, bool) {
+    pub fn make_call(&mut self, letter: u8) -> (Call, bool) {
         let by_host = self.maker.random.chance(58);
         let call = match letter {
             b'F' => Call::Fresh,
@@ -140,7 +144,9 @@ impl Generator {
             b'N' => self.narrow_call(by_host),
             b'X' => self.expand_call(by_host),
             b'D' => self.desk_call(),
-            _ => self.maker.subject_call(),
+            b'S' => self.maker.subject_call(),
+            b'W' => self.maker.write_listing_call(),
+            _ => self.maker.read_listing_call(),
         };
         (call, by_host && matches!(letter, b'R' | b'N' | b'X'))
     }
@@ -340,109 +346,10 @@ impl Generator {
         }
         case
     }
-
-    /// What ends the run: a cut call, an unknown byte or a length that is too great.
-    fn stopping_end(&mut self) -> Bytes {
-        let letters: Vec<u8> = self
-            .kinds
-            .iter()
-            .copied()
-            .filter(|letter| *letter != b'F')
-            .collect();
-        if letters.is_empty() {
-            return self.unknown_byte();
-        }
-        let letter = self.maker.random.pick(&letters);
-        let (call, _) = self.make_call(letter);
-        match self.seed / 16 % 3 {
-            0 => self.cut_call(&call),
-            1 => self.unknown_byte(),
-            _ => self.too_long_call(&call),
-        }
-    }
-
-    fn cut_call(&mut self, call: &Call) -> Bytes {
-        let mut bytes = call_bytes(call);
-        let length = self.maker.random.between(1, bytes.len() as u64 - 1) as usize;
-        bytes.truncate(length);
-        bytes
-    }
-
-    /// A byte that is no letter of a call, or a letter that this script may not have; then two
-    /// bytes more. For a program that knows the letter the script then ends inside a call, which is
-    /// a stop as well.
-    fn unknown_byte(&mut self) -> Bytes {
-        let is_unknown = |byte: &u8| !self.kinds.contains(byte);
-        let choices: Vec<u8> = b"\x00\n 1EfGMQTYZr\x80\xffLCRNXDS"
-            .iter()
-            .copied()
-            .filter(is_unknown)
-            .collect();
-        vec![self.maker.random.pick(&choices), b'F', b'F']
-    }
-
-    /// One length of the call over 131,072, and as many bytes after it as would fill the least such
-    /// length.
-    fn too_long_call(&mut self, call: &Call) -> Bytes {
-        let places = length_places(call);
-        if places.is_empty() {
-            return self.cut_call(call);
-        }
-        let place = self.maker.random.pick(&places);
-        let least = LONGEST_BYTES as u32 + 1;
-        let length = self
-            .maker
-            .random
-            .pick(&[least, least, 0x0100_0000, u32::MAX]);
-        let mut bytes = call_bytes(call);
-        bytes.truncate(place);
-        bytes.extend(length.to_be_bytes());
-        bytes.resize(place + 4 + LONGEST_BYTES + 300, 0);
-        bytes
-    }
 }
 
 fn request_file(asking: &Asking) -> Bytes {
     encode::request(&asking.request, &asking.certificates)
-}
-
-/// Where the lengths of a call's byte arguments stand.
-fn length_places(call: &Call) -> Vec<usize> {
-    let (first, lengths) = match call {
-        Call::Request { km0, acl, request } => (1, vec![km0.len(), acl.len(), request.len()]),
-        Call::Narrow {
-            km0,
-            acl,
-            request,
-            new_acl,
-            hints,
-        } => (
-            1,
-            vec![
-                km0.len(),
-                acl.len(),
-                request.len(),
-                new_acl.len(),
-                hints.len(),
-            ],
-        ),
-        Call::Expand {
-            km0,
-            acl,
-            request,
-            new_acl,
-        } => (1, vec![km0.len(), acl.len(), request.len(), new_acl.len()]),
-        Call::Desk { bundle, acl } => (1, vec![bundle.len(), acl.len()]),
-        Call::Subject { hashes, buffer, .. } => (17, vec![hashes.len(), buffer.len()]),
-        _ => return Vec::new(),
-    };
-    let mut places = Vec::new();
-    let mut place = first;
-    for length in lengths {
-        places.push(place);
-        place += 4 + length;
-    }
-    places
 }
 
 #[cfg(test)]
@@ -473,7 +380,9 @@ mod tests {
 
     #[test]
     fn only_the_letters_asked_for() {
-        for kinds in ["F", "L", "C", "R", "N", "X", "D", "S", "FLCR", "RN"] {
+        for kinds in [
+            "F", "L", "C", "R", "N", "X", "D", "S", "W", "T", "FLCR", "RN",
+        ] {
             let script = script(5, 60, kinds);
             let mut input = &script[..];
             let mut calls = 0;
@@ -524,6 +433,18 @@ mod tests {
         }
         for number in [1, 9, 10, 11] {
             has(&format!(" S refuse {number}"));
+        }
+        for answer in [
+            "W length",
+            "W refuse 1",
+            "W refuse 2",
+            "W refuse 3",
+            "W refuse 9",
+            "T length",
+            "T refuse 9",
+            "T refuse 15",
+        ] {
+            has(&format!(" {answer}"));
         }
         STEPS
             .iter()

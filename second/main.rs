@@ -1,21 +1,27 @@
-//! A second program for the permission gate, the attestation desk and the subject writer, written
-//! from the papers alone, so that its answers can be compared with those of the proved program.
-//! See README.md.
+//! A second program for the permission gate, the attestation desk, the subject writer and what came
+//! with the requests, written from the papers alone, so that its answers can be compared with those
+//! of the proved program. See README.md.
 
 mod acl;
 mod answer;
+mod call;
 mod damage;
 mod desk;
 mod edge_files;
 mod encode;
+mod ends;
 mod gate;
 mod generate;
+mod listing;
 mod make_acl;
 mod make_desk;
+mod make_listing;
 mod make_narrowing;
 mod make_request;
 mod make_subject;
 mod random;
+mod read_acl;
+mod read_listing;
 mod record;
 mod replace;
 mod request;

@@ -358,8 +358,8 @@ impl Maker {
 #[cfg(test)]
 mod tests {
     use super::*;
-    use crate::acl::read_acl;
     use crate::encode;
+    use crate::read_acl::read_acl;
 
     #[test]
     fn made_acls_are_well_formed() {

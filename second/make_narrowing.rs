@@ -542,8 +542,8 @@ fn kind(action: &Action) -> u8 {
 #[cfg(test)]
 mod tests {
     use super::*;
-    use crate::acl::read_acl;
     use crate::encode;
+    use crate::read_acl::read_acl;
     use crate::replace::is_narrowing;
 
     #[test]

@@ -1,8 +1,9 @@
 //! Makes calls of the subject writer and the numbers of clears.
 
 use crate::acl::{Acl, Sort, LAST_COUNTER};
+use crate::call::Call;
 use crate::make_acl::Maker;
-use crate::script::{Call, LONGEST_BYTES};
+use crate::script::LONGEST_BYTES;
 use crate::subject::{hashes_length, write_subject, LAST_SUITE};
 
 impl Maker {

@@ -6,25 +6,50 @@ pub const RECORD_LENGTH: usize = 64;
 /// Every hash has twenty bytes.
 pub type Hash = [u8; 20];
 
-/// The refusal numbers of document 01.
+/// The refusals of document 01 and of document 02's requests.
 #[derive(Clone, Copy, Debug, PartialEq, Eq)]
 pub enum Refusal {
-    Length = 1,
-    Malformed = 2,
-    TooMany = 3,
-    TooEarly = 4,
-    NotAdmitted = 5,
-    NotCertified = 6,
-    Spent = 7,
-    NotNarrower = 8,
-    ShortBuffer = 9,
-    NoSuchNumber = 10,
-    NoSuchSuite = 11,
+    Length,
+    Malformed,
+    TooMany,
+    TooEarly,
+    NotAdmitted,
+    NotCertified,
+    Spent,
+    NotNarrower,
+    ShortBuffer,
+    NoSuchNumber,
+    NoSuchSuite,
+    /// The first line of a text, from 1, that is no line of a listing.
+    NotALine {
+        line: usize,
+    },
 }
 
 impl Refusal {
     pub fn number(self) -> u8 {
-        self as u8
+        match self {
+            Refusal::Length => 1,
+            Refusal::Malformed => 2,
+            Refusal::TooMany => 3,
+            Refusal::TooEarly => 4,
+            Refusal::NotAdmitted => 5,
+            Refusal::NotCertified => 6,
+            Refusal::Spent => 7,
+            Refusal::NotNarrower => 8,
+            Refusal::ShortBuffer => 9,
+            Refusal::NoSuchNumber => 10,
+            Refusal::NoSuchSuite => 11,
+            Refusal::NotALine { .. } => 15,
+        }
+    }
+
+    /// What is told beside the number.
+    pub fn beside(self) -> Option<usize> {
+        match self {
+            Refusal::NotALine { line } => Some(line),
+            _ => None,
+        }
     }
 }
 
@@ -48,7 +73,11 @@ pub fn part_if(present: bool, part: Part) -> Part {
 #[derive(Clone, Copy)]
 pub struct Record<'a>(&'a [u8]);
 
-impl Record<'_> {
+impl<'a> Record<'a> {
+    pub fn of(bytes: &'a [u8; RECORD_LENGTH]) -> Record<'a> {
+        Record(bytes)
+    }
+
     pub fn byte(self, place: usize) -> u8 {
         self.0[place]
     }
@@ -121,6 +150,14 @@ pub fn check_length(file: &[u8], most_records: usize) -> Result<(), Refusal> {
     } else {
         Err(Refusal::Length)
     }
+}
+
+/// Writes a result at the front of a lent buffer and replies with its length; "bytes past it stay",
+/// and a buffer too short for it (9) stays untouched.
+pub fn write_front(buffer: &mut [u8], result: &[u8]) -> Result<usize, Refusal> {
+    let front = buffer.get_mut(..result.len()).ok_or(Refusal::ShortBuffer)?;
+    front.copy_from_slice(result);
+    Ok(result.len())
 }
 
 /// The records of a file whose length has been checked.

@@ -1,9 +1,8 @@
 //! Replacing the ACL in force: narrowing, which hints must show to be one, and expansion.
 
-use crate::acl::{
-    check_acl_length, read_acl, Acl, Action, Group, Limit, MakeBlob, MOST_ACTIONS, MOST_GROUPS,
-};
+use crate::acl::{Acl, Action, Group, Limit, MakeBlob, MOST_ACTIONS, MOST_GROUPS};
 use crate::gate::{check_km0_length, grant, Ledger};
+use crate::read_acl::{check_acl_length, read_acl};
 use crate::record::{check_length, malformed_unless, records, Hash, Record, Refusal};
 use crate::request::{check_request_length, read_request, EXPAND_ACL, REDUCE_ACL};
 

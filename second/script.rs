@@ -2,72 +2,18 @@
 
 use std::io::{self, ErrorKind, Read, Write};
 
-/// The letters of the eight calls.
-pub const ALL_KINDS: &str = "FLCRNXDS";
-/// "Bytes are a 4-byte big-endian length and then that many bytes, at most 131,072."
-pub const LONGEST_BYTES: usize = 131_072;
+use crate::call::{Argument, Bytes, Call};
 
-pub type Bytes = Vec<u8>;
-
-#[derive(Clone, Debug, PartialEq)]
-pub enum Call {
-    Fresh,
-    Load {
-        time: u64,
-    },
-    Clear {
-        counter: u64,
-    },
-    Request {
-        km0: Bytes,
-        acl: Bytes,
-        request: Bytes,
-    },
-    Narrow {
-        km0: Bytes,
-        acl: Bytes,
-        request: Bytes,
-        new_acl: Bytes,
-        hints: Bytes,
-    },
-    Expand {
-        km0: Bytes,
-        acl: Bytes,
-        request: Bytes,
-        new_acl: Bytes,
-    },
-    Desk {
-        bundle: Bytes,
-        acl: Bytes,
-    },
-    Subject {
-        certificate: u64,
-        suite: u64,
-        hashes: Bytes,
-        buffer: Bytes,
-    },
-}
-
-impl Call {
-    pub fn letter(&self) -> char {
-        match self {
-            Call::Fresh => 'F',
-            Call::Load { .. } => 'L',
-            Call::Clear { .. } => 'C',
-            Call::Request { .. } => 'R',
-            Call::Narrow { .. } => 'N',
-            Call::Expand { .. } => 'X',
-            Call::Desk { .. } => 'D',
-            Call::Subject { .. } => 'S',
-        }
-    }
-}
+/// The letters of all calls.
+pub const ALL_KINDS: &str = "FLCRNXDSWT";
+/// "Bytes are a 4-byte big-endian length and then that many bytes, at most [...] 262,144".
+pub const LONGEST_BYTES: usize = 262_144;
 
 /// What stands next in a script.
 #[derive(Debug, PartialEq)]
 pub enum Next {
     Call(Call),
-    /// "A script that ends inside a call, an unknown byte or a length over 131,072 ends the run."
+    /// "A script that ends inside a call, an unknown byte or a length over the greatest ends the run."
     Stop,
     End,
 }
@@ -105,45 +51,14 @@ pub fn read_call(input: &mut impl Read, kinds: &str) -> io::Result<Next> {
 }
 
 fn read_arguments(input: &mut impl Read, letter: u8) -> Result<Call, Trouble> {
-    // The fields are read in the order in which they are written here.
-    Ok(match letter {
-        b'F' => Call::Fresh,
-        b'L' => Call::Load {
-            time: read_number(input)?,
-        },
-        b'C' => Call::Clear {
-            counter: read_number(input)?,
-        },
-        b'R' => Call::Request {
-            km0: read_bytes(input)?,
-            acl: read_bytes(input)?,
-            request: read_bytes(input)?,
-        },
-        b'N' => Call::Narrow {
-            km0: read_bytes(input)?,
-            acl: read_bytes(input)?,
-            request: read_bytes(input)?,
-            new_acl: read_bytes(input)?,
-            hints: read_bytes(input)?,
-        },
-        b'X' => Call::Expand {
-            km0: read_bytes(input)?,
-            acl: read_bytes(input)?,
-            request: read_bytes(input)?,
-            new_acl: read_bytes(input)?,
-        },
-        b'D' => Call::Desk {
-            bundle: read_bytes(input)?,
-            acl: read_bytes(input)?,
-        },
-        b'S' => Call::Subject {
-            certificate: read_number(input)?,
-            suite: read_number(input)?,
-            hashes: read_bytes(input)?,
-            buffer: read_bytes(input)?,
-        },
-        _ => return Err(Trouble::Stop),
-    })
+    let mut call = Call::blank(letter).ok_or(Trouble::Stop)?;
+    for argument in call.arguments() {
+        match argument {
+            Argument::Number(number) => *number = read_number(input)?,
+            Argument::Bytes(_, bytes) => *bytes = read_bytes(input)?,
+        }
+    }
+    Ok(call)
 }
 
 fn read_number(input: &mut impl Read) -> Result<u64, Trouble> {
@@ -167,50 +82,32 @@ fn read_bytes(input: &mut impl Read) -> Result<Bytes, Trouble> {
 /// The bytes of one call as they stand in a script.
 pub fn call_bytes(call: &Call) -> Bytes {
     let mut script = vec![call.letter() as u8];
-    match call {
-        Call::Fresh => {}
-        Call::Load { time } => add_number(&mut script, *time),
-        Call::Clear { counter } => add_number(&mut script, *counter),
-        Call::Request { km0, acl, request } => add_all(&mut script, &[km0, acl, request]),
-        Call::Narrow {
-            km0,
-            acl,
-            request,
-            new_acl,
-            hints,
-        } => {
-            add_all(&mut script, &[km0, acl, request, new_acl, hints]);
-        }
-        Call::Expand {
-            km0,
-            acl,
-            request,
-            new_acl,
-        } => add_all(&mut script, &[km0, acl, request, new_acl]),
-        Call::Desk { bundle, acl } => add_all(&mut script, &[bundle, acl]),
-        Call::Subject {
-            certificate,
-            suite,
-            hashes,
-            buffer,
-        } => {
-            add_number(&mut script, *certificate);
-            add_number(&mut script, *suite);
-            add_all(&mut script, &[hashes, buffer]);
+    for argument in call.clone().arguments() {
+        match argument {
+            Argument::Number(number) => script.extend(number.to_be_bytes()),
+            Argument::Bytes(_, bytes) => {
+                script.extend((bytes.len() as u32).to_be_bytes());
+                script.extend(bytes.iter());
+            }
         }
     }
     script
 }
 
-fn add_number(script: &mut Bytes, number: u64) {
-    script.extend(number.to_be_bytes());
-}
-
-fn add_all(script: &mut Bytes, arguments: &[&Bytes]) {
-    for bytes in arguments {
-        script.extend((bytes.len() as u32).to_be_bytes());
-        script.extend(*bytes);
+/// Where the lengths of a call's byte arguments stand in its bytes.
+pub fn length_places(call: &Call) -> Vec<usize> {
+    let mut places = Vec::new();
+    let mut place = 1;
+    for argument in call.clone().arguments() {
+        match argument {
+            Argument::Number(_) => place += 8,
+            Argument::Bytes(_, bytes) => {
+                places.push(place);
+                place += 4 + bytes.len();
+            }
+        }
     }
+    places
 }
 
 pub fn write_call(output: &mut impl Write, call: &Call) -> io::Result<()> {
@@ -246,6 +143,14 @@ mod tests {
             Call::Load { time: 1 << 40 },
             narrow_call(),
             subject,
+            Call::WriteListing {
+                acl: vec![1; 64],
+                buffer: vec![2; 7],
+            },
+            Call::ReadListing {
+                text: b"group\n".to_vec(),
+                buffer: vec![3; 64],
+            },
         ];
         let script: Bytes = calls.iter().flat_map(call_bytes).collect();
         let mut input = &script[..];
@@ -281,5 +186,20 @@ mod tests {
         );
         script[4] = 1;
         assert_eq!(read_call(&mut &script[..], ALL_KINDS).unwrap(), Next::Stop);
+    }
+
+    #[test]
+    fn every_letter_has_its_call() {
+        for letter in ALL_KINDS.chars() {
+            let call = Call::blank(letter as u8).unwrap();
+            assert_eq!(call.letter(), letter);
+        }
+    }
+
+    #[test]
+    fn places_of_lengths() {
+        assert_eq!(length_places(&narrow_call()), [1, 25, 93, 162, 166]);
+        let subject = Call::blank(b'S').unwrap();
+        assert_eq!(length_places(&subject), [17, 21]);
     }
 }

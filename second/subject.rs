@@ -1,6 +1,6 @@
 //! The subject writer: the bytes that world certificates sign.
 
-use crate::record::Refusal;
+use crate::record::{write_front, Refusal};
 
 /// Refusal 11: "suite not 1 to 5".
 pub const LAST_SUITE: u64 = 5;
@@ -63,14 +63,7 @@ pub fn write_subject(
     if hashes.len() != hashes_length(certificate) {
         return Err(Refusal::Length);
     }
-    let header = header(certificate, suite);
-    let length = header.len() + hashes.len();
-    if buffer.len() < length {
-        return Err(Refusal::ShortBuffer);
-    }
-    buffer[..header.len()].copy_from_slice(header);
-    buffer[header.len()..length].copy_from_slice(hashes);
-    Ok(length)
+    write_front(buffer, &[header(certificate, suite), hashes].concat())
 }
 
 #[cfg(test)]

@@ -1,0 +1,187 @@
+//! The calls of a replay script and their arguments, in the order in which they stand there.
+
+pub type Bytes = Vec<u8>;
+
+#[derive(Clone, Debug, PartialEq)]
+pub enum Call {
+    Fresh,
+    Load {
+        time: u64,
+    },
+    Clear {
+        counter: u64,
+    },
+    Request {
+        km0: Bytes,
+        acl: Bytes,
+        request: Bytes,
+    },
+    Narrow {
+        km0: Bytes,
+        acl: Bytes,
+        request: Bytes,
+        new_acl: Bytes,
+        hints: Bytes,
+    },
+    Expand {
+        km0: Bytes,
+        acl: Bytes,
+        request: Bytes,
+        new_acl: Bytes,
+    },
+    Desk {
+        bundle: Bytes,
+        acl: Bytes,
+    },
+    Subject {
+        certificate: u64,
+        suite: u64,
+        hashes: Bytes,
+        buffer: Bytes,
+    },
+    WriteListing {
+        acl: Bytes,
+        buffer: Bytes,
+    },
+    ReadListing {
+        text: Bytes,
+        buffer: Bytes,
+    },
+}
+
+/// What the bytes of an argument hold.
+#[derive(Clone, Copy, Debug, PartialEq)]
+pub enum FileKind {
+    Km0,
+    Acl,
+    Request,
+    NewAcl,
+    Hints,
+    Bundle,
+    Hashes,
+    Text,
+    /// A buffer as lent.
+    Buffer,
+}
+
+/// One argument of a call.
+pub enum Argument<'a> {
+    Number(&'a mut u64),
+    Bytes(FileKind, &'a mut Bytes),
+}
+
+impl Call {
+    pub fn letter(&self) -> char {
+        match self {
+            Call::Fresh => 'F',
+            Call::Load { .. } => 'L',
+            Call::Clear { .. } => 'C',
+            Call::Request { .. } => 'R',
+            Call::Narrow { .. } => 'N',
+            Call::Expand { .. } => 'X',
+            Call::Desk { .. } => 'D',
+            Call::Subject { .. } => 'S',
+            Call::WriteListing { .. } => 'W',
+            Call::ReadListing { .. } => 'T',
+        }
+    }
+
+    /// The call of that letter with every number zero and every file empty.
+    pub fn blank(letter: u8) -> Option<Call> {
+        let none = Bytes::new;
+        Some(match letter {
+            b'F' => Call::Fresh,
+            b'L' => Call::Load { time: 0 },
+            b'C' => Call::Clear { counter: 0 },
+            b'R' => Call::Request {
+                km0: none(),
+                acl: none(),
+                request: none(),
+            },
+            b'N' => Call::Narrow {
+                km0: none(),
+                acl: none(),
+                request: none(),
+                new_acl: none(),
+                hints: none(),
+            },
+            b'X' => Call::Expand {
+                km0: none(),
+                acl: none(),
+                request: none(),
+                new_acl: none(),
+            },
+            b'D' => Call::Desk {
+                bundle: none(),
+                acl: none(),
+            },
+            b'S' => Call::Subject {
+                certificate: 0,
+                suite: 0,
+                hashes: none(),
+                buffer: none(),
+            },
+            b'W' => Call::WriteListing {
+                acl: none(),
+                buffer: none(),
+            },
+            b'T' => Call::ReadListing {
+                text: none(),
+                buffer: none(),
+            },
+            _ => return None,
+        })
+    }
+
+    /// The arguments in the order in which a script has them.
+    pub fn arguments(&mut self) -> Vec<Argument<'_>> {
+        use Argument::{Bytes, Number};
+        use FileKind::{Acl, Buffer, Bundle, Hashes, Hints, Km0, NewAcl, Request, Text};
+        match self {
+            Call::Fresh => Vec::new(),
+            Call::Load { time } => vec![Number(time)],
+            Call::Clear { counter } => vec![Number(counter)],
+            Call::Request { km0, acl, request } => {
+                vec![Bytes(Km0, km0), Bytes(Acl, acl), Bytes(Request, request)]
+            }
+            Call::Narrow {
+                km0,
+                acl,
+                request,
+                new_acl,
+                hints,
+            } => vec![
+                Bytes(Km0, km0),
+                Bytes(Acl, acl),
+                Bytes(Request, request),
+                Bytes(NewAcl, new_acl),
+                Bytes(Hints, hints),
+            ],
+            Call::Expand {
+                km0,
+                acl,
+                request,
+                new_acl,
+            } => vec![
+                Bytes(Km0, km0),
+                Bytes(Acl, acl),
+                Bytes(Request, request),
+                Bytes(NewAcl, new_acl),
+            ],
+            Call::Desk { bundle, acl } => vec![Bytes(Bundle, bundle), Bytes(Acl, acl)],
+            Call::Subject {
+                certificate,
+                suite,
+                hashes,
+                buffer,
+            } => vec![
+                Number(certificate),
+                Number(suite),
+                Bytes(Hashes, hashes),
+                Bytes(Buffer, buffer),
+            ],
+            Call::WriteListing { acl, buffer } => vec![Bytes(Acl, acl), Bytes(Buffer, buffer)],
+            Call::ReadListing { text, buffer } => vec![Bytes(Text, text), Bytes(Buffer, buffer)],
+        }
+    }
+}

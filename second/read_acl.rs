@@ -1,0 +1,252 @@
+//! Reading ACLs: groups, each followed by its limits, then its actions.
+
+use crate::acl::{
+    Acl, Action, Group, Limit, MakeBlob, Sort, TokenParameters, LAST_COUNTER, MOST_ACL_RECORDS,
+    MOST_ACTIONS, MOST_GROUPS, MOST_LIMITS,
+};
+use crate::record::{check_length, malformed_unless, part_if, records, Record, Refusal};
+
+/// Refusal 1 for an ACL file.
+pub fn check_acl_length(file: &[u8]) -> Result<(), Refusal> {
+    check_length(file, MOST_ACL_RECORDS)
+}
+
+/// Reads an ACL file from its first record; the first bad record answers.
+pub fn read_acl(file: &[u8]) -> Result<Acl, Refusal> {
+    let mut reader = AclReader::default();
+    for record in records(file) {
+        reader.add(record)?;
+    }
+    Ok(reader.acl)
+}
+
+/// Takes an ACL's records one by one, whether they come from a file or from a listing.
+#[derive(Default)]
+pub struct AclReader {
+    acl: Acl,
+}
+
+impl AclReader {
+    pub fn add(&mut self, record: Record) -> Result<(), Refusal> {
+        match record.kind() {
+            1 => self.add_group(record),
+            2 => self.add_limit(record),
+            3..=5 => self.add_action(record),
+            _ => Err(Refusal::Malformed),
+        }
+    }
+
+    fn add_group(&mut self, record: Record) -> Result<(), Refusal> {
+        let group = read_group(record)?;
+        push_up_to(&mut self.acl.groups, group, MOST_GROUPS)
+    }
+
+    /// The group whose limits and actions are being read; before the first, neither is in place.
+    fn group(&mut self) -> Result<&mut Group, Refusal> {
+        self.acl.groups.last_mut().ok_or(Refusal::Malformed)
+    }
+
+    fn add_limit(&mut self, record: Record) -> Result<(), Refusal> {
+        let limit = read_limit(record)?;
+        let group = self.group()?;
+        // A limit after an action of its group is out of place.
+        malformed_unless(group.actions.is_empty())?;
+        // "One group has at most one limit of sort 1, one of sort 3, and never one counter twice
+        // (else 2)."
+        let is_new = |earlier: &Limit| earlier.sort != limit.sort;
+        malformed_unless(group.limits.iter().all(is_new))?;
+        push_up_to(&mut group.limits, limit, MOST_LIMITS)
+    }
+
+    fn add_action(&mut self, record: Record) -> Result<(), Refusal> {
+        let action = read_action(record)?;
+        push_up_to(&mut self.group()?.actions, action, MOST_ACTIONS)
+    }
+}
+
+/// Refusal 3: "one group, limit, action [...] too many". It comes after the record's own 2.
+fn push_up_to<T>(list: &mut Vec<T>, item: T, most: usize) -> Result<(), Refusal> {
+    if list.len() == most {
+        return Err(Refusal::TooMany);
+    }
+    list.push(item);
+    Ok(())
+}
+
+/// "1 group: flag 0 certifier (4-23), flag 1 mechanism (24-25, not zero; needs flag 0)."
+fn read_group(record: Record) -> Result<Group, Refusal> {
+    let has_certifier = record.flag(0);
+    let has_mechanism = record.flag(1);
+    record.check_zeros(
+        0b11,
+        &[
+            part_if(has_certifier, (4, 23)),
+            part_if(has_mechanism, (24, 25)),
+        ],
+    )?;
+    let mechanism = has_mechanism.then(|| record.number16(24));
+    malformed_unless(mechanism != Some(0))?;
+    malformed_unless(has_certifier || !has_mechanism)?;
+    Ok(Group {
+        certifier: record.hash_if(0, 4),
+        mechanism,
+        limits: Vec::new(),
+        actions: Vec::new(),
+    })
+}
+
+/// "2 limit: byte 4 sort (1 uses per load, 2 named counter, 3 seconds since load), byte 5 counter
+/// 0-95 (sort 2 only, else zero), 8-11 maximum."
+fn read_limit(record: Record) -> Result<Limit, Refusal> {
+    record.check_zeros(0, &[(4, 5), (8, 11)])?;
+    let sort = match (record.byte(4), record.byte(5)) {
+        (1, 0) => Sort::UsesPerLoad,
+        (2, counter) if counter <= LAST_COUNTER => Sort::Counter(counter),
+        (3, 0) => Sort::SecondsSinceLoad,
+        _ => return Err(Refusal::Malformed),
+    };
+    Ok(Limit {
+        sort,
+        maximum: record.number32(8),
+    })
+}
+
+fn read_action(record: Record) -> Result<Action, Refusal> {
+    match record.kind() {
+        3 => read_op_permissions(record),
+        4 => read_make_blob(record),
+        _ => read_make_archive_blob(record),
+    }
+}
+
+/// "3 OpPermissions: 4-5, sixteen bits."
+fn read_op_permissions(record: Record) -> Result<Action, Refusal> {
+    record.check_zeros(0, &[(4, 5)])?;
+    Ok(Action::OpPermissions(record.number16(4)))
+}
+
+/// "4 MakeBlob: flags 0 AllowKmOnly, 1 AllowNonKm0, 2 kmhash (4-23), 3 kthash (24-43), 4 ktparams
+/// (44-51), 5 AllowNullKmToken."
+fn read_make_blob(record: Record) -> Result<Action, Refusal> {
+    let kmhash_part = part_if(record.flag(2), (4, 23));
+    let kthash_part = part_if(record.flag(3), (24, 43));
+    let ktparams_part = part_if(record.flag(4), (44, 51));
+    record.check_zeros(0b11_1111, &[kmhash_part, kthash_part, ktparams_part])?;
+    let ktparams = if record.flag(4) {
+        Some(TokenParameters::read(record, 44)?)
+    } else {
+        None
+    };
+    Ok(Action::MakeBlob(MakeBlob {
+        allow_km_only: record.flag(0),
+        allow_non_km0: record.flag(1),
+        allow_null_km_token: record.flag(5),
+        kmhash: record.hash_if(2, 4),
+        kthash: record.hash_if(3, 24),
+        ktparams,
+    }))
+}
+
+/// "5 MakeArchiveBlob: flag 0 kahash (4-23); mechanism 24-25, not zero."
+fn read_make_archive_blob(record: Record) -> Result<Action, Refusal> {
+    record.check_zeros(0b1, &[part_if(record.flag(0), (4, 23)), (24, 25)])?;
+    let mechanism = record.number16(24);
+    malformed_unless(mechanism != 0)?;
+    Ok(Action::MakeArchiveBlob {
+        kahash: record.hash_if(0, 4),
+        mechanism,
+    })
+}
+
+#[cfg(test)]
+mod tests {
+    use super::*;
+    use crate::encode;
+
+    fn parameters(flags: u16, needed: u8, total: u8, time_limit: u32) -> TokenParameters {
+        TokenParameters {
+            flags,
+            needed,
+            total,
+            time_limit,
+        }
+    }
+
+    #[test]
+    fn what_is_written_is_read_back() {
+        let blob = MakeBlob {
+            allow_km_only: true,
+            allow_non_km0: false,
+            allow_null_km_token: true,
+            kmhash: Some([3; 20]),
+            kthash: None,
+            ktparams: Some(parameters(1, 1, 64, 9)),
+        };
+        let group = Group {
+            certifier: Some([0; 20]),
+            mechanism: Some(7),
+            limits: vec![
+                Limit {
+                    sort: Sort::SecondsSinceLoad,
+                    maximum: 0,
+                },
+                Limit {
+                    sort: Sort::Counter(95),
+                    maximum: u32::MAX,
+                },
+            ],
+            actions: vec![
+                Action::MakeBlob(blob),
+                Action::OpPermissions(0x8001),
+                Action::MakeArchiveBlob {
+                    kahash: Some([9; 20]),
+                    mechanism: 0x1234,
+                },
+            ],
+        };
+        let acl = Acl {
+            groups: vec![Group::default(), group],
+        };
+        assert_eq!(read_acl(&encode::acl(&acl)), Ok(acl));
+    }
+
+    fn acl_of(limits: &[Sort], actions: usize) -> Vec<u8> {
+        let group = Group {
+            limits: limits
+                .iter()
+                .map(|&sort| Limit { sort, maximum: 1 })
+                .collect(),
+            actions: vec![Action::OpPermissions(16); actions],
+            ..Group::default()
+        };
+        encode::acl(&Acl {
+            groups: vec![group],
+        })
+    }
+
+    #[test]
+    fn too_many_comes_after_malformed() {
+        let five = [
+            Sort::UsesPerLoad,
+            Sort::Counter(1),
+            Sort::Counter(2),
+            Sort::SecondsSinceLoad,
+            Sort::Counter(3),
+        ];
+        assert_eq!(read_acl(&acl_of(&five, 0)), Err(Refusal::TooMany));
+        let repeated = [
+            Sort::UsesPerLoad,
+            Sort::Counter(1),
+            Sort::Counter(2),
+            Sort::Counter(3),
+            Sort::Counter(1),
+        ];
+        assert_eq!(read_acl(&acl_of(&repeated, 0)), Err(Refusal::Malformed));
+        assert!(read_acl(&acl_of(&five[..4], 8)).is_ok());
+        assert_eq!(read_acl(&acl_of(&[], 9)), Err(Refusal::TooMany));
+        let groups = Acl {
+            groups: vec![Group::default(); 17],
+        };
+        assert_eq!(read_acl(&encode::acl(&groups)), Err(Refusal::TooMany));
+    }
+}
