@@ -1,7 +1,8 @@
-/* Asks the gate for every request record of a day, then the desk for a verdict:
+/* Prints an ACL as text and reads the text back, asks the gate for every request record of a day, then the desk for a verdict:
  *     example KM0 ACL REQUESTS BUNDLE BUNDLE_ACL */
 #include <stdio.h>
 #include <stdlib.h>
+#include <string.h>
 
 #include "akubolinfe.h"
 
@@ -26,6 +27,25 @@ static int read_file(const char *name, file *into)
     }
     fclose(f);
     return 1;
+}
+
+/* The listing of an ACL, and whether it reads back to the same bytes. */
+static void print_listing(const file *acl)
+{
+    static uint8_t text[AKUBOLINFE_LISTING_BYTES], back[AKUBOLINFE_ACL_BYTES];
+    akubolinfe_listing l = akubolinfe_write_listing(acl->bytes, acl->length, text, sizeof text);
+    if (l.answer != AKUBOLINFE_PRODUCED) {
+        printf("no listing: refused %llu\n", (unsigned long long)l.number);
+        return;
+    }
+    fwrite(text, 1, l.number, stdout);
+    akubolinfe_listing r = akubolinfe_read_listing(text, l.number, back, sizeof back);
+    if (r.answer == AKUBOLINFE_PRODUCED && r.number == acl->length && memcmp(back, acl->bytes, acl->length) == 0)
+        printf("reads back to the same %llu bytes\n", (unsigned long long)r.number);
+    else
+        printf("does not read back: refused %llu, line %llu\n", (unsigned long long)r.number, (unsigned long long)r.line);
+    l = akubolinfe_read_listing((const uint8_t *)"group\nlimit uses 01\n", 20, back, sizeof back);
+    printf("a leading zero: refused %llu, line %llu\n", (unsigned long long)l.number, (unsigned long long)l.line);
 }
 
 static void print_day(const file *km0, const file *acl, const file *requests)
@@ -60,6 +80,7 @@ int main(int count, char **names)
     for (int i = 0; i < 5; i++)
         if (!read_file(names[i + 1], &files[i]))
             return EXIT_FAILURE;
+    print_listing(&files[1]);
     print_day(&files[0], &files[1], &files[2]);
     print_verdict(&files[3], &files[4]);
     return EXIT_SUCCESS;

@@ -1,4 +1,4 @@
-/* Akubolinfe for C programs: the permission gate, the attestation desk and the subject writer.
+/* Akubolinfe for C programs: the permission gate, the attestation desk, the subject writer, and ACLs as text.
  *
  * Each function takes any bytes of any length; none has a condition. A run of bytes is a pointer and a length; where the
  * length is zero the pointer may be NULL. The runs of one call may overlap, except that a buffer that is written must not
@@ -17,6 +17,7 @@
 #define AKUBOLINFE_GROUPS 16
 #define AKUBOLINFE_COUNTERS 96
 #define AKUBOLINFE_ACL_BYTES 13312
+#define AKUBOLINFE_LISTING_BYTES 29904
 
 /* What was used: a count for each group, the named counters, the load time and the last time, in seconds. */
 typedef struct {
@@ -50,6 +51,7 @@ typedef struct {
 #define AKUBOLINFE_SHORT_BUFFER 9
 #define AKUBOLINFE_OUT_OF_RANGE 10
 #define AKUBOLINFE_UNKNOWN_SUITE 11
+#define AKUBOLINFE_NOT_LISTING 15
 
 /* The fresh ledger: all zero. */
 akubolinfe_ledger akubolinfe_fresh(void);
@@ -106,5 +108,22 @@ typedef struct {
 /* The subject of world certificate 3, 4 or 5 under a suite 1 to 5, at the front of the buffer. */
 akubolinfe_written akubolinfe_subject(uint64_t certificate, uint64_t suite, const uint8_t *hashes, size_t hashes_length,
                                       uint8_t *buffer, size_t buffer_length);
+
+/* What a listing's `answer` is: produced, with the length of the result; or refused, with the refusal's number and, if that
+ * is 15, the number of the first bad line, from 1. What does not belong to the answer is zero. */
+#define AKUBOLINFE_PRODUCED 1
+#define AKUBOLINFE_NOT_PRODUCED 2
+
+typedef struct {
+    uint64_t answer;
+    uint64_t number;
+    uint64_t line;
+} akubolinfe_listing;
+
+/* An ACL's listing (docs/LISTING.md) at the front of the buffer. No listing is longer than AKUBOLINFE_LISTING_BYTES. */
+akubolinfe_listing akubolinfe_write_listing(const uint8_t *acl, size_t acl_length, uint8_t *buffer, size_t buffer_length);
+
+/* The ACL of a listing at the front of the buffer. */
+akubolinfe_listing akubolinfe_read_listing(const uint8_t *text, size_t text_length, uint8_t *buffer, size_t buffer_length);
 
 #endif

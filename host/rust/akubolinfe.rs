@@ -34,6 +34,13 @@ struct RawWritten {
     number: u64,
 }
 
+#[repr(C)]
+struct RawListing {
+    answer: u64,
+    number: u64,
+    line: u64,
+}
+
 /// A load or a clear is done, a group permits, or a refusal with its number.
 #[derive(Clone, Copy, PartialEq, Eq, Debug)]
 pub enum Reply {
@@ -48,6 +55,13 @@ pub enum Verdict {
     Generation,
     Policy { protection: u64, recoverable: bool },
     Failed(&'static str),
+    Refused(u64),
+}
+
+/// Why there is no listing, or no ACL of one: the first line of the text that is not one of a listing, from 1; or a refusal's number.
+#[derive(Clone, Copy, PartialEq, Eq, Debug)]
+pub enum NotListed {
+    BadLine(u64),
     Refused(u64),
 }
 
@@ -71,11 +85,18 @@ extern "C" {
     ) -> RawOutcome;
     fn akubolinfe_desk(b: *const u8, bn: usize, a: *const u8, an: usize) -> RawVerdict;
     fn akubolinfe_subject(c: u64, s: u64, h: *const u8, hn: usize, b: *mut u8, bn: usize) -> RawWritten;
+    fn akubolinfe_write_listing(a: *const u8, an: usize, b: *mut u8, bn: usize) -> RawListing;
+    fn akubolinfe_read_listing(t: *const u8, tn: usize, b: *mut u8, bn: usize) -> RawListing;
 }
 
 // A slice's pointer; NULL where it is empty, as C programs pass it.
 fn ptr(s: &[u8]) -> *const u8 {
     if s.is_empty() { std::ptr::null() } else { s.as_ptr() }
+}
+
+// .. of a buffer
+fn ptr_mut(s: &mut [u8]) -> *mut u8 {
+    if s.is_empty() { std::ptr::null_mut() } else { s.as_mut_ptr() }
 }
 
 fn told(o: RawOutcome) -> (Ledger, Reply) {
@@ -139,7 +160,24 @@ pub fn assess(bundle: &[u8], acl: &[u8]) -> Verdict {
 
 /// The subject of a world certificate, at the front of the buffer: its length, or a refusal's number.
 pub fn write_subject(certificate: u64, suite: u64, hashes: &[u8], buffer: &mut [u8]) -> Result<u64, u64> {
-    let b = if buffer.is_empty() { std::ptr::null_mut() } else { buffer.as_mut_ptr() };
-    let w = unsafe { akubolinfe_subject(certificate, suite, ptr(hashes), hashes.len(), b, buffer.len()) };
+    let w = unsafe { akubolinfe_subject(certificate, suite, ptr(hashes), hashes.len(), ptr_mut(buffer), buffer.len()) };
     if w.answer == 1 { Ok(w.number) } else { Err(w.number) }
+}
+
+fn listed(l: RawListing) -> Result<u64, NotListed> {
+    match (l.answer, l.number) {
+        (1, n) => Ok(n),
+        (_, 15) => Err(NotListed::BadLine(l.line)),
+        (_, n) => Err(NotListed::Refused(n)),
+    }
+}
+
+/// An ACL's listing (docs/LISTING.md), at the front of the buffer: its length.
+pub fn write_listing(acl: &[u8], buffer: &mut [u8]) -> Result<u64, NotListed> {
+    listed(unsafe { akubolinfe_write_listing(ptr(acl), acl.len(), ptr_mut(buffer), buffer.len()) })
+}
+
+/// The ACL of a listing, at the front of the buffer: its length.
+pub fn read_listing(text: &[u8], buffer: &mut [u8]) -> Result<u64, NotListed> {
+    listed(unsafe { akubolinfe_read_listing(ptr(text), text.len(), ptr_mut(buffer), buffer.len()) })
 }

@@ -1,10 +1,12 @@
 // Answers a replay script (docs/REPLAY.md) through the C surface, so that the linked library can be compared with the second
 // program: `second/compare` takes it in the place of the replay program. With `--cfg ordinary` it answers through the ordinary Rust
-// program of bench/ordinary instead.
+// program of bench/ordinary instead, which has no listings.
 #[cfg_attr(ordinary, path = "../../bench/ordinary/mod.rs")]
 mod akubolinfe;
 
 use akubolinfe::{assess, write_subject, Ledger, Reply, Verdict};
+#[cfg(not(ordinary))]
+use akubolinfe::{read_listing, write_listing, NotListed};
 use std::io::{Read, Write};
 
 // The rest of a script.
@@ -27,7 +29,7 @@ impl Script {
 
     fn run(&mut self) -> Option<Vec<u8>> {
         let n = u32::from_be_bytes(self.take(4)?.try_into().ok()?) as usize;
-        if n > 131_072 {
+        if n > 262_144 {
             return None;
         }
         Some(self.take(n)?.to_vec())
@@ -64,13 +66,27 @@ fn verdict(v: Verdict) -> String {
     }
 }
 
+fn hex(bytes: &[u8]) -> String {
+    bytes.iter().map(|b| format!("{b:02x}")).collect()
+}
+
 fn subject(s: &mut Script) -> Option<String> {
     let (certificate, suite, hashes, mut buffer) = (s.number()?, s.number()?, s.run()?, s.run()?);
     let w = write_subject(certificate, suite, &hashes, &mut buffer);
-    let hex: String = buffer.iter().map(|b| format!("{b:02x}")).collect();
     Some(match w {
-        Ok(n) => format!("length {n} {hex}"),
-        Err(n) => format!("refuse {n} {hex}"),
+        Ok(n) => format!("length {n} {}", hex(&buffer)),
+        Err(n) => format!("refuse {n} {}", hex(&buffer)),
+    })
+}
+
+#[cfg(not(ordinary))]
+fn listing(s: &mut Script, made: fn(&[u8], &mut [u8]) -> Result<u64, NotListed>) -> Option<String> {
+    let (given, mut buffer) = (s.run()?, s.run()?);
+    let l = made(&given, &mut buffer);
+    Some(match l {
+        Ok(n) => format!("length {n} {}", hex(&buffer)),
+        Err(NotListed::BadLine(n)) => format!("refuse 15 {n} {}", hex(&buffer)),
+        Err(NotListed::Refused(n)) => format!("refuse {n} {}", hex(&buffer)),
     })
 }
 
@@ -86,6 +102,10 @@ fn answer(letter: u8, s: &mut Script, ledger: &mut Ledger) -> Option<String> {
         b'X' => l.expand(&s.run()?, &s.run()?, &s.run()?, &s.run()?),
         b'D' => return Some(verdict(assess(&s.run()?, &s.run()?))),
         b'S' => return subject(s),
+        #[cfg(not(ordinary))]
+        b'W' => return listing(s, write_listing),
+        #[cfg(not(ordinary))]
+        b'T' => return listing(s, read_listing),
         _ => return None,
     };
     Some(told(ledger, outcome))

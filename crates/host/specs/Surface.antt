@@ -9,7 +9,9 @@ use Rattle.desk.specs.Replies.{Reply, accepting, failing, refusing}
 use Rattle.gate.specs.Outcomes.{ledgerOf}
 use Rattle.host.specs.declared.HostOutcome.{HostOutcome}
 use Rattle.host.specs.declared.HostVerdict.{HostVerdict}
+use Rattle.listings.specs.Listing.{ListingReply, produced, refusedWith, refusedAt}
 use Rattle.host.specs.declared.HostWritten.{HostWritten}
+use Rattle.host.specs.declared.HostListing.{HostListing}
 
 -- An outcome in numbers: the ledger; 0 for done, 1 for a permit, 2 for a refusal; the group that permits, or the refusal's number.
 pub record Told : Type 0 where
@@ -70,3 +72,20 @@ abbrev pub judgedIn : Reply → Judged
 judgedIn (accepting a) = record { answer = 1; approach = a .approach; protection = a .protection; recoverable = a .recoverable; number = 0 }
 judgedIn (failing s) = otherwise 2 (stepNumber s)
 judgedIn (refusing n) = otherwise 3 n
+
+-- A listing's reply in numbers: 1 and the result's length, or 2 and the refusal's number, with the number of the first bad line where one is named.
+pub record Listing : Type 0 where
+  pub answer : ℕ
+  pub number : ℕ
+  pub line : ℕ
+
+abbrev pub listedBy : HostListing → Listing
+listedBy l = record { answer = l .answer; number = l .number; line = l .line }
+
+abbrev pub listingNumbers : ℕ → ℕ → ℕ → Listing
+listingNumbers answer number line = record { answer = answer; number = number; line = line }
+
+abbrev pub listedFor : ListingReply → Listing
+listedFor (produced n) = listingNumbers 1 n 0
+listedFor (refusedWith f) = listingNumbers 2 f 0
+listedFor (refusedAt f n) = listingNumbers 2 f n

@@ -4,10 +4,12 @@ ghost use Rattle.rules.specs.Ledger.{freshLedger};
 ghost use Rattle.rules.specs.Gate.{load, clear, request, narrow, expand};
 ghost use Rattle.rules.specs.Desk.{desk};
 ghost use Rattle.rules.specs.Subject.{subjectReply, subjectBuffer};
+ghost use Rattle.listings.specs.Listing.{writeListing, readListingInto};
+ghost use Rattle.listing.specs.Answers as answers;
 ghost use Rattle.desk.specs.Replies as replies;
 ghost use Rattle.gate.specs.Outcomes.{ledgerOf, answerOf, outcomeOf};
 ghost use Rattle.subject.specs.Writing as writing;
-ghost use Rattle.host.specs.Surface.{toldBy, answerCode, answerNumber, toldFor, wroteBy, wroteFor, judgedBy, judgedIn, otherwise};
+ghost use Rattle.host.specs.Surface.{toldBy, answerCode, answerNumber, toldFor, wroteBy, wroteFor, judgedBy, judgedIn, otherwise, listedBy, listingNumbers, listedFor};
 use desk::Acceptance;
 use desk::Verdict;
 use gate::Ledger;
@@ -38,6 +40,14 @@ pub struct HostVerdict {
 pub struct HostWritten {
     pub answer: u64,
     pub number: u64,
+}
+
+// A listing written or read: 1 and the result's length, or 2 and the refusal's number; with 15 the number of the first bad line, from 1.
+#[repr(C)]
+pub struct HostListing {
+    pub answer: u64,
+    pub number: u64,
+    pub line: u64,
 }
 
 // What a reply is, and its number.
@@ -214,4 +224,44 @@ pub extern "C" fn akubolinfe_subject(
     ensures bytes { λ _. ⌜ now (buffer .exit) ≡ subjectBuffer certificate suite (now (hashes .entry)) (now (buffer .entry)) ⌝ }
 {
     wrote(subject::write_subject(certificate, suite, hashes, buffer))
+}
+
+// A listing's reply in its three numbers.
+fn listing_numbers(answer: u64, number: u64, line: u64) -> HostListing
+    ensures { λ r. ⌜ listedBy r ≡ listingNumbers answer number line ⌝ }
+{
+    HostListing {
+        answer,
+        number,
+        line,
+    }
+}
+
+// What the writer or the reader of listings answered.
+fn listed(reply: listing::Reply) -> HostListing
+    ensures { λ r. ⌜ listedBy r ≡ listedFor (answers.replyOf reply) ⌝ }
+{
+    match reply {
+        listing::Reply::Produced(n) => listing_numbers(1, n as u64, 0),
+        listing::Reply::Refused(why) => listing_numbers(2, files::number(why) as u64, 0),
+        listing::Reply::BadLine(n) => listing_numbers(2, 15, n as u64),
+    }
+}
+
+// An ACL's listing, at the front of the buffer.
+#[no_mangle]
+pub extern "C" fn akubolinfe_write_listing(acl: &[u8], buffer: &mut [u8]) -> HostListing
+    ensures reply { λ r. ⌜ listedBy r ≡ listedFor (writeListing (now (acl .entry)) (now (buffer .entry)) .reply) ⌝ }
+    ensures bytes { λ _. ⌜ now (buffer .exit) ≡ writeListing (now (acl .entry)) (now (buffer .entry)) .buffer ⌝ }
+{
+    listed(listing::write_listing(acl, buffer))
+}
+
+// A listing's ACL, at the front of the buffer.
+#[no_mangle]
+pub extern "C" fn akubolinfe_read_listing(text: &[u8], buffer: &mut [u8]) -> HostListing
+    ensures reply { λ r. ⌜ listedBy r ≡ listedFor (readListingInto (now (text .entry)) (now (buffer .entry)) .reply) ⌝ }
+    ensures bytes { λ _. ⌜ now (buffer .exit) ≡ readListingInto (now (text .entry)) (now (buffer .entry)) .buffer ⌝ }
+{
+    listed(listing::read_listing(text, buffer))
 }
