@@ -9,7 +9,7 @@ use libc::STDOUT_FILENO;
 use subject::Written;
 
 // The greatest length of an argument.
-const MOST: usize = 131072;
+const MOST: usize = 262144;
 
 // An argument that was read: its length or value; or the script ended, or the length is too great.
 enum Argument {
@@ -244,6 +244,56 @@ fn subject_call(k: u64, ledger: Ledger, a: &mut [u8], b: &mut [u8]) -> Turn {
     Turn { ledger, on: true }
 }
 
+fn print_listed(reply: listing::Reply) {
+    match reply {
+        listing::Reply::Produced(n) => {
+            print(b"length ");
+            print_number(n as u64);
+        }
+        listing::Reply::Refused(why) => print_refusal(why),
+        listing::Reply::BadLine(n) => {
+            print(b"refuse 15 ");
+            print_number(n as u64);
+        }
+    }
+}
+
+// The line of a listing that was written or read, with the whole buffer as it now is.
+fn listed(k: u64, reply: listing::Reply, buffer: &[u8]) {
+    print_number(k);
+    print(b" ");
+    print_listed(reply);
+    print(b" ");
+    print_hex(buffer);
+    print(b"\n");
+}
+
+// A listing written, or read.
+fn list_or_unlist(k: u64, letter: u8, given: &[u8], buffer: &mut [u8]) {
+    if letter == b'W' {
+        let reply = listing::write_listing(given, buffer);
+        listed(k, reply, buffer);
+        return;
+    }
+    let reply = listing::read_listing(given, buffer);
+    listed(k, reply, buffer);
+}
+
+fn listing_call(k: u64, ledger: Ledger, letter: u8, a: &mut [u8], b: &mut [u8]) -> Turn {
+    let Argument::Is(x) = read_bytes(a) else {
+        return stopped(k, ledger);
+    };
+    let Argument::Is(y) = read_bytes(b) else {
+        return stopped(k, ledger);
+    };
+    let m = y as usize;
+    if b.len() < m {
+        return stopped(k, ledger);
+    }
+    list_or_unlist(k, letter, prefix(a, x), &mut b[0..m]);
+    Turn { ledger, on: true }
+}
+
 // What follows a replacement's first three arguments: the new ACL, and a narrowing's hints.
 fn narrow_with(
     k: u64,
@@ -319,7 +369,7 @@ fn desk_call(k: u64, ledger: Ledger, a: &mut [u8], b: &mut [u8]) -> Turn {
     Turn { ledger, on: true }
 }
 
-// A replacement or the desk, by its letter.
+// A replacement, the desk or a listing, by its letter.
 fn called_last(
     k: u64,
     ledger: Ledger,
@@ -338,6 +388,9 @@ fn called_last(
     }
     if letter == b'D' {
         return desk_call(k, ledger, a, b);
+    }
+    if (letter == b'W') | (letter == b'T') {
+        return listing_call(k, ledger, letter, a, b);
     }
     stopped(k, ledger)
 }
