@@ -1,5 +1,5 @@
 -- The lines of a text: a record's line is one line, and a text made of lines has those lines.
-use Prim.Native.Nat.{ℕ, suc, _+_, _/_, _%_, _≤_, _<_}
+use Prim.Native.Nat.{ℕ, _+_, _/_, _%_, _≤_, _<_}
 use Prim.Native.String.{String}
 use native.Mathlib.Omega.{arith}
 use mathlib.Core.Path.{_≡_, refl, _∙_, ap}
@@ -81,15 +81,6 @@ next-line c (d ∷ t) = pick (eqb c newline) refl (next-line d t)
 pub lines-next : (t : Bytes) → 0 < length t → linesOf t ≡ take (lineLength t) t ∷ linesOf (drop (lineLength t) t)
 lines-next [] h = absurd (omega arith)
 lines-next (c ∷ t) h = next-line c t
-
-pub line-inside : (t : Bytes) → lineLength t ≤ length t
-unfolding lineLength
-line-inside [] = omega arith
-line-inside (c ∷ t) = pick (eqb c newline) refl (line-inside t)
-  where
-    pick : (b : Bool) → eqb c newline ≡ b → lineLength t ≤ length t → lineLength (c ∷ t) ≤ suc (length t)
-    pick true e i = rw e (omega arith)
-    pick false e i = rw e (omega arith)
 
 -- Bytes of words: none below the space.
 abbrev plain : Bytes → Bool
