@@ -21,31 +21,27 @@ same-at : (a b : Bytes) (i : ℕ) → i < length a → i < length b → same (dr
 unfolding same
 same-at a b i h k = rw (add-one, drop-cons a i 0, drop-cons b i 0)
 
-and-false : (a : Bool) → (a && false) ≡ false
+pub and-false : (a : Bool) → (a && false) ≡ false
 and-false true = refl
 and-false false = refl
 
-and-true : (a : Bool) → (a && true) ≡ a
+pub and-true : (a : Bool) → (a && true) ≡ a
 and-true true = refl
 and-true false = refl
 
-and-assoc : (a b c : Bool) → ((a && b) && c) ≡ (a && (b && c))
+pub and-assoc : (a b c : Bool) → ((a && b) && c) ≡ (a && (b && c))
 and-assoc true b c = refl
 and-assoc false b c = refl
 
--- The turns of a loop that tests byte by byte: what is left has the whole's answer.
-module _ (s : Bytes) (i : ℕ) (inv : allZero (drop i s) ≡ allZero s) where
-  pub zero-stop : i < length s → (getD s i 0 ≡ 0 → ⊥) → false ≡ allZero s
-  zero-stop h n = sym (sym inv ∙ zero-at s i h ∙ rw (ne-eqb _ _ n))
-
-  pub zero-next : i < length s → getD s i 0 ≡ 0 → allZero (drop (i + 1) s) ≡ allZero s
-  zero-next h n = sym (zero-at s i h ∙ rw (eq-eqb _ _ n)) ∙ inv
-
-  pub zero-done : length s ≤ i → true ≡ allZero s
-  unfolding allZero
-  zero-done h = rw (drop-of-length-le s {i = i} h) at inv
-
 -- The turns of a loop that joins the answers of all bytes: so far, and what is left.
+module _ (s : Bytes) (i : ℕ) (r : Bool) (inv : (r && allZero (drop i s)) ≡ allZero s) where
+  pub zero-next : i < length s → ((r && eqb (getD s i 0) 0) && allZero (drop (i + 1) s)) ≡ allZero s
+  zero-next h = and-assoc r _ _ ∙ ap (λ (t : Bool). r && t) (sym (zero-at s i h)) ∙ inv
+
+  pub zero-done : length s ≤ i → r ≡ allZero s
+  unfolding allZero
+  zero-done h = sym (and-true r) ∙ (rw (drop-of-length-le s {i = i} h) at inv)
+
 module _ (a b : Bytes) (i : ℕ) (r : Bool) (inv : (r && same (drop i a) (drop i b)) ≡ same a b) (e : length a ≡ length b) where
   pub same-next : i < length a → ((r && eqb (getD a i 0) (getD b i 0)) && same (drop (i + 1) a) (drop (i + 1) b)) ≡ same a b
   same-next h = and-assoc r _ _ ∙ ap (λ (t : Bool). r && t) (sym (same-at a b i h (omega arith))) ∙ inv

@@ -3,17 +3,16 @@
 ghost use mathlib.Core.Path.{_≡_};
 ghost use Prim.Native.Nat.{_+_, _*_, _≤_, _<_};
 ghost use lib.ListN.{length};
-ghost use Rattle.rules.specs.Basics.{allZero, same, bit, within, number, blank, flag};
+ghost use Rattle.rules.specs.Basics.{allZero, same, bit, within, part, number, blank, flag};
 ghost use Rattle.rules.specs.Layout.{tokenParametersAt};
+ghost use Rattle.fields.specs.Words.{Word};
 
-// Whether two runs of bytes are the same, their lengths too. It goes on after the first difference: a loop that never stops early becomes a few
-// wide comparisons.
-pub fn same_bytes(a: &[u8], b: &[u8]) -> bool
+// Whether two runs of bytes of one length are the same, byte by byte. It goes on after the first difference: such a loop becomes a few wide
+// comparisons.
+fn same_few(a: &[u8], b: &[u8]) -> bool
+    requires { ⌜ length (now a) ≡ length (now b) ⌝ }
     ensures { λ r. ⌜ r ≡ same (now (a .entry)) (now (b .entry)) ⌝ }
 {
-    if a.len() != b.len() {
-        return false;
-    }
     let mut so_far = true;
     let mut i = 0;
     while i < a.len() {
@@ -23,18 +22,68 @@ pub fn same_bytes(a: &[u8], b: &[u8]) -> bool
     so_far
 }
 
+// The same of eight bytes or more, eight at a time; the last eight may overlap those before them.
+fn same_words(a: &[u8], b: &[u8]) -> bool
+    requires { ⌜ (length (now a) ≡ length (now b)) × (8 ≤ length (now a)) ⌝ }
+    ensures { λ r. ⌜ r ≡ same (now (a .entry)) (now (b .entry)) ⌝ }
+{
+    let mut so_far = same_word(a, b, a.len() - 8);
+    let mut i = 0;
+    while 8 <= a.len() - i {
+        so_far = so_far & same_word(a, b, i);
+        i += 8;
+    }
+    so_far
+}
+
+// Whether two runs of bytes are the same, their lengths too.
+pub fn same_bytes(a: &[u8], b: &[u8]) -> bool
+    ensures { λ r. ⌜ r ≡ same (now (a .entry)) (now (b .entry)) ⌝ }
+{
+    if a.len() != b.len() {
+        return false;
+    }
+    if a.len() < 8 {
+        return same_few(a, b);
+    }
+    same_words(a, b)
+}
+
+// Whether every byte is zero, byte by byte, without an early end.
+fn zero_few(s: &[u8]) -> bool
+    ensures { λ r. ⌜ r ≡ allZero (now (s .entry)) ⌝ }
+{
+    let mut so_far = true;
+    let mut i = 0;
+    while i < s.len() {
+        so_far = so_far & (s[i] == 0);
+        i += 1;
+    }
+    so_far
+}
+
+// The same of eight bytes or more, eight at a time; the last eight may overlap those before them.
+fn zero_words(s: &[u8]) -> bool
+    requires { ⌜ 8 ≤ length (now s) ⌝ }
+    ensures { λ r. ⌜ r ≡ allZero (now (s .entry)) ⌝ }
+{
+    let mut so_far = zero_word(s, s.len() - 8);
+    let mut i = 0;
+    while 8 <= s.len() - i {
+        so_far = so_far & zero_word(s, i);
+        i += 8;
+    }
+    so_far
+}
+
 // Whether every byte is zero.
 pub fn all_zero(s: &[u8]) -> bool
     ensures { λ r. ⌜ r ≡ allZero (now (s .entry)) ⌝ }
 {
-    let mut i = 0;
-    while i < s.len() {
-        if s[i] != 0 {
-            return false;
-        }
-        i += 1;
+    if s.len() < 8 {
+        return zero_few(s);
     }
-    true
+    zero_words(s)
 }
 
 // Whether the len bytes from off on are zero.
@@ -62,6 +111,43 @@ fn join64(hi: u32, lo: u32) -> u64
     ensures { λ r. ⌜ r ≡ hi * 4294967296 + lo ⌝ }
 {
     (hi as u64) * 4294967296 + (lo as u64)
+}
+
+// The little-endian number of 2, 4 and 8 bytes from an offset on: the order of the processor, so that each is one load.
+fn little16(s: &[u8], at: usize) -> u16
+    requires { ⌜ at + 2 ≤ length (now s) ⌝ }
+    ensures { λ r. ⌜ Word (part at 2 (now (s .entry))) r ⌝ }
+{
+    join16(s[at + 1], s[at])
+}
+
+fn little32(s: &[u8], at: usize) -> u32
+    requires { ⌜ at + 4 ≤ length (now s) ⌝ }
+    ensures { λ r. ⌜ Word (part at 4 (now (s .entry))) r ⌝ }
+{
+    join32(little16(s, at + 2), little16(s, at))
+}
+
+fn little64(s: &[u8], at: usize) -> u64
+    requires { ⌜ at + 8 ≤ length (now s) ⌝ }
+    ensures { λ r. ⌜ Word (part at 8 (now (s .entry))) r ⌝ }
+{
+    join64(little32(s, at + 4), little32(s, at))
+}
+
+// Whether eight bytes are zero, and whether those of two runs are the same: one comparison each.
+fn zero_word(s: &[u8], at: usize) -> bool
+    requires { ⌜ at + 8 ≤ length (now s) ⌝ }
+    ensures { λ r. ⌜ r ≡ blank at 8 (now (s .entry)) ⌝ }
+{
+    little64(s, at) == 0
+}
+
+fn same_word(a: &[u8], b: &[u8], at: usize) -> bool
+    requires { ⌜ (at + 8 ≤ length (now a)) × (at + 8 ≤ length (now b)) ⌝ }
+    ensures { λ r. ⌜ r ≡ same (part at 8 (now (a .entry))) (part at 8 (now (b .entry))) ⌝ }
+{
+    little64(a, at) == little64(b, at)
 }
 
 // The big-endian number of 2, 4 and 8 bytes from an offset on.

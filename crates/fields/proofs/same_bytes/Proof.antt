@@ -1,54 +1,23 @@
-use Prim.Native.Nat.{_≤_, _-_}
-use mathlib.Core.Path.{_≡_, refl}
-use mathlib.Core.Bool.{_&&_}
-use lib.ListN.{length, drop}
-use Rattle.rules.specs.Basics.{same}
-use Rattle.fields.proofs.Laws.{same-length, same-next, same-done}
+use Rattle.fields.proofs.Laws.{same-length}
 use borrow.Author.Needs.{needs}
 use Rattle.fields.proofs.same_bytes.Statement.{statement}
 use Rattle.fields.proofs.same_bytes.Tie as tie
 
-abbrev Inv-loop : tie.InvT-loop
-Inv-loop a b r₀ i₀ r i = (i ≤ length a) × ((r && same (drop i a) (drop i b)) ≡ same a b)
-
-abbrev μ-loop : tie.MeasureT-loop
-μ-loop a b r₀ i₀ r i = length a - i
-
-returns : tie.Need-returns Inv-loop μ-loop
+returns : tie.Need-returns
 returns c = search (needs, same-length)
 
-loop-holds : tie.Need-loop-holds Inv-loop μ-loop
-loop-holds c = (search needs, refl)
+same-few-requires : tie.Need-same-few-requires
+same-few-requires c κs = search needs
 
-shared-slice-read-so-far : tie.Need-shared-slice-read-so-far Inv-loop μ-loop
-shared-slice-read-so-far c = search needs
+returns-2 : tie.Need-returns-2
+returns-2 c = search needs
 
-shared-slice-read-so-far-2 : tie.Need-shared-slice-read-so-far-2 Inv-loop μ-loop
-shared-slice-read-so-far-2 c = search needs
+same-words-requires : tie.Need-same-words-requires
+same-words-requires c κs = search needs
 
-add-i : tie.Need-add-i Inv-loop μ-loop
-add-i c = search needs
-
-loop-less : tie.Need-loop-less Inv-loop μ-loop
-loop-less c = search needs
-
-loop-again : tie.Need-loop-again Inv-loop μ-loop
-loop-again c = (search needs, search (needs, same-next))
-
-returns-2 : tie.Need-returns-2 Inv-loop μ-loop
-returns-2 c = search (needs, same-done)
+returns-3 : tie.Need-returns-3
+returns-3 c = search needs
 
 pub same-bytes-spec : {M : Type 1} → statement M
 same-bytes-spec =
-    tie.close
-    (tie.spec
-    Inv-loop
-    μ-loop
-    returns
-    loop-holds
-    shared-slice-read-so-far
-    shared-slice-read-so-far-2
-    add-i
-    loop-less
-    loop-again
-    returns-2)
+    tie.close (tie.spec returns same-few-requires returns-2 same-words-requires returns-3)

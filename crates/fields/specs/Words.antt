@@ -1,0 +1,14 @@
+-- Words of several bytes, the smallest place first: no number of document 01, whose numbers are big-endian, but what one load gives.
+use Prim.Native.Nat.{ℕ, _+_, _*_, _<_}
+use mathlib.Core.Path.{_≡_}
+use mathlib.Core.List.{[], _∷_}
+use Rattle.rules.specs.Basics.{Bytes, Every}
+
+-- the number that bytes write, the smallest place first
+unfoldable pub littleNumber : Bytes → ℕ
+littleNumber [] = 0
+littleNumber (b ∷ bs) = b + littleNumber bs * 256
+
+-- n is that number, and each byte is one
+unfoldable pub Word : Bytes → ℕ → Type 0
+Word bs n = (n ≡ littleNumber bs) × Every (λ b. b < 256) bs
