@@ -6,12 +6,19 @@ ghost use Rattle.rules.specs.Sizes.{recordBytes};
 ghost use Rattle.rules.specs.Basics.{within};
 ghost use Rattle.rules.specs.Layout.{header, zeroUnless, mechanismAt, tokenParametersIf, certifierMechanism, counterOfSort, groupLaidOut, limitLaidOut, permissionsLaidOut, blobActionLaidOut, archiveActionLaidOut, useLaidOut, blobRequestLaidOut, recoveryLaidOut, certificateLaidOut, factLaidOut, signatureLaidOut, policyLaidOut, hintLaidOut};
 
-// Byte 1 is zero, and no flag is set but those listed.
+// Flags of byte 3: none is set but those listed.
+fn low_flags(flags: u8, listed: u16) -> bool
+    ensures { λ r. ⌜ r ≡ within 16 flags listed ⌝ }
+{
+    fields::subset16(flags as u16, listed)
+}
+
+// Byte 1 is zero, and no flag is set but those listed, which stand in byte 3; so byte 2 is zero too.
 fn plain_header(listed: u16, s: &[u8]) -> bool
-    requires { ⌜ 4 ≤ length (now s) ⌝ }
+    requires { ⌜ (listed < 256) × (4 ≤ length (now s)) ⌝ }
     ensures { λ r. ⌜ r ≡ header listed (now (s .entry)) ⌝ }
 {
-    (s[1] == 0) & fields::subset16(fields::be16(s, 2), listed)
+    fields::zero_part(s, 1, 2) & low_flags(s[3], listed)
 }
 
 // A field that flag f announces is zero where the flag is clear.
