@@ -13,7 +13,7 @@ use Rattle.rules.specs.Acl.{Parameters, parametersOf, blobRuleOf, archiveRuleOf
 use Rattle.rules.specs.Request.{tokenOf, workingBlobOf, recoveryBlobOf, wantedOf}
 use Rattle.rules.specs.Grant.{tighter, meets, nullKey, admitsDirect, admitsToken, admitsKey, admitsBlob, admitsArchive, admitsUse, admitsWorking, admitsRecovery, admits}
 use Rattle.rules.proofs.Rows.{recordsFrom, lentRecord}
-use Rattle.groups.proofs.Laws.{acts-step, acts-end}
+use Rattle.groups.proofs.Laws.{acts-step, acts-limit, acts-group, acts-end}
 
 -- a field that a flag announces: absent, or to be compared
 module _ (u : Bool) (h k : Bytes) where
@@ -120,7 +120,7 @@ module _ (km0 rec act : Bytes) where
   unfolding admits wantedOf
   asks-recovery r n m q = q ∙ sym (rw (ne-eqb (kind rec) 6 n, ne-eqb (kind rec) 7 m))
 
--- A loop over a group's actions, from the place of one to that of the next.
+-- A loop over a group's records: limits are passed over, the next group ends it.
 module _ (p : Action → Bool) (s : Bytes) (at : ℕ) (x : Bool) (inv : any p (actionsOf (recordsFrom s at)) ≡ x) where
   pub acts-found : (t : Bool) → 64 ≤ length s - at → (getD s at 0 ≡ 1 → ⊥) → (getD s at 0 ≡ 2 → ⊥) → t ≡ p (actionOf (lentRecord s at)) → t ≡ true → true ≡ x
   unfolding any
@@ -128,12 +128,19 @@ module _ (p : Action → Bool) (s : Bytes) (at : ℕ) (x : Bool) (inv : any p (a
       let q : p (actionOf (lentRecord s at)) ≡ true = sym e ∙ y in
       sym (ap (any p) (acts-step s at h n m) ∙ rw q) ∙ inv
 
-  pub acts-next : (t : Bool) (r : ℕ) → 64 ≤ length s - at → (getD s at 0 ≡ 1 → ⊥) → (getD s at 0 ≡ 2 → ⊥) → t ≡ p (actionOf (lentRecord s at)) → t ≡ false
-      → actionsOf (records (drop r s)) ≡ actionsOf (records (drop (at + 64) s)) → any p (actionsOf (recordsFrom s r)) ≡ x
-  unfolding any recordsFrom
-  acts-next t r h n m e y d =
+  pub acts-next : (t : Bool) → 64 ≤ length s - at → (getD s at 0 ≡ 1 → ⊥) → (getD s at 0 ≡ 2 → ⊥) → t ≡ p (actionOf (lentRecord s at)) → t ≡ false
+      → any p (actionsOf (recordsFrom s (at + 64))) ≡ x
+  unfolding any
+  acts-next t h n m e y =
       let q : p (actionOf (lentRecord s at)) ≡ false = sym e ∙ y in
-      ap (any p) d ∙ sym (ap (any p) (acts-step s at h n m) ∙ rw q) ∙ inv
+      sym (ap (any p) (acts-step s at h n m) ∙ rw q) ∙ inv
+
+  pub acts-pass : 64 ≤ length s - at → (getD s at 0 ≡ 1 → ⊥) → getD s at 0 ≡ 2 → any p (actionsOf (recordsFrom s (at + 64))) ≡ x
+  acts-pass h n e = sym (ap (any p) (acts-limit s at h n e)) ∙ inv
+
+  pub acts-stop : 64 ≤ length s - at → getD s at 0 ≡ 1 → false ≡ x
+  unfolding any
+  acts-stop h e = sym (ap (any p) (acts-group s at h e)) ∙ inv
 
   pub acts-none : length s - at < 64 → false ≡ x
   unfolding any

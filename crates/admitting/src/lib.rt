@@ -168,12 +168,19 @@ pub fn group_admits(km0: &[u8], rec: &[u8], body: &[u8]) -> bool
     requires { ⌜ length (now rec) ≡ recordBytes ⌝ }
     ensures { λ r. ⌜ r ≡ any (admits (now (km0 .entry)) (wantedOf (now (rec .entry)))) (actionsOf (records (now (body .entry)))) ⌝ }
 {
-    let mut at = groups::next_action(body, 0);
+    let mut at = 0;
     while sizes::RECORD <= body.len() - at {
+        if body[at] == 1 {
+            return false;
+        }
+        if body[at] == 2 {
+            at += sizes::RECORD;
+            continue;
+        }
         if action_admits(km0, rec, &body[at..at + sizes::RECORD]) {
             return true;
         }
-        at = groups::next_action(body, at + sizes::RECORD);
+        at += sizes::RECORD;
     }
     false
 }
