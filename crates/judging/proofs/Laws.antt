@@ -17,7 +17,7 @@ use Rattle.judging.specs.declared.Standing.{Standing}
 use Rattle.judging.specs.declared.Near.{Near}
 use Rattle.judging.specs.declared.Judged.{Judged}
 use Rattle.judging.specs.declared.Judged.the-variants.{Granted}
-use Rattle.judging.specs.Standings.{isGranting, nearer, denialOf, judgedFrom, standingWith, standing, recordStanding}
+use Rattle.judging.specs.Standings.{isGranting, nearer, denialOf, judgedFrom, standingWith, standing, recordStanding, NextGroup}
 
 -- a field that a flag announces
 module _ (u : Bool) (m n : ℕ) where
@@ -34,10 +34,15 @@ module _ (u : Bool) (k : Bytes) (m : Option ℕ) (cs : List Certificate) (f : Bo
   pub certifier-present : (r : Bool) → not f ≡ false → r ≡ any (serves k m) cs → r ≡ certifiedBy (optional u k) m cs
   certifier-present r e p = p ∙ sym (rw (sym d ∙ not-false f e))
 
-pub serves-is : (g c : Bytes) (a f b : Bool) (m n : ℕ) → a ≡ same (part 4 20 c) (part 4 20 g) → f ≡ flag 1 g → m ≡ number 24 2 g → n ≡ number 24 2 c
-    → b ≡ matchesNumber (optional f m) n → (a && b) ≡ serves (part 4 20 g) (optional (flag 1 g) (number 24 2 g)) (certificateOf c)
-unfolding serves
-serves-is g c a f b m n p q r s t = rw (p, t, q, r, s)
+module _ (g c : Bytes) (a : Bool) (p : a ≡ same (part 4 20 c) (part 4 20 g)) where
+  pub serves-not : not a ≡ true → false ≡ serves (part 4 20 g) (optional (flag 1 g) (number 24 2 g)) (certificateOf c)
+  unfolding serves
+  serves-not e = sym (rw (sym p ∙ not-true a e))
+
+  pub serves-is : (f b : Bool) (m n : ℕ) → not a ≡ false → f ≡ flag 1 g → m ≡ number 24 2 g → n ≡ number 24 2 c → b ≡ matchesNumber (optional f m) n
+      → b ≡ serves (part 4 20 g) (optional (flag 1 g) (number 24 2 g)) (certificateOf c)
+  unfolding serves
+  serves-is f b m n e q r s t = rw (t, q, r, s) (sym (rw (sym p ∙ not-false a e)))
 
 -- A loop over certificates.
 module _ (p : Certificate → Bool) (s : Bytes) (at : ℕ) (x : Bool) (inv : any p (certificatesOf (recordsFrom s at)) ≡ x) where
@@ -84,13 +89,28 @@ module _ (counters : List ℕ) (own elapsed : ℕ) (r : Bytes) (x : ℕ) (e : x 
   unfolding limitLeft
   sort-3 n m = sym (rw (ne-eqb (byte 4 r) 1 n, ne-eqb (byte 4 r) 2 m, e))
 
+-- A loop up to the next group.
+module _ (s : Bytes) (at i : ℕ) (inv : groupsOf (recordsFrom s i) ≡ groupsOf (records (drop at s))) (k : at ≤ i) (l : i ≤ length s) where
+  pub group-here : getD s i 0 ≡ 1 → NextGroup s at i
+  unfolding recordsFrom
+  group-here e = record { same = inv; later = k; inside = l; head = λ h. e }
+
+  pub group-none : length s - i < 64 → NextGroup s at (length s)
+  unfolding recordsFrom groupsOf
+  group-none h =
+      record {
+        same = ap groupsOf (rows-end s (length s) (omega arith)) ∙ sym (ap groupsOf (rows-end s i h)) ∙ inv;
+        later = omega arith;
+        inside = omega arith;
+        head = λ g. absurd (omega arith);
+      }
+
+  pub group-skip : 64 ≤ length s - i → (getD s i 0 ≡ 1 → ⊥) → groupsOf (recordsFrom s (i + 64)) ≡ groupsOf (records (drop at s))
+  unfolding groupsOf
+  group-skip h n = sym (ap groupsOf (rows-lent s i h) ∙ rw (lent-record s i, kind-at s i, ne-eqb (getD s i 0) 1 n)) ∙ inv
+
 -- A loop over the groups.
 module _ (f : ℕ → Group → Standing) (s : Bytes) (at : ℕ) (near : Near) (place : ℕ) (x : Judged) (inv : judgedFrom f near place (groupsOf (recordsFrom s at)) ≡ x) where
-  pub groups-skip : 64 ≤ length s - at → (getD s at 0 ≡ 1 → ⊥) → judgedFrom f near place (groupsOf (recordsFrom s (at + 64))) ≡ x
-  unfolding groupsOf
-  groups-skip h n =
-      sym (ap (λ (l : List Bytes). judgedFrom f near place (groupsOf l)) (rows-lent s at h) ∙ rw (lent-record s at, kind-at s at, ne-eqb (getD s at 0) 1 n)) ∙ inv
-
   groups-step : 64 ≤ length s - at → getD s at 0 ≡ 1 → groupsOf (recordsFrom s at) ≡ groupOf (lentRecord s at) (recordsFrom s (at + 64)) ∷ groupsOf (recordsFrom s (at + 64))
   unfolding groupsOf
   groups-step h e = ap groupsOf (rows-lent s at h) ∙ rw (lent-record s at, kind-at s at, eq-eqb (getD s at 0) 1 e)
@@ -102,12 +122,17 @@ module _ (f : ℕ → Group → Standing) (s : Bytes) (at : ℕ) (near : Near) (
         let g : isGranting (f place (groupOf (lentRecord s at) (recordsFrom s (at + 64)))) ≡ true = sym (ap isGranting d) ∙ sym q ∙ y in
         sym (ap (judgedFrom f near place) (groups-step h e) ∙ rw g) ∙ inv
 
-    pub groups-next : (n : Near) → b ≡ false → n ≡ nearer near t place → judgedFrom f n (place + 1) (groupsOf (recordsFrom s (at + 64))) ≡ x
+    groups-after : (n : Near) → b ≡ false → n ≡ nearer near t place → judgedFrom f n (place + 1) (groupsOf (recordsFrom s (at + 64))) ≡ x
     unfolding judgedFrom
-    groups-next n y p =
+    groups-after n y p =
         let g : isGranting (f place (groupOf (lentRecord s at) (recordsFrom s (at + 64)))) ≡ false = sym (ap isGranting d) ∙ sym q ∙ y in
         let r : nearer near (f place (groupOf (lentRecord s at) (recordsFrom s (at + 64)))) place ≡ n = ap (λ (z : Standing). nearer near z place) (sym d) ∙ sym p in
         rw add-one (sym (ap (judgedFrom f near place) (groups-step h e) ∙ rw (g, r)) ∙ inv)
+
+    pub groups-next : (n : Near) (r : ℕ) → b ≡ false → n ≡ nearer near t place → groupsOf (records (drop r s)) ≡ groupsOf (records (drop (at + 64) s))
+        → judgedFrom f n (place + 1) (groupsOf (recordsFrom s r)) ≡ x
+    unfolding recordsFrom
+    groups-next n r y p m = ap (judgedFrom f n (place + 1)) m ∙ groups-after n y p
 
   pub groups-done : (r : Judged) → length s - at < 64 → r ≡ denialOf near → r ≡ x
   unfolding judgedFrom groupsOf

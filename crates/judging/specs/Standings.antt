@@ -1,10 +1,11 @@
 -- How far groups come, as the code says it, and the judgement of an ACL in one pass over its groups.
-use Prim.Native.Nat.{ℕ, suc}
+use Prim.Native.Nat.{ℕ, suc, _-_, _≤_}
+use mathlib.Core.Path.{_≡_}
 use mathlib.Core.List.{List, [], _∷_}
 use mathlib.Core.Bool.{Bool, true, false}
-use lib.ListN.{getD}
+use lib.ListN.{length, getD, drop}
 use Rattle.rules.specs.Basics.{if_then_else_, Bytes, any}
-use Rattle.rules.specs.Acl.{Group, groupOf}
+use Rattle.rules.specs.Acl.{Group, groupOf, groupsOf}
 use Rattle.rules.specs.Request.{Wanted, Certificate}
 use Rattle.rules.specs.Ledger.{Ledger}
 use Rattle.rules.specs.Grant.{admits, certifiedBy, unspentWith}
@@ -79,3 +80,11 @@ judgedAs (denied d) = denialAs d
 -- the ledger's tables and times as a ledger of the definitions
 abbrev pub tablesOf : List ℕ → List ℕ → ℕ → ℕ → Ledger
 tablesOf counts counters loaded last = record { counts = counts; counters = counters; loaded = loaded; last = last }
+
+-- Where the next group stands from `at` on: the same groups are left from there, and a record that stands there begins one. (Where there are no more
+-- groups the file's end serves.)
+pub record NextGroup (acl : Bytes) (at r : ℕ) : Type 0 where
+  pub same : groupsOf (records (drop r acl)) ≡ groupsOf (records (drop at acl))
+  pub later : at ≤ r
+  pub inside : r ≤ length acl
+  pub head : 64 ≤ length acl - r → getD acl r 0 ≡ 1

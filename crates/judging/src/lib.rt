@@ -9,7 +9,7 @@ ghost use Rattle.rules.specs.Acl.{limitOf, limitsOf, aclOf};
 ghost use Rattle.rules.specs.Request.{certificateOf, certificatesOf, requestOf, wantedOf};
 ghost use Rattle.rules.specs.Grant.{serves, certifiedBy, counterLeft, limitLeft, limitsLeft, unspentWith};
 ghost use Rattle.rules.specs.Gate.{judge};
-ghost use Rattle.judging.specs.Standings.{isGranting, nearer, denialOf, judgedFrom, standing, recordStanding, judgedAs, tablesOf};
+ghost use Rattle.judging.specs.Standings.{isGranting, nearer, denialOf, judgedFrom, standing, recordStanding, judgedAs, tablesOf, NextGroup};
 
 // A full count: one more would not fit.
 const FULL: u32 = 4294967295;
@@ -53,12 +53,14 @@ fn certificate_serves(group: &[u8], cert: &[u8]) -> bool
     requires { ⌜ (length (now group) ≡ recordBytes) × (length (now cert) ≡ recordBytes) ⌝ }
     ensures { λ r. ⌜ r ≡ serves (part 4 hashBytes (now (group .entry))) (optional (flag 1 (now (group .entry))) (number 24 2 (now (group .entry)))) (certificateOf (now (cert .entry))) ⌝ }
 {
-    fields::same_bytes(&cert[4..24], &group[4..24])
-        & matches_number(
-            fields::flag_of(1, group),
-            fields::be16(group, 24),
-            fields::be16(cert, 24),
-        )
+    if !fields::same_bytes(&cert[4..24], &group[4..24]) {
+        return false;
+    }
+    matches_number(
+        fields::flag_of(1, group),
+        fields::be16(group, 24),
+        fields::be16(cert, 24),
+    )
 }
 
 // Whether one of the presented certificates does.
@@ -232,6 +234,22 @@ fn denial(n: Near) -> Judged
     }
 }
 
+// Where the next group stands, from the byte `at` on; the end of the file where there is none. A loop of its own, for it is most of the way through an
+// ACL.
+fn next_group(acl: &[u8], at: usize) -> usize
+    requires { ⌜ at ≤ length (now acl) ⌝ }
+    ensures { λ r. ⌜ NextGroup (now (acl .entry)) at r ⌝ }
+{
+    let mut i = at;
+    while sizes::RECORD <= acl.len() - i {
+        if acl[i] == 1 {
+            return i;
+        }
+        i += sizes::RECORD;
+    }
+    acl.len()
+}
+
 // The lowest group that grants, or why none does.
 fn judge_groups(
     counts: &[u32],
@@ -247,12 +265,8 @@ fn judge_groups(
 {
     let mut near = Near::Nothing;
     let mut place = 0;
-    let mut at = 0;
+    let mut at = next_group(acl, 0);
     while sizes::RECORD <= acl.len() - at {
-        if acl[at] != 1 {
-            at += sizes::RECORD;
-            continue;
-        }
         let own = count_at(counts, place);
         let group = &acl[at..at + sizes::RECORD];
         let body = &acl[at + sizes::RECORD..];
@@ -262,7 +276,7 @@ fn judge_groups(
         }
         near = near_with(near, s, place);
         place += 1;
-        at += sizes::RECORD;
+        at = next_group(acl, at + sizes::RECORD);
     }
     denial(near)
 }

@@ -1,4 +1,4 @@
-use Rattle.judging.proofs.Laws.{serves-is}
+use Rattle.judging.proofs.Laws.{serves-not, serves-is}
 use borrow.Author.Needs.{needs}
 use Rattle.judging.proofs.certificate_serves.Statement.{statement}
 use Rattle.judging.proofs.certificate_serves.Tie as tie
@@ -24,6 +24,9 @@ part-same-bytes-end-2 c = search needs
 same-bytes-requires : tie.Need-same-bytes-requires
 same-bytes-requires c κs = search needs
 
+returns : tie.Need-returns
+returns c = search (needs, serves-not)
+
 flag-of-requires : tie.Need-flag-of-requires
 flag-of-requires c κs = search needs
 
@@ -36,8 +39,8 @@ be16-requires-2 c κs = search needs
 matches-number-requires : tie.Need-matches-number-requires
 matches-number-requires c κs = search needs
 
-returns : tie.Need-returns
-returns c = search (needs, serves-is)
+returns-2 : tie.Need-returns-2
+returns-2 c = search (needs, serves-is)
 
 pub certificate-serves-spec : {M : Type 1} → statement M
 certificate-serves-spec =
@@ -50,8 +53,9 @@ certificate-serves-spec =
     part-same-bytes-start-2
     part-same-bytes-end-2
     same-bytes-requires
+    returns
     flag-of-requires
     be16-requires
     be16-requires-2
     matches-number-requires
-    returns)
+    returns-2)

@@ -1,41 +1,35 @@
 use Prim.Native.Nat.{_≤_, _-_}
-use mathlib.Core.Path.{_≡_, refl}
-use lib.ListN.{length}
+use native.Mathlib.Omega.{arith}
+use mathlib.Core.Path.{_≡_, ap}
+use lib.ListN.{length, getD}
 use Rattle.rules.specs.Basics.{records}
 use Rattle.rules.specs.Acl.{groupsOf, aclOf}
 use Rattle.rules.specs.Request.{wantedOf, certificatesOf}
 use Rattle.rules.proofs.Rows.{recordsFrom}
 use Rattle.judging.specs.declared.Near.the-variants.{Nothing}
 use Rattle.judging.specs.Standings.{judgedFrom, standing}
-use Rattle.judging.proofs.Laws.{groups-skip, groups-grant, groups-next, groups-done, standing-at}
+use Rattle.judging.proofs.Laws.{groups-grant, groups-next, groups-done, standing-at}
 use borrow.Author.Needs.{needs}
 use Rattle.judging.proofs.judge_groups.Statement.{statement}
 use Rattle.judging.proofs.judge_groups.Tie as tie
 
 abbrev Inv-loop : tie.InvT-loop
-Inv-loop counts counters elapsed km0 rec certs acl near₀ place₀ at₀ near place at = (at ≤ length acl) × ((place ≤ at) × (judgedFrom (standing counts counters elapsed km0 (wantedOf rec) (certificatesOf (records certs))) near place (groupsOf (recordsFrom acl at)) ≡ judgedFrom (standing counts counters elapsed km0 (wantedOf rec) (certificatesOf (records certs))) Nothing 0 (aclOf acl)))
+Inv-loop counts counters elapsed km0 rec certs acl near₀ place₀ at₀ near place at = (at ≤ length acl) × ((place ≤ at) × ((64 ≤ length acl - at → getD acl at 0 ≡ 1) × (judgedFrom (standing counts counters elapsed km0 (wantedOf rec) (certificatesOf (records certs))) near place (groupsOf (recordsFrom acl at)) ≡ judgedFrom (standing counts counters elapsed km0 (wantedOf rec) (certificatesOf (records certs))) Nothing 0 (aclOf acl))))
 
 abbrev μ-loop : tie.MeasureT-loop
 μ-loop counts counters elapsed km0 rec certs acl near₀ place₀ at₀ near place at = length acl - at
 
+next-group-requires : tie.Need-next-group-requires Inv-loop μ-loop
+next-group-requires c κs = search needs
+
 loop-holds : tie.Need-loop-holds Inv-loop μ-loop
 unfolding recordsFrom
-loop-holds c = (search needs, (search needs, refl))
+loop-holds c =
+    let e = c .next-group .ensures in
+    (e .inside, (search needs, (e .head, ap (judgedFrom _ Nothing 0) (e .same))))
 
 sub-loop : tie.Need-sub-loop Inv-loop μ-loop
 sub-loop c = search needs
-
-shared-slice-read-if1 : tie.Need-shared-slice-read-if1 Inv-loop μ-loop
-shared-slice-read-if1 c = search needs
-
-add-at : tie.Need-add-at Inv-loop μ-loop
-add-at c = search needs
-
-loop-less : tie.Need-loop-less Inv-loop μ-loop
-loop-less c = search needs
-
-loop-again : tie.Need-loop-again Inv-loop μ-loop
-loop-again c = (search needs, (search needs, search (needs, groups-skip)))
 
 count-at-requires : tie.Need-count-at-requires Inv-loop μ-loop
 count-at-requires c κs = search needs
@@ -74,11 +68,12 @@ returns : tie.Need-returns Inv-loop μ-loop
 returns c =
     let s = c .before .before in
     let o = s .before .before .before in
-    let e = o .before in
-    let l = e .before .before in
-    let a = l .before .before .before .before .before .before .before .before .args in
+    let l = o .before in
+    let i = l .before .loop .inv .1 .1 in
+    let t = l .loop-test .taken in
+    let a = l .before .before .before .before .before .before .before .before .before .args in
     let d = standing-at _ _ _ _ _ _ _ _ (a .acl .now) (l .before .loop .at) _ (o .count-at .ensures) (s .group-standing .ensures) in
-    groups-grant _ _ _ _ _ _ (l .before .loop .inv .1 .1) (l .loop-test .taken) (e .if1 .left) _ d _ (c .before .grants .ensures) (c .if2 .taken)
+    groups-grant _ _ _ _ _ _ (i .1) t (i .0 t) _ d _ (c .before .grants .ensures) (c .if1 .taken)
 
 near-with-requires : tie.Need-near-with-requires Inv-loop μ-loop
 near-with-requires c κs = search needs
@@ -86,23 +81,28 @@ near-with-requires c κs = search needs
 add-place : tie.Need-add-place Inv-loop μ-loop
 add-place c = search needs
 
-add-at-2 : tie.Need-add-at-2 Inv-loop μ-loop
-add-at-2 c = search needs
+add-next-group : tie.Need-add-next-group Inv-loop μ-loop
+add-next-group c = search needs
 
-loop-less-2 : tie.Need-loop-less-2 Inv-loop μ-loop
-loop-less-2 c = search needs
+next-group-requires-2 : tie.Need-next-group-requires-2 Inv-loop μ-loop
+next-group-requires-2 c κs = search needs
 
-loop-again-2 : tie.Need-loop-again-2 Inv-loop μ-loop
-loop-again-2 c =
-    let f = c .before in
+loop-less : tie.Need-loop-less Inv-loop μ-loop
+loop-less c = let e = c .next-group2 .ensures .later in search needs
+
+loop-again : tie.Need-loop-again Inv-loop μ-loop
+loop-again c =
+    let f = c .before .before in
     let s = f .before .before in
     let o = s .before .before .before in
-    let e = o .before in
-    let l = e .before .before in
-    let a = l .before .before .before .before .before .before .before .before .args in
+    let l = o .before in
+    let i = l .before .loop .inv .1 .1 in
+    let t = l .loop-test .taken in
+    let a = l .before .before .before .before .before .before .before .before .before .args in
+    let e = c .next-group2 .ensures in
     let d = standing-at _ _ _ _ _ _ _ _ (a .acl .now) (l .before .loop .at) _ (o .count-at .ensures) (s .group-standing .ensures) in
-    let n = groups-next _ _ _ _ _ _ (l .before .loop .inv .1 .1) (l .loop-test .taken) (e .if1 .left) _ d _ (f .before .grants .ensures) _ (f .if2 .left) (c .near-with .ensures) in
-    (search needs, (search needs, n))
+    let n = groups-next _ _ _ _ _ _ (i .1) t (i .0 t) _ d _ (f .before .grants .ensures) _ _ (f .if1 .left) (c .before .near-with .ensures) (e .same) in
+    (e .inside, (omega (arith, e .later), (e .head, n)))
 
 denial-requires : tie.Need-denial-requires Inv-loop μ-loop
 denial-requires c κs = search needs
@@ -116,12 +116,9 @@ judge-groups-spec =
     (tie.spec
     Inv-loop
     μ-loop
+    next-group-requires
     loop-holds
     sub-loop
-    shared-slice-read-if1
-    add-at
-    loop-less
-    loop-again
     count-at-requires
     add-group
     sub-group
@@ -136,8 +133,9 @@ judge-groups-spec =
     returns
     near-with-requires
     add-place
-    add-at-2
-    loop-less-2
-    loop-again-2
+    add-next-group
+    next-group-requires-2
+    loop-less
+    loop-again
     denial-requires
     returns-2)
