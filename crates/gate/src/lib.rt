@@ -143,17 +143,22 @@ impl Ledger {
     }
 
     // A charge of the group at a place, whose limits are in `body`: own count and each named counter plus 1, last time set. The group is unspent, so
-    // that neither is full.
-    fn charge(self, place: usize, when: u64, body: &[u8]) -> Outcome
-        requires { ⌜ (getD (self .counts) place 0 < fullCount) × (all (limitHasRoom (self .counters)) (limitsOf (records (now body))) ≡ true) ⌝ }
+    // that neither is full. `before` is the table of counters before the charge, lent, so that the ledger is copied once.
+    fn charge(
+        mut self,
+        before: &[u32; Ledger::COUNTERS],
+        place: usize,
+        when: u64,
+        body: &[u8],
+    ) -> Outcome
+        requires { ⌜ (now before ≡ self .counters) × (getD (self .counts) place 0 < fullCount) × (all (limitHasRoom (self .counters)) (limitsOf (records (now body))) ≡ true) ⌝ }
         ensures { λ r. ⌜ outcomeOf r ≡ permitted place (chargedWith (ledgerOf self) place (limitsOf (records (now (body .entry)))) when) ⌝ }
     {
-        let mut charged = self;
-        raise_named(&mut charged.counters, &self.counters, body);
-        raise_count(&mut charged.counts, place);
-        charged.last = when;
+        raise_named(&mut self.counters, before, body);
+        raise_count(&mut self.counts, place);
+        self.last = when;
         Outcome {
-            ledger: charged,
+            ledger: self,
             reply: Reply::Permit(place),
         }
     }
@@ -227,7 +232,12 @@ impl Ledger {
         let last = self.last;
         let d = decide(&self.counts, &self.counters, loaded, last, km0, acl, req);
         match d {
-            Decision::Permit(k) => self.charge(k, request::time(req), groups::group_body(acl, k)),
+            Decision::Permit(k) => self.charge(
+                &self.counters,
+                k,
+                request::time(req),
+                groups::group_body(acl, k),
+            ),
             Decision::Refuse(r) => self.refuse(r),
         }
     }
@@ -373,7 +383,7 @@ impl Ledger {
         requires { ⌜ ((getD (self .counts) place 0 < fullCount) × (all (limitHasRoom (self .counters)) (limitsOf (records (now body))) ≡ true)) × (length (hintsOf (now hints)) ≤ groupsMax) ⌝ }
         ensures { λ r. ⌜ outcomeOf r ≡ narrowed (ledgerOf self) (aclOf (now (acl .entry))) (aclOf (now (new .entry))) (hintsOf (now (hints .entry))) place (chargedWith (ledgerOf self) place (limitsOf (records (now (body .entry)))) time) ⌝ }
     {
-        let charged = self.charge(place, time, body).ledger;
+        let charged = self.charge(&self.counters, place, time, body).ledger;
         if !narrowing::shows_narrowing(acl, new, hints) {
             return self.refuse(Refusal::NotNarrower);
         }
@@ -386,7 +396,7 @@ impl Ledger {
         requires { ⌜ (getD (self .counts) place 0 < fullCount) × (all (limitHasRoom (self .counters)) (limitsOf (records (now body))) ≡ true) ⌝ }
         ensures { λ r. ⌜ outcomeOf r ≡ expanded place (chargedWith (ledgerOf self) place (limitsOf (records (now (body .entry)))) time) ⌝ }
     {
-        let charged = self.charge(place, time, body).ledger;
+        let charged = self.charge(&self.counters, place, time, body).ledger;
         charged.emptied(place)
     }
 

@@ -15,8 +15,8 @@ refuse-requires c κs = search needs
 returns : tie.Need-returns
 returns c =
     let t = c .before in
-    let a = t .before .before .before .before .before .before .before .before .args in
-    let m = chargedWith (ledgerOf (a .self)) (a .place) (limitsOf (records (a .body .now))) (a .time) in
+    let a = t .before .before .before .before .before .before .before .before .before .before .args in
+    let m = chargedWith (ledgerOf (a .t1)) (a .place) (limitsOf (records (a .body .now))) (a .time) in
     not-shown _ _ _ _ _ m _ _ (t .before .shows-narrowing .ensures) (t .if1 .taken) (c .refuse .ensures)
 
 charge-requires : tie.Need-charge-requires
@@ -30,7 +30,7 @@ returns-2 c =
     let t = c .before .before in
     let s = t .before in
     let h = s .before .before in
-    shown _ _ _ _ _ _ _ _ (s .shows-narrowing .ensures) _ (t .if1 .left) (h .before .before .before .before .before .pre .1) (permit-ledger _ _ _ (h .charge .ensures)) (c .carried .ensures)
+    shown _ _ _ _ _ _ _ _ (s .shows-narrowing .ensures) _ (t .if1 .left) (h .before .before .before .before .before .before .before .pre .1) (permit-ledger _ _ _ (h .charge .ensures)) (c .carried .ensures)
 
 pub narrow-granted-spec : {M : Type 1} → statement M
 narrow-granted-spec =

@@ -1,3 +1,4 @@
+use mathlib.Core.Path.{refl}
 use Rattle.rules.specs.Gate.{permitted}
 use Rattle.gate.proofs.Settling.{charge-room, settle-granted, settle-denied}
 use borrow.Author.Needs.{needs}
@@ -18,9 +19,10 @@ group-body-requires c κs = search needs
 
 charge-requires : tie.Need-charge-requires
 charge-requires c κs =
-    let d = c .before .before .before in
+    let d = c .before .before .before .before .before in
     let e = rw (d .d .given .1) at (d .before .before .decide .ensures) in
-    charge-room _ _ _ _ _ _ e (c .group-body .ensures .limits)
+    let room = charge-room _ _ _ _ _ _ e (c .group-body .ensures .limits) in
+    (refl, room .0, room .1)
 
 enum-known-d-2 : tie.Need-enum-known-d-2
 enum-known-d-2 c = search needs
@@ -31,7 +33,7 @@ refuse-requires c κs = search needs
 returns : tie.Need-returns
 returns c =
     let t = c .before .before in
-    let d = t .before .before in
+    let d = t .before .before .before .before in
     let e = rw (d .d .given .1) at (d .before .before .decide .ensures) in
     settle-granted _ _ _ _ permitted _ _ _ _ e (c .before .group-body .ensures .limits) (t .time .ensures) (c .charge .ensures)
 
