@@ -78,8 +78,8 @@ module _ (n k : ℕ) (keys : List ℕ) (e : length keys ≡ k) (h : n ≤ k) whe
 
 -- a limit's key, as `be16` read it
 module _ (s : AclPlace) (r : Bytes) (key : ℕ) (e : key ≡ limitKey r) where
-  pub limit-placed : (a b : Bool) → a ≡ limitLaidOut r → b ≡ limitInPlace s key → (a && b) ≡ (limitLaidOut r && limitInPlace s (limitKey r))
-  limit-placed a b p q = rw (p, q, e)
+  pub limit-placed : (b : Bool) → b ≡ limitInPlace s key → b ≡ limitInPlace s (limitKey r)
+  limit-placed b q = q ∙ ap (limitInPlace s) e
 
   pub limit-next : (t : AclPlace) → t ≡ limitAdded s key → t ≡ limitAdded s (limitKey r)
   limit-next t p = p ∙ ap (limitAdded s) e
@@ -87,3 +87,7 @@ module _ (s : AclPlace) (r : Bytes) (key : ℕ) (e : key ≡ limitKey r) where
 -- a call that answered yes
 pub was-true : (r t : Bool) → r ≡ t → not r ≡ false → t ≡ true
 was-true r t e h = sym e ∙ not-false r h
+
+-- an action that is laid out stands where a group has begun
+pub action-placed : (r t g : Bool) → r ≡ t → not r ≡ false → g ≡ (t && g)
+action-placed r t g e h = sym (ap (λ (x : Bool). x && g) (sym e ∙ not-false r h))

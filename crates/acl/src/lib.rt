@@ -83,9 +83,15 @@ impl Place {
             return layout::group(rec);
         }
         if kind == 2 {
-            return layout::limit(rec) & self.takes_limit(fields::be16(rec, 4));
+            if !layout::limit(rec) {
+                return false;
+            }
+            return self.takes_limit(fields::be16(rec, 4));
         }
-        action(rec) & (0 < self.groups)
+        if !action(rec) {
+            return false;
+        }
+        0 < self.groups
     }
 
     // Whether there is room for one more of a record's kind.

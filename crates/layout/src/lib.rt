@@ -1,4 +1,5 @@
-// The layout of each kind of record, over the record's 64 bytes. A caller looks at the kind, byte 0, and calls the test of that kind.
+// The layout of each kind of record, over the record's 64 bytes. A caller looks at the kind, byte 0, and calls the test of that kind. The tests of the
+// kinds that an ACL has most of end at the first fault: a test and a jump cost less than joining the answers.
 ghost use mathlib.Core.Path.{_≡_};
 ghost use Prim.Native.Nat.{_+_, _≤_, _<_};
 ghost use lib.ListN.{length};
@@ -97,11 +98,19 @@ pub fn limit(s: &[u8]) -> bool
 {
     let sort = s[4];
     let counter = s[5];
-    plain_header(0, s)
-        & ((1 <= sort) & (sort <= 3))
-        & counter_of_sort(sort, counter)
-        & fields::zero_part(s, 6, 2)
-        & fields::zero_part(s, 12, 52)
+    if !plain_header(0, s) {
+        return false;
+    }
+    if !((1 <= sort) & (sort <= 3)) {
+        return false;
+    }
+    if !counter_of_sort(sort, counter) {
+        return false;
+    }
+    if !fields::zero_part(s, 6, 2) {
+        return false;
+    }
+    fields::zero_part(s, 12, 52)
 }
 
 // Kind 3, OpPermissions.
@@ -117,11 +126,19 @@ pub fn blob_action(s: &[u8]) -> bool
     requires { ⌜ length (now s) ≡ recordBytes ⌝ }
     ensures { λ r. ⌜ r ≡ blobActionLaidOut (now (s .entry)) ⌝ }
 {
-    plain_header(63, s)
-        & zero_unless(2, 4, sizes::HASH, s)
-        & zero_unless(3, 24, sizes::HASH, s)
-        & token_parameters_if(4, 44, s)
-        & fields::zero_part(s, 52, 12)
+    if !plain_header(63, s) {
+        return false;
+    }
+    if !zero_unless(2, 4, sizes::HASH, s) {
+        return false;
+    }
+    if !zero_unless(3, 24, sizes::HASH, s) {
+        return false;
+    }
+    if !token_parameters_if(4, 44, s) {
+        return false;
+    }
+    fields::zero_part(s, 52, 12)
 }
 
 // Kind 5, MakeArchiveBlob.
@@ -129,10 +146,16 @@ pub fn archive_action(s: &[u8]) -> bool
     requires { ⌜ length (now s) ≡ recordBytes ⌝ }
     ensures { λ r. ⌜ r ≡ archiveActionLaidOut (now (s .entry)) ⌝ }
 {
-    plain_header(1, s)
-        & zero_unless(0, 4, sizes::HASH, s)
-        & mechanism_at(24, s)
-        & fields::zero_part(s, 26, 38)
+    if !plain_header(1, s) {
+        return false;
+    }
+    if !zero_unless(0, 4, sizes::HASH, s) {
+        return false;
+    }
+    if !mechanism_at(24, s) {
+        return false;
+    }
+    fields::zero_part(s, 26, 38)
 }
 
 // Kind 6, a request for a use.

@@ -1,6 +1,7 @@
 use Rattle.rules.specs.Acl.{inPlace}
-use Rattle.acl.proofs.Laws.{limit-placed}
-use Rattle.rules.proofs.Choices.{picks, and-is}
+use Rattle.acl.proofs.Laws.{limit-placed, action-placed}
+use Rattle.rules.proofs.Choices.{picks}
+use Rattle.layout.proofs.Chain.{chain}
 use borrow.Author.Needs.{needs}
 use Rattle.acl.proofs.Place.in_place.Statement.{statement}
 use Rattle.acl.proofs.Place.in_place.Tie as tie
@@ -18,22 +19,30 @@ returns c = search (needs, picks)
 limit-requires : tie.Need-limit-requires
 limit-requires c κs = search needs
 
+returns-2 : tie.Need-returns-2
+unfolding inPlace
+returns-2 c = search (needs, picks, chain)
+
 be16-requires : tie.Need-be16-requires
 be16-requires c κs = search needs
 
 takes-limit-requires : tie.Need-takes-limit-requires
 takes-limit-requires c κs = search needs
 
-returns-2 : tie.Need-returns-2
+returns-3 : tie.Need-returns-3
 unfolding inPlace
-returns-2 c = search (needs, picks, limit-placed)
+returns-3 c = search (needs, picks, chain, limit-placed)
 
 action-requires : tie.Need-action-requires
 action-requires c κs = search needs
 
-returns-3 : tie.Need-returns-3
+returns-4 : tie.Need-returns-4
 unfolding inPlace
-returns-3 c = search (needs, picks, and-is)
+returns-4 c = search (needs, picks, chain)
+
+returns-5 : tie.Need-returns-5
+unfolding inPlace
+returns-5 c = search (needs, picks, action-placed)
 
 pub in-place-spec : {M : Type 1} → statement M
 in-place-spec =
@@ -43,8 +52,10 @@ in-place-spec =
     group-requires
     returns
     limit-requires
+    returns-2
     be16-requires
     takes-limit-requires
-    returns-2
+    returns-3
     action-requires
-    returns-3)
+    returns-4
+    returns-5)
