@@ -11,7 +11,6 @@ use lib.Dec.{eqb, ltb}
 use borrow.Author.Tests.{eq-eqb, ne-eqb, lt-ltb, le-ltb, ltb-true, ltb-false, not-false}
 use Rattle.rules.specs.Sizes.{groupsMax, limitsMax, actionsMax}
 use Rattle.rules.specs.Basics.{Bytes, any, kind, recordFault}
-use Rattle.rules.specs.Layout.{limitLaidOut}
 use Rattle.rules.specs.Acl.{AclPlace, among, limitKey, limitInPlace, inPlace, hasRoom, aclRecordFault, limitAdded}
 use Rattle.acl.specs.declared.Place.{Place}
 use Rattle.acl.specs.Places.{placeOf}

@@ -5,10 +5,10 @@ use native.Mathlib.Nat.{div-eq-of-lt}
 use mathlib.Core.Path.{_≡_, refl, sym, _∙_, ap}
 use mathlib.Core.Bool.{Bool, true, false, not, _&&_, _||_}
 use borrow.Author.Tests.{eq-eqb, ne-eqb, not-true, not-false}
-use lib.ListN.{length, drop, getD}
+use lib.ListN.{length, getD}
 use lib.Dec.{eqb}
 use lib.Pow.{pow-mono}
-use Rattle.rules.specs.Basics.{Bytes, any, same, bit, part, number, byte, kind, flag, optional, present, matches, records}
+use Rattle.rules.specs.Basics.{Bytes, any, same, bit, part, number, byte, kind, flag, optional, present, matches}
 use Rattle.rules.specs.Acl.{Parameters, parametersOf, blobRuleOf, archiveRuleOf, actionOf, Action, actionsOf}
 use Rattle.rules.specs.Request.{tokenOf, workingBlobOf, recoveryBlobOf, wantedOf}
 use Rattle.rules.specs.Grant.{tighter, meets, nullKey, admitsDirect, admitsToken, admitsKey, admitsBlob, admitsArchive, admitsUse, admitsWorking, admitsRecovery, admits}

@@ -7,8 +7,8 @@ ghost use Rattle.rules.specs.Basics.{allZero, same, bit, within, part, number, 
 ghost use Rattle.rules.specs.Layout.{tokenParametersAt};
 ghost use Rattle.fields.specs.Words.{Word};
 
-// Whether two runs of bytes of one length are the same, byte by byte. It goes on after the first difference: such a loop becomes a few wide
-// comparisons.
+// Whether two runs of bytes of one length are the same, byte by byte: for runs of fewer than eight. No test here stops at the first difference, for
+// joining the answers costs less than a jump after each.
 fn same_few(a: &[u8], b: &[u8]) -> bool
     requires { ⌜ length (now a) ≡ length (now b) ⌝ }
     ensures { λ r. ⌜ r ≡ same (now (a .entry)) (now (b .entry)) ⌝ }
@@ -49,7 +49,7 @@ pub fn same_bytes(a: &[u8], b: &[u8]) -> bool
     same_words(a, b)
 }
 
-// Whether every byte is zero, byte by byte, without an early end.
+// Whether every byte is zero, byte by byte: for runs of fewer than eight.
 fn zero_few(s: &[u8]) -> bool
     ensures { λ r. ⌜ r ≡ allZero (now (s .entry)) ⌝ }
 {

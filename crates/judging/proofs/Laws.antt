@@ -1,12 +1,13 @@
 -- The turns of the loops of this crate, and what its tests come to in the definitions' terms.
 use Prim.Native.Nat.{ℕ, _+_, _-_, _≤_, _<_}
 use native.Mathlib.Numerals.{add-one}
+use native.Mathlib.Omega.{arith}
 use mathlib.Core.Path.{_≡_, sym, _∙_, ap}
 use mathlib.Core.List.{List, _∷_}
 use mathlib.Core.Option.{Option}
-use mathlib.Core.Bool.{Bool, true, false, not, _&&_}
+use mathlib.Core.Bool.{Bool, true, false, not}
 use borrow.Author.Tests.{eq-eqb, ne-eqb, not-true, not-false}
-use lib.ListN.{length, getD, List·getD-eq-default}
+use lib.ListN.{length, getD, List·getD-eq-default, drop}
 use lib.Dec.{eqb, ltb}
 use Rattle.rules.specs.Basics.{Bytes, any, same, part, number, byte, flag, optional, matchesNumber, records}
 use Rattle.rules.specs.Acl.{limitOf, Group, groupOf, groupsOf}

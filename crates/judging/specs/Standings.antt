@@ -4,7 +4,7 @@ use mathlib.Core.Path.{_≡_}
 use mathlib.Core.List.{List, [], _∷_}
 use mathlib.Core.Bool.{Bool, true, false}
 use lib.ListN.{length, getD, drop}
-use Rattle.rules.specs.Basics.{if_then_else_, Bytes, any}
+use Rattle.rules.specs.Basics.{if_then_else_, Bytes, any, records}
 use Rattle.rules.specs.Acl.{Group, groupOf, groupsOf}
 use Rattle.rules.specs.Request.{Wanted, Certificate}
 use Rattle.rules.specs.Ledger.{Ledger}

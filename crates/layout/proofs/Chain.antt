@@ -1,5 +1,5 @@
 -- Tests one after the other, each of which ends the chain where it fails: what a chain `a && b && ..` then comes to.
-use mathlib.Core.Path.{_≡_, refl, sym, _∙_, ap}
+use mathlib.Core.Path.{_≡_, sym, _∙_, ap}
 use mathlib.Core.Bool.{Bool, true, false, not, _&&_}
 use borrow.Author.Tests.{not-true, not-false}
 use Rattle.fields.proofs.Laws.{and-false}

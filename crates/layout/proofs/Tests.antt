@@ -3,12 +3,7 @@ use mathlib.Core.Path.{_≡_}
 use mathlib.Core.Bool.{Bool, _&&_}
 use lib.Dec.{leb, ltb}
 use Rattle.rules.specs.Basics.{Bytes, byte, blank, within}
-use Rattle.rules.specs.Layout.{header, counterOfSort, limitLaidOut, useLaidOut, factLaidOut, signatureLaidOut, policyLaidOut}
-
-pub limit-is : (r : Bytes) (h k z w : Bool) → h ≡ header 0 r → k ≡ counterOfSort (byte 4 r) (byte 5 r) → z ≡ blank 6 2 r → w ≡ blank 12 52 r
-    → (h && (leb 1 (byte 4 r) && leb (byte 4 r) 3) && k && z && w) ≡ limitLaidOut r
-unfolding limitLaidOut
-limit-is r h k z w a b c d = rw (a, b, c, d)
+use Rattle.rules.specs.Layout.{header, useLaidOut, factLaidOut, signatureLaidOut, policyLaidOut}
 
 pub use-is : (r : Bytes) (h z : Bool) → h ≡ header 0 r → z ≡ blank 5 51 r → (h && ltb (byte 4 r) 16 && z) ≡ useLaidOut r
 unfolding useLaidOut
