@@ -70,9 +70,16 @@ impl Parameters {
     }
 }
 
-// Joining all the bytes, without stopping at the first that is not zero, becomes a few wide loads.
+fn word(rec: &Record, at: usize) -> u64 {
+    u64::from_ne_bytes(*part(rec, at))
+}
+
+// Words of eight bytes, joined without stopping at the first that is not zero; the last one may overlap those before it.
 fn zero<const N: usize>(rec: &Record, at: usize) -> bool {
-    part::<N>(rec, at).iter().fold(0, |all, b| all | b) == 0
+    if N < 8 {
+        return part::<N>(rec, at).iter().fold(0, |all, b| all | b) == 0;
+    }
+    (0..N / 8).fold(word(rec, at + N - 8), |all, i| all | word(rec, at + 8 * i)) == 0
 }
 
 // Byte 1 is zero, and no flag is set but those listed.
