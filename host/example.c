@@ -54,8 +54,11 @@ static void print_day(const file *km0, const file *acl, const file *requests)
     for (size_t at = 0; AKUBOLINFE_RECORD <= requests->length - at; at += AKUBOLINFE_RECORD) {
         akubolinfe_outcome o = akubolinfe_request(ledger, km0->bytes, km0->length, acl->bytes, acl->length,
                                                   requests->bytes + at, AKUBOLINFE_RECORD);
-        printf("%zu %s %llu\n", at / AKUBOLINFE_RECORD + 1, o.answer == AKUBOLINFE_PERMITTED ? "permit" : "refuse",
+        printf("%zu %s %llu", at / AKUBOLINFE_RECORD + 1, o.answer == AKUBOLINFE_PERMITTED ? "permit" : "refuse",
                (unsigned long long)o.number);
+        if (o.answer == AKUBOLINFE_REFUSED && o.group != AKUBOLINFE_NO_GROUP)
+            printf(" %llu", (unsigned long long)o.group);
+        printf("\n");
         ledger = o.ledger;
     }
 }

@@ -32,11 +32,16 @@ typedef struct {
 #define AKUBOLINFE_PERMITTED 1
 #define AKUBOLINFE_REFUSED 2
 
-/* The ledger handed back; what the answer is; the group that permits, or the refusal's number. */
+/* No group is named. */
+#define AKUBOLINFE_NO_GROUP UINT64_MAX
+
+/* The ledger handed back; what the answer is; the group that permits, or the refusal's number; the group that permits, or
+ * that came nearest (refusal 6: the lowest that admits; 7: the lowest that admits and is certified). */
 typedef struct {
     akubolinfe_ledger ledger;
     uint64_t answer;
     uint64_t number;
+    uint64_t group;
 } akubolinfe_outcome;
 
 /* Refusals. */

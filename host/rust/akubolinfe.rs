@@ -17,6 +17,7 @@ struct RawOutcome {
     ledger: Ledger,
     answer: u64,
     number: u64,
+    group: u64,
 }
 
 #[repr(C)]
@@ -41,12 +42,12 @@ struct RawListing {
     line: u64,
 }
 
-/// A load or a clear is done, a group permits, or a refusal with its number.
+/// A load or a clear is done, a group permits, or a refusal with its number and, where that is 6 or 7, the group that came nearest.
 #[derive(Clone, Copy, PartialEq, Eq, Debug)]
 pub enum Reply {
     Done,
     Permit(u64),
-    Refuse(u64),
+    Refuse(u64, Option<u64>),
 }
 
 /// The desk's answer: what an acceptance names, the failing step, or a refusal with its number.
@@ -99,11 +100,14 @@ fn ptr_mut(s: &mut [u8]) -> *mut u8 {
     if s.is_empty() { std::ptr::null_mut() } else { s.as_mut_ptr() }
 }
 
+// No group is named.
+const NO_GROUP: u64 = u64::MAX;
+
 fn told(o: RawOutcome) -> (Ledger, Reply) {
     let reply = match o.answer {
         0 => Reply::Done,
         1 => Reply::Permit(o.number),
-        _ => Reply::Refuse(o.number),
+        _ => Reply::Refuse(o.number, Some(o.group).filter(|&g| g != NO_GROUP)),
     };
     (o.ledger, reply)
 }

@@ -49,7 +49,8 @@ fn told(ledger: &mut Ledger, (after, reply): (Ledger, Reply)) -> String {
     let r = match reply {
         Reply::Done => "done".to_string(),
         Reply::Permit(g) => format!("permit {g}"),
-        Reply::Refuse(n) => format!("refuse {n}"),
+        Reply::Refuse(n, None) => format!("refuse {n}"),
+        Reply::Refuse(n, Some(g)) => format!("refuse {n} {g}"),
     };
     let tables = table("counts", &ledger.counts) + &table("counters", &ledger.counters);
     format!("{r} load {} last {}{tables}", ledger.loaded, ledger.last)

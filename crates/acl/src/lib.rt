@@ -6,10 +6,10 @@ ghost use lib.ListN.{length};
 ghost use Rattle.rules.specs.Sizes.{recordBytes, limitsMax};
 ghost use Rattle.rules.specs.Basics.{records};
 ghost use Rattle.rules.specs.Acl.{aclStart, among, limitInPlace, actionLaidOut, inPlace, hasRoom, limitAdded, afterRecord, aclFault, aclFileFault};
-ghost use Rattle.files.specs.Refusals.{faultOf};
+ghost use Rattle.files.specs.Faults.{faultOf};
 ghost use Rattle.acl.specs.Places.{placeOf};
 use files::Checked;
-use files::Refusal;
+use refusals::Refusal;
 
 // Where reading stands: groups begun; of the last group the limits, with the sort and counter of each, and the actions.
 pub struct Place {

@@ -5,9 +5,9 @@ ghost use lib.ListN.{length};
 ghost use Rattle.rules.specs.Sizes.{recordBytes};
 ghost use Rattle.rules.specs.Basics.{records};
 ghost use Rattle.rules.specs.Bundle.{orderOf, inOrder, bundleRecordLaidOut, bundleInPlace, bundleHasRoom, listedAfter, bundleFault};
-ghost use Rattle.files.specs.Refusals.{faultOf};
+ghost use Rattle.files.specs.Faults.{faultOf};
 use files::Checked;
-use files::Refusal;
+use refusals::Refusal;
 
 // The places in the order of kind and number of field 14, and of the policy, which has no number.
 const LISTED_ORDER: u16 = 2574;

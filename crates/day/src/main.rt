@@ -2,11 +2,12 @@
 // file or record, or too many records, print `0 refuse N` alone.
 use arguments::Input;
 use files::Checked;
-use files::Refusal;
 use gate::Ledger;
 use gate::Reply;
 use libc::STDERR_FILENO;
 use libc::STDOUT_FILENO;
+use refusals::Denial;
+use refusals::Refusal;
 
 fn print(text: &[u8]) {
     io::write_all(STDOUT_FILENO, text);
@@ -18,7 +19,24 @@ fn print_number(n: u64) {
 
 fn print_refusal(why: Refusal) {
     print(b" refuse ");
-    print_number(files::number(why) as u64);
+    print_number(refusals::number(why) as u64);
+}
+
+// A denial: its number and, where it names one, the group that came nearest.
+fn print_denial(why: Denial) {
+    print(b" refuse ");
+    print_number(refusals::denial_number(why) as u64);
+    match why {
+        Denial::Early => {}
+        Denial::Unadmitted => {}
+        Denial::Uncertified(place) => print_place(place),
+        Denial::Exhausted(place) => print_place(place),
+    }
+}
+
+fn print_place(place: usize) {
+    print(b" ");
+    print_number(place as u64);
 }
 
 fn print_reply(reply: Reply) {
@@ -29,6 +47,7 @@ fn print_reply(reply: Reply) {
             print_number(place as u64);
         }
         Reply::Refuse(why) => print_refusal(why),
+        Reply::Deny(why) => print_denial(why),
     }
 }
 

@@ -3,9 +3,9 @@ ghost use mathlib.Core.Path.{_≡_};
 ghost use Rattle.rules.specs.Basics.{eachFault, records};
 ghost use Rattle.rules.specs.Request.{requestRecordFault};
 ghost use Rattle.rules.specs.Day.{dayLengthsFit, dayFault};
-ghost use Rattle.files.specs.Refusals.{faultOf};
+ghost use Rattle.files.specs.Faults.{faultOf};
 use files::Checked;
-use files::Refusal;
+use refusals::Refusal;
 
 // Request records of one day.
 pub const REQUESTS: usize = 1000;

@@ -4,7 +4,7 @@ use mathlib.Core.Path.{_≡_, refl, sym, _∙_, ap}
 use lib.Dec.{eqb}
 use Rattle.rules.specs.Basics.{if_then_else_}
 use Rattle.rules.specs.Desk as rules
-use Rattle.files.proofs.Determined.{refusalBack, refusal-back}
+use Rattle.refusals.proofs.Determined.{refusalBack, refusal-back}
 use Rattle.steps.specs.declared.Step.{Step}
 use Rattle.steps.specs.declared.Step.the-variants.{WV1, MSCV1, MSCV2, MSCV3, MSCV4, MSCV5, WBCV1, WBCV2, WBCV3, KGCV1, KGCV2, ACLV3, WB1, WB2, WB3, WB6, RB1, RB2, RB3, KV3, CSRL1}
 use Rattle.steps.specs.Steps.{stepOf}

@@ -10,7 +10,7 @@ use Rattle.rules.specs.Basics.{Bytes, unless, firstFault}
 use Rattle.rules.specs.Suites.{isSuite}
 use Rattle.rules.specs.Bundle.{policyOf}
 use Rattle.rules.specs.Desk as rules
-use Rattle.files.specs.Refusals.{refusalNumber}
+use Rattle.refusals.specs.Refusals.{refusalNumber}
 use Rattle.steps.specs.declared.Failure.{Failure}
 use Rattle.steps.specs.declared.Failure.the-variants.{Nothing, At}
 use Rattle.steps.specs.Steps.{stepOf}

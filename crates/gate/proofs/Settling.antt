@@ -15,14 +15,15 @@ use Rattle.rules.specs.Acl.{Limit, Group}
 use Rattle.rules.specs.Request.{Request, requestLaidOut, requestFault}
 use Rattle.rules.specs.Ledger.{Ledger, charge}
 use Rattle.rules.specs.Grant.{limitLeft, limitsLeft, groupAdmits, certified, unspent}
-use Rattle.rules.specs.Gate.{Outcome, Lowest, nobody, group, lowest, Denial, early, unadmitted, uncertified, exhausted, numberOf, Judgement, granted, denied, grants, tooEarly, whyNot, judgedBy, judge, refused, settle, unlessFault, requestFiles}
+use Rattle.rules.specs.Gate.{Outcome, Lowest, nobody, group, lowest, Denial, early, unadmitted, uncertified, exhausted, Judgement, granted, denied, grants, tooEarly, whyNot, judgedBy, judge, refusedNear, refused, settle, unlessFault, requestFiles}
 use Rattle.rules.proofs.Laws.{never, and-left, and-right, and-both, implication, fault-none-every}
 use Rattle.rules.proofs.Rows.{no-rows}
 use Rattle.groups.specs.Parts.{firstLimits}
-use Rattle.judging.specs.declared.Judged.{Judged}
-use Rattle.judging.specs.declared.Judged.the-variants.{Granted}
+use Rattle.refusals.specs.declared.Denial as code
+use Rattle.refusals.specs.Refusals.{denialNumber, denialGroup}
+use Rattle.judging.specs.declared.Judged.the-variants.{Granted, Denied}
 use Rattle.judging.specs.Standings.{denialAs, judgedAs}
-use Rattle.gate.specs.Outcomes.{limitHasRoom, chargedWith, numberAs}
+use Rattle.gate.specs.Outcomes.{limitHasRoom, chargedWith}
 
 -- the lowest group stands at its place, counted from `place`, and passes
 lowest-at : (test : ℕ → Group → Bool) (place : ℕ) (gs : List Group) (k : ℕ) (g : Group) → lowest test place gs ≡ group k g
@@ -60,15 +61,9 @@ module _ (l : Ledger) (km0 : Bytes) (gs : List Group) (q : Request) where
   granted-as : (k : ℕ) → Granted k ≡ judgedAs (judge l km0 gs q) → (g : Group) × (judge l km0 gs q ≡ granted k g)
   granted-as k e = pick (judge l km0 gs q) refl
     where
-      none-granted : (d : Denial) → Granted k ≡ denialAs d → ⊥
-      none-granted early f = never (cc)
-      none-granted unadmitted f = never (cc)
-      none-granted (uncertified p g) f = never (cc)
-      none-granted (exhausted p g) f = never (cc)
-
       pick : (j : Judgement) → judge l km0 gs q ≡ j → (g : Group) × (j ≡ granted k g)
       pick (granted p g) d = let c : Granted k ≡ Granted p = e ∙ ap judgedAs d in let n : p ≡ k = cc in (g, ap (λ (z : ℕ). granted z g) n)
-      pick (denied x) d = absurd (none-granted x (e ∙ ap judgedAs d))
+      pick (denied x) d = let c : Granted k ≡ Denied (denialAs x) = e ∙ ap judgedAs d in absurd (never (cc))
 
   -- the group that grants has the limits that stand at its place
   pub granted-limits : (k : ℕ) → Granted k ≡ judgedAs (judge l km0 gs q) → (g : Group) × (judge l km0 gs q ≡ granted k g) × (firstLimits (drop k gs) ≡ g .limits) × (grants l km0 q k g ≡ true)
@@ -118,24 +113,21 @@ module _ (l : Ledger) (km0 : Bytes) (gs : List Group) (q : Request) where
       let x = and-right (ltb own fullCount) (limitsLeft (l .counters) own (q .time - l .loaded) (g .limits)) u in
       (count-room k g (r .3), rw (m ∙ r .2) (limits-room own (q .time - l .loaded) (g .limits) x))
 
--- A denial keeps the ledger.
-number-same : (d : Denial) → numberAs (denialAs d) ≡ some (numberOf d)
-number-same early = refl
-number-same unadmitted = refl
-number-same (uncertified k g) = refl
-number-same (exhausted k g) = refl
+-- A denial keeps the ledger, and is refused with its number and the group that it carries.
+module _ (l : Ledger) (time : ℕ) (onPermit : ℕ → Ledger → Outcome) where
+  denial-kept : (x : Denial) (d : code.Denial) → d ≡ denialAs x → refusedNear l (denialNumber d) (denialGroup d) ≡ settle l time onPermit (denied x)
+  denial-kept early d e = rw e
+  denial-kept unadmitted d e = rw e
+  denial-kept (uncertified k g) d e = rw e
+  denial-kept (exhausted k g) d e = rw e
 
-denied-kept : (l : Ledger) (time : ℕ) (onPermit : ℕ → Ledger → Outcome) (j : Judgement) (r : Judged) (n : ℕ) (o : Outcome)
-    → r ≡ judgedAs j → numberAs r ≡ some n → o ≡ refused l n → o ≡ settle l time onPermit j
-denied-kept l time onPermit (granted k g) r n o e d p = let c : none ≡ some n = sym (ap numberAs e) ∙ d in absurd (never (cc))
-denied-kept l time onPermit (denied x) r n o e d p =
-    let c : some (numberOf x) ≡ some n = sym (number-same x) ∙ sym (ap numberAs e) ∙ d in
-    let q : n ≡ numberOf x = cc in
-    p ∙ ap (refused l) q
+  denied-kept : (j : Judgement) (d : code.Denial) → Denied d ≡ judgedAs j → refusedNear l (denialNumber d) (denialGroup d) ≡ settle l time onPermit j
+  denied-kept (granted k g) d e = absurd (never (cc))
+  denied-kept (denied x) d e = let q : d ≡ denialAs x = cc in denial-kept x d q
 
-pub settle-denied : (l : Ledger) (km0 : Bytes) (gs : List Group) (q : Request) (onPermit : ℕ → Ledger → Outcome) (n : ℕ) (o : Outcome)
-    → numberAs (judgedAs (judge l km0 gs q)) ≡ some n → o ≡ refused l n → o ≡ settle l (q .time) onPermit (judge l km0 gs q)
-settle-denied l km0 gs q onPermit n o d p = denied-kept l (q .time) onPermit (judge l km0 gs q) (judgedAs (judge l km0 gs q)) n o refl d p
+pub settle-denied : (l : Ledger) (km0 : Bytes) (gs : List Group) (q : Request) (onPermit : ℕ → Ledger → Outcome) (d : code.Denial) (o : Outcome)
+    → Denied d ≡ judgedAs (judge l km0 gs q) → o ≡ refusedNear l (denialNumber d) (denialGroup d) → o ≡ settle l (q .time) onPermit (judge l km0 gs q)
+settle-denied l km0 gs q onPermit d o e p = p ∙ denied-kept l (q .time) onPermit (judge l km0 gs q) d e
 
 -- A request file without fault has a record.
 pub sound-request : (first : Bytes → Bool) (s : Bytes) → requestFault first (records s) ≡ none → 64 ≤ length s

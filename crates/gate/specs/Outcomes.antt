@@ -1,27 +1,21 @@
 -- The gate's types, as the definitions have them: the ledger, replies by document 01's numbers, outcomes; and a charge by the limits alone.
 use Prim.Native.Nat.{ℕ, _+_}
 use mathlib.Core.List.{List, [], _∷_}
-use mathlib.Core.Path.{_≡_}
-use mathlib.Core.Option.{Option, none, some}
+use mathlib.Core.Option.{none}
 use mathlib.Core.Bool.{Bool}
 use lib.ListN.{getD, set}
 use lib.Dec.{eqb, ltb}
 use Rattle.rules.specs.Sizes.{fullCount}
-use Rattle.rules.specs.Numbers.{clockBack, notAdmitted, notCertified, spent}
 use Rattle.rules.specs.Basics.{if_then_else_, implies}
 use Rattle.rules.specs.Acl.{Limit}
 use Rattle.rules.specs.Request.{Hint}
 use Rattle.rules.specs.Ledger as rules
 use Rattle.rules.specs.Gate as rulesGate
-use Rattle.files.specs.Refusals.{refusalNumber}
+use Rattle.refusals.specs.Refusals.{refusalNumber, denialNumber, denialGroup}
 use Rattle.gate.specs.declared.Ledger.{Ledger}
 use Rattle.gate.specs.declared.Reply.{Reply}
-use Rattle.gate.specs.declared.Reply.the-variants.{Done, Permit, Refuse}
+use Rattle.gate.specs.declared.Reply.the-variants.{Done, Permit, Refuse, Deny}
 use Rattle.gate.specs.declared.Outcome.{Outcome}
-use Rattle.gate.specs.declared.Decision.{Decision}
-use Rattle.gate.specs.declared.Decision.the-variants as decision
-use Rattle.judging.specs.declared.Judged.{Judged}
-use Rattle.judging.specs.declared.Judged.the-variants.{Granted, Early, Unadmitted, Uncertified, Exhausted}
 
 -- the ledger
 abbrev pub ledgerOf : Ledger → rules.Ledger
@@ -31,7 +25,8 @@ ledgerOf l = record { counts = l .counts; counters = l .counters; loaded = l .lo
 abbrev pub answerOf : Reply → rulesGate.Answer
 answerOf Done = rulesGate.done
 answerOf (Permit place) = rulesGate.permit place
-answerOf (Refuse r) = rulesGate.refuse (refusalNumber r)
+answerOf (Refuse r) = rulesGate.refuse (refusalNumber r) none
+answerOf (Deny d) = rulesGate.refuse (denialNumber d) (denialGroup d)
 
 -- "Every step takes the ledger whole and hands it back."
 abbrev pub outcomeOf : Outcome → rulesGate.Outcome
@@ -58,19 +53,6 @@ chargedWith l place ms time =
       loaded = l .loaded;
       last = time;
     }
-
--- The number of a denial, by the code's answer; a group that grants has none.
-abbrev pub numberAs : Judged → Option ℕ
-numberAs (Granted k) = none
-numberAs Early = some clockBack
-numberAs Unadmitted = some notAdmitted
-numberAs (Uncertified k) = some notCertified
-numberAs (Exhausted k) = some spent
-
--- a decision is that of a judgement: its group, or the number of its denial
-abbrev pub Decides : Decision → Judged → Type 0
-Decides (decision.Permit k) j = Granted k ≡ j
-Decides (decision.Refuse r) j = numberAs j ≡ some (refusalNumber r)
 
 -- "Each new group takes its source's count": the counts of the new groups from place i on, over a table
 unfoldable pub carriedFrom : List ℕ → ℕ → List Hint → List ℕ → List ℕ

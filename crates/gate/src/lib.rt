@@ -8,13 +8,14 @@ ghost use Rattle.rules.specs.Basics.{all, records};
 ghost use Rattle.rules.specs.Acl.{limitsOf, aclOf};
 ghost use Rattle.rules.specs.Request.{requestOf, hintsOf};
 ghost use Rattle.rules.specs.Ledger.{freshLedger, raised, raisedBy, recounted};
-ghost use Rattle.rules.specs.Gate.{load, clear, request, lengthsFit, requestFiles, refused, permitted, settle, judge, narrowFiles, narrowed, narrow, expandFiles, expanded, expand};
-ghost use Rattle.files.specs.Refusals.{refusalNumber, faultOf};
-ghost use Rattle.gate.specs.Outcomes.{ledgerOf, outcomeOf, hasRoom, limitHasRoom, raisedOnce, chargedWith, Decides, carriedFrom};
-ghost use Rattle.judging.specs.Standings.{judgedAs, tablesOf};
+ghost use Rattle.rules.specs.Gate.{load, clear, request, lengthsFit, requestFiles, refusedNear, refused, permitted, settle, judge, narrowFiles, narrowed, narrow, expandFiles, expanded, expand};
+ghost use Rattle.refusals.specs.Refusals.{refusalNumber, denialNumber, denialGroup};
+ghost use Rattle.files.specs.Faults.{faultOf};
+ghost use Rattle.gate.specs.Outcomes.{ledgerOf, outcomeOf, hasRoom, limitHasRoom, raisedOnce, chargedWith, carriedFrom};
 use files::Checked;
-use files::Refusal;
 use judging::Judged;
+use refusals::Denial;
+use refusals::Refusal;
 
 // What was used: a count for each group, the named counters, the load time and the last time, in seconds. It is laid out as C lays it out, so that a
 // host's program can hold it.
@@ -26,11 +27,12 @@ pub struct Ledger {
     pub last: u64,
 }
 
-// What the gate answers: a load or a clear is done, a group permits, or a refusal.
+// What the gate answers: a load or a clear is done, a group permits, what was given is refused, or judging denies.
 pub enum Reply {
     Done,
     Permit(usize),
     Refuse(Refusal),
+    Deny(Denial),
 }
 
 // The ledger handed back, with the reply.
@@ -142,6 +144,16 @@ impl Ledger {
         }
     }
 
+    // A denial, as judging found it: the ledger stands.
+    fn deny(self, why: Denial) -> Outcome
+        ensures { λ r. ⌜ outcomeOf r ≡ refusedNear (ledgerOf self) (denialNumber why) (denialGroup why) ⌝ }
+    {
+        Outcome {
+            ledger: self,
+            reply: Reply::Deny(why),
+        }
+    }
+
     // A charge of the group at a place, whose limits are in `body`: own count and each named counter plus 1, last time set. The group is unspent, so
     // that neither is full. `before` is the table of counters before the charge, lent, so that the ledger is copied once.
     fn charge(
@@ -187,41 +199,6 @@ fn request_files(km0: &[u8], acl: &[u8], req: &[u8]) -> Checked
     }
 }
 
-// The refusals' part of a judgement, or the group that grants.
-enum Decision {
-    Permit(usize),
-    Refuse(Refusal),
-}
-
-// What a judgement decides.
-fn decided(judged: Judged) -> Decision
-    ensures { λ r. ⌜ Decides r judged ⌝ }
-{
-    match judged {
-        Judged::Granted(k) => Decision::Permit(k),
-        Judged::Early => Decision::Refuse(Refusal::ClockBack),
-        Judged::Unadmitted => Decision::Refuse(Refusal::NotAdmitted),
-        Judged::Uncertified(_) => Decision::Refuse(Refusal::NotCertified),
-        Judged::Exhausted(_) => Decision::Refuse(Refusal::Spent),
-    }
-}
-
-// The decision on a request whose files are sound. It takes the tables and the times, for the ledger would be copied.
-fn decide<'a>(
-    counts: &'a [u32],
-    counters: &'a [u32],
-    loaded: u64,
-    last: u64,
-    km0: &[u8],
-    acl: &[u8],
-    req: &[u8],
-) -> Decision
-    requires { ⌜ recordBytes ≤ length (now req) ⌝ }
-    ensures { λ r. ⌜ Decides r (judgedAs (judge (tablesOf (now (counts .entry)) (now (counters .entry)) loaded last) (now (km0 .entry)) (aclOf (now (acl .entry))) (requestOf (now (req .entry))))) ⌝ }
-{
-    decided(judging::judge_request(counts, counters, loaded, last, km0, acl, req))
-}
-
 impl Ledger {
     // What becomes of a request whose files are sound: the lowest group that grants is charged, or the refusal says how far the groups came.
     fn settle(self, km0: &[u8], acl: &[u8], req: &[u8]) -> Outcome
@@ -230,15 +207,23 @@ impl Ledger {
     {
         let loaded = self.loaded;
         let last = self.last;
-        let d = decide(&self.counts, &self.counters, loaded, last, km0, acl, req);
-        match d {
-            Decision::Permit(k) => self.charge(
+        let judged = judging::judge_request(
+            &self.counts,
+            &self.counters,
+            loaded,
+            last,
+            km0,
+            acl,
+            req,
+        );
+        match judged {
+            Judged::Granted(k) => self.charge(
                 &self.counters,
                 k,
                 request::time(req),
                 groups::group_body(acl, k),
             ),
-            Decision::Refuse(r) => self.refuse(r),
+            Judged::Denied(d) => self.deny(d),
         }
     }
 
@@ -407,9 +392,17 @@ impl Ledger {
     {
         let loaded = self.loaded;
         let last = self.last;
-        let d = decide(&self.counts, &self.counters, loaded, last, km0, acl, req);
-        match d {
-            Decision::Permit(k) => self.narrow_granted(
+        let judged = judging::judge_request(
+            &self.counts,
+            &self.counters,
+            loaded,
+            last,
+            km0,
+            acl,
+            req,
+        );
+        match judged {
+            Judged::Granted(k) => self.narrow_granted(
                 k,
                 request::time(req),
                 groups::group_body(acl, k),
@@ -417,7 +410,7 @@ impl Ledger {
                 new,
                 hints,
             ),
-            Decision::Refuse(r) => self.refuse(r),
+            Judged::Denied(d) => self.deny(d),
         }
     }
 
@@ -428,14 +421,22 @@ impl Ledger {
     {
         let loaded = self.loaded;
         let last = self.last;
-        let d = decide(&self.counts, &self.counters, loaded, last, km0, acl, req);
-        match d {
-            Decision::Permit(k) => self.expand_granted(
+        let judged = judging::judge_request(
+            &self.counts,
+            &self.counters,
+            loaded,
+            last,
+            km0,
+            acl,
+            req,
+        );
+        match judged {
+            Judged::Granted(k) => self.expand_granted(
                 k,
                 request::time(req),
                 groups::group_body(acl, k),
             ),
-            Decision::Refuse(r) => self.refuse(r),
+            Judged::Denied(d) => self.deny(d),
         }
     }
 

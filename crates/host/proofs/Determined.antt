@@ -2,9 +2,12 @@
 -- replies and verdicts with the same numbers are the same, so that the host can tell from the numbers what was answered.
 use Prim.Native.Nat.{ℕ}
 use mathlib.Core.Path.{_≡_, refl, sym, _∙_, ap}
+use mathlib.Core.Logic.{_≢_}
 use mathlib.Core.List.{List, [], _∷_}
+use mathlib.Core.Option.{Option, none, some}
 use lib.ListN.{getD}
 use lib.Dec.{eqb}
+use borrow.Author.Tests.{ne-eqb}
 use Rattle.rules.specs.Basics.{if_then_else_}
 use Rattle.rules.specs.Gate.{Answer, done, permit, refuse, Outcome}
 use Rattle.rules.specs.Desk.{Step, WV1, MSCV1, MSCV2, MSCV3, MSCV4, MSCV5, WBCV1, WBCV2, WBCV3, KGCV1, KGCV2, ACLV3, WB1, WB2, WB3, WB6, RB1, RB2, RB3, KV3, CSRL1}
@@ -15,11 +18,11 @@ use Rattle.gate.proofs.Determined.{ledgerBack}
 use Rattle.host.specs.declared.HostOutcome.{HostOutcome}
 use Rattle.host.specs.declared.HostVerdict.{HostVerdict}
 use Rattle.host.specs.declared.HostWritten.{HostWritten}
-use Rattle.host.specs.Surface.{Told, toldBy, answerCode, answerNumber, toldFor, Wrote, wroteBy, wroteFor, Judged, judgedBy, judgedIn}
+use Rattle.host.specs.Surface.{Told, toldBy, answerCode, answerNumber, noGroup, answerGroup, toldFor, Wrote, wroteBy, wroteFor, Judged, judgedBy, judgedIn}
 
 -- The structs.
 pub told-determined : (o p : HostOutcome) → toldBy o ≡ toldBy p → o ≡ p
-told-determined o p e = ap (λ (t : Told). record { ledger = ledgerBack (t .ledger); answer = t .answer; number = t .number }) e
+told-determined o p e = ap (λ (t : Told). record { ledger = ledgerBack (t .ledger); answer = t .answer; number = t .number; group = t .group }) e
 
 pub judged-determined : (v w : HostVerdict) → judgedBy v ≡ judgedBy w → v ≡ w
 judged-determined v w e =
@@ -28,23 +31,33 @@ judged-determined v w e =
 pub wrote-determined : (w v : HostWritten) → wroteBy w ≡ wroteBy v → w ≡ v
 wrote-determined w v e = ap (λ (n : Wrote). record { answer = n .answer; number = n .number }) e
 
--- What the numbers stand for: an outcome ..
-abbrev answerBack : ℕ → ℕ → Answer
-answerBack code n = if eqb code 0 then done else if eqb code 1 then permit n else refuse n
+-- What the numbers stand for: an outcome. No group has the number that says that none is named: the gate names places in an ACL, and an ACL has far fewer groups.
+abbrev pub Nameable : Answer → Type 0
+Nameable done = Unit {0}
+Nameable (permit place) = Unit {0}
+Nameable (refuse n none) = Unit {0}
+Nameable (refuse n (some place)) = place ≢ noGroup
 
-answer-back : (a : Answer) → answerBack (answerCode a) (answerNumber a) ≡ a
-answer-back done = refl
-answer-back (permit place) = refl
-answer-back (refuse n) = refl
+abbrev groupBack : ℕ → Option ℕ
+groupBack g = if eqb g noGroup then none else some g
+
+abbrev answerBack : ℕ → ℕ → ℕ → Answer
+answerBack code n g = if eqb code 0 then done else if eqb code 1 then permit n else refuse n (groupBack g)
+
+answer-back : (a : Answer) → Nameable a → answerBack (answerCode a) (answerNumber a) (answerGroup a) ≡ a
+answer-back done h = refl
+answer-back (permit place) h = refl
+answer-back (refuse n none) h = refl
+answer-back (refuse n (some place)) h = rw (ne-eqb place noGroup h)
 
 abbrev outcomeBack : Told → Outcome
-outcomeBack t = record { answer = answerBack (t .answer) (t .number); ledger = t .ledger }
+outcomeBack t = record { answer = answerBack (t .answer) (t .number) (t .group); ledger = t .ledger }
 
-outcome-back : (o : Outcome) → outcomeBack (toldFor o) ≡ o
-outcome-back o = ap (λ (a : Answer). record { answer = a; ledger = o .ledger }) (answer-back (o .answer))
+outcome-back : (o : Outcome) → Nameable (o .answer) → outcomeBack (toldFor o) ≡ o
+outcome-back o h = ap (λ (a : Answer). record { answer = a; ledger = o .ledger }) (answer-back (o .answer) h)
 
-pub outcome-told : (o p : Outcome) → toldFor o ≡ toldFor p → o ≡ p
-outcome-told o p e = sym (outcome-back o) ∙ ap outcomeBack e ∙ outcome-back p
+pub outcome-told : (o p : Outcome) → Nameable (o .answer) → Nameable (p .answer) → toldFor o ≡ toldFor p → o ≡ p
+outcome-told o p h k e = sym (outcome-back o h) ∙ ap outcomeBack e ∙ outcome-back p k
 
 -- .. a subject's reply ..
 abbrev replyBack : Wrote → SubjectReply

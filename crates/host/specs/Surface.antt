@@ -1,5 +1,6 @@
 -- The answers of the C surface in plain numbers, as the code gives them and as the definitions do.
 use Prim.Native.Nat.{ℕ}
+use mathlib.Core.Option.{Option, none, some}
 use mathlib.Core.Bool.{Bool, false}
 use Rattle.rules.specs.Ledger as rules
 use Rattle.rules.specs.Gate.{Answer, done, permit, refuse, Outcome}
@@ -13,31 +14,47 @@ use Rattle.listings.specs.Listing.{ListingReply, produced, refusedWith, refused
 use Rattle.host.specs.declared.HostWritten.{HostWritten}
 use Rattle.host.specs.declared.HostListing.{HostListing}
 
--- An outcome in numbers: the ledger; 0 for done, 1 for a permit, 2 for a refusal; the group that permits, or the refusal's number.
+-- An outcome in numbers: the ledger; 0 for done, 1 for a permit, 2 for a refusal; the group that permits, or the refusal's number; the group that
+-- permits, or that a refusal 6 or 7 carries.
 pub record Told : Type 0 where
   pub ledger : rules.Ledger
   pub answer : ℕ
   pub number : ℕ
+  pub group : ℕ
 
 -- as the code gives it
 abbrev pub toldBy : HostOutcome → Told
-toldBy o = record { ledger = ledgerOf (o .ledger); answer = o .answer; number = o .number }
+toldBy o = record { ledger = ledgerOf (o .ledger); answer = o .answer; number = o .number; group = o .group }
 
 -- what an answer is
 abbrev pub answerCode : Answer → ℕ
 answerCode done = 0
 answerCode (permit place) = 1
-answerCode (refuse n) = 2
+answerCode (refuse n near) = 2
 
 -- .. and its number
 abbrev pub answerNumber : Answer → ℕ
 answerNumber done = 0
 answerNumber (permit place) = place
-answerNumber (refuse n) = n
+answerNumber (refuse n near) = n
+
+-- "all ones where none is named"
+abbrev pub noGroup : ℕ
+noGroup = 18446744073709551615
+
+abbrev pub orNoGroup : Option ℕ → ℕ
+orNoGroup none = noGroup
+orNoGroup (some place) = place
+
+-- .. and the group that it names
+abbrev pub answerGroup : Answer → ℕ
+answerGroup done = noGroup
+answerGroup (permit place) = place
+answerGroup (refuse n near) = orNoGroup near
 
 -- as the definitions do
 abbrev pub toldFor : Outcome → Told
-toldFor o = record { ledger = o .ledger; answer = answerCode (o .answer); number = answerNumber (o .answer) }
+toldFor o = record { ledger = o .ledger; answer = answerCode (o .answer); number = answerNumber (o .answer); group = answerGroup (o .answer) }
 
 -- A subject's reply in numbers: 1 and the length, or 2 and the refusal's number.
 pub record Wrote : Type 0 where

@@ -4,25 +4,32 @@ ghost use Rattle.rules.specs.Ledger.{freshLedger};
 ghost use Rattle.rules.specs.Gate.{load, clear, request, narrow, expand};
 ghost use Rattle.rules.specs.Desk.{desk};
 ghost use Rattle.rules.specs.Subject.{subjectReply, subjectBuffer};
+ghost use Rattle.refusals.specs.Refusals.{denialGroup};
 ghost use Rattle.listings.specs.Listing.{writeListing, readListingInto};
 ghost use Rattle.listing.specs.Answers as answers;
 ghost use Rattle.desk.specs.Replies as replies;
 ghost use Rattle.gate.specs.Outcomes.{ledgerOf, answerOf, outcomeOf};
 ghost use Rattle.subject.specs.Writing as writing;
-ghost use Rattle.host.specs.Surface.{toldBy, answerCode, answerNumber, toldFor, wroteBy, wroteFor, judgedBy, judgedIn, otherwise, listedBy, listingNumbers, listedFor};
+ghost use Rattle.host.specs.Surface.{toldBy, answerCode, answerNumber, orNoGroup, answerGroup, toldFor, wroteBy, wroteFor, judgedBy, judgedIn, otherwise, listedBy, listingNumbers, listedFor};
 use desk::Acceptance;
 use desk::Verdict;
 use gate::Ledger;
 use gate::Outcome;
 use gate::Reply;
+use refusals::Denial;
 use subject::Written;
 
-// The ledger handed back, what the answer is (0 done, 1 permitted, 2 refused), and its number: the group, or the refusal.
+// No group is named: all ones.
+const NO_GROUP: u64 = 18446744073709551615;
+
+// The ledger handed back, what the answer is (0 done, 1 permitted, 2 refused), its number: the group, or the refusal; and the group that permits, or that
+// came nearest, all ones where none is named.
 #[repr(C)]
 pub struct HostOutcome {
     pub ledger: Ledger,
     pub answer: u64,
     pub number: u64,
+    pub group: u64,
 }
 
 // A verdict: 1 accepted, 2 a step failed, 3 refused; what an acceptance names; the step's number from 1, or the refusal's.
@@ -58,6 +65,7 @@ fn answer_code(reply: Reply) -> u64
         Reply::Done => 0,
         Reply::Permit(_) => 1,
         Reply::Refuse(_) => 2,
+        Reply::Deny(_) => 2,
     }
 }
 
@@ -67,7 +75,32 @@ fn answer_number(reply: Reply) -> u64
     match reply {
         Reply::Done => 0,
         Reply::Permit(place) => place as u64,
-        Reply::Refuse(why) => files::number(why) as u64,
+        Reply::Refuse(why) => refusals::number(why) as u64,
+        Reply::Deny(why) => refusals::denial_number(why) as u64,
+    }
+}
+
+// The group that came nearest, where a denial names one.
+fn nearest(d: Denial) -> u64
+    ensures { λ r. ⌜ r ≡ orNoGroup (denialGroup d) ⌝ }
+{
+    match d {
+        Denial::Early => NO_GROUP,
+        Denial::Unadmitted => NO_GROUP,
+        Denial::Uncertified(place) => place as u64,
+        Denial::Exhausted(place) => place as u64,
+    }
+}
+
+// The group that a reply names.
+fn answer_group(reply: Reply) -> u64
+    ensures { λ r. ⌜ r ≡ answerGroup (answerOf reply) ⌝ }
+{
+    match reply {
+        Reply::Done => NO_GROUP,
+        Reply::Permit(place) => place as u64,
+        Reply::Refuse(_) => NO_GROUP,
+        Reply::Deny(why) => nearest(why),
     }
 }
 
@@ -81,6 +114,7 @@ fn told(o: Outcome) -> HostOutcome
         ledger,
         answer: answer_code(reply),
         number: answer_number(reply),
+        group: answer_group(reply),
     }
 }
 
@@ -184,7 +218,7 @@ fn judged(v: Verdict) -> HostVerdict
     match v {
         Verdict::Accepted(a) => acceptance(a),
         Verdict::Failed(s) => other(2, steps::number(s)),
-        Verdict::Refused(why) => other(3, files::number(why) as u64),
+        Verdict::Refused(why) => other(3, refusals::number(why) as u64),
     }
 }
 
@@ -207,7 +241,7 @@ fn wrote(w: Written) -> HostWritten
         },
         Written::Refused(why) => HostWritten {
             answer: 2,
-            number: files::number(why) as u64,
+            number: refusals::number(why) as u64,
         },
     }
 }
@@ -243,7 +277,7 @@ fn listed(reply: listing::Reply) -> HostListing
 {
     match reply {
         listing::Reply::Produced(n) => listing_numbers(1, n as u64, 0),
-        listing::Reply::Refused(why) => listing_numbers(2, files::number(why) as u64, 0),
+        listing::Reply::Refused(why) => listing_numbers(2, refusals::number(why) as u64, 0),
         listing::Reply::BadLine(n) => listing_numbers(2, 15, n as u64),
     }
 }

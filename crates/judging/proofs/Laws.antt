@@ -16,8 +16,9 @@ use Rattle.rules.specs.Grant.{serves, certifiedBy, counterLeft, limitLeft}
 use Rattle.rules.proofs.Rows.{recordsFrom, rows-lent, rows-end, rows-rest, lentRecord, lentRest, lent-record, kind-at}
 use Rattle.judging.specs.declared.Standing.{Standing}
 use Rattle.judging.specs.declared.Near.{Near}
+use Rattle.refusals.specs.declared.Denial.{Denial}
 use Rattle.judging.specs.declared.Judged.{Judged}
-use Rattle.judging.specs.declared.Judged.the-variants.{Granted}
+use Rattle.judging.specs.declared.Judged.the-variants.{Granted, Denied}
 use Rattle.judging.specs.Standings.{isGranting, nearer, denialOf, judgedFrom, standingWith, standing, recordStanding, NextGroup}
 
 -- a field that a flag announces
@@ -135,9 +136,9 @@ module _ (f : ℕ → Group → Standing) (s : Bytes) (at : ℕ) (near : Near) (
     unfolding recordsFrom
     groups-next n r y p m = ap (judgedFrom f n (place + 1)) m ∙ groups-after n y p
 
-  pub groups-done : (r : Judged) → length s - at < 64 → r ≡ denialOf near → r ≡ x
+  pub groups-done : (d : Denial) → length s - at < 64 → d ≡ denialOf near → Denied d ≡ x
   unfolding judgedFrom groupsOf
-  groups-done r h e = e ∙ sym (ap (λ (l : List Bytes). judgedFrom f near place (groupsOf l)) (rows-end s at h)) ∙ inv
+  groups-done d h e = ap Denied e ∙ sym (ap (λ (l : List Bytes). judgedFrom f near place (groupsOf l)) (rows-end s at h)) ∙ inv
 
 -- a group's standing, as the code asked for it
 pub standing-at : (counts counters : List ℕ) (own elapsed : ℕ) (km0 : Bytes) (w : Wanted) (cs : List Certificate) (place : ℕ) (s : Bytes) (at : ℕ) (t : Standing)

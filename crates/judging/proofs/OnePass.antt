@@ -17,15 +17,16 @@ use Rattle.judging.specs.declared.Standing.{Standing}
 use Rattle.judging.specs.declared.Near.{Near}
 use Rattle.judging.specs.declared.Near.the-variants as near
 use Rattle.judging.specs.declared.Judged.{Judged}
-use Rattle.judging.specs.declared.Judged.the-variants.{Granted, Early, Uncertified, Exhausted}
+use Rattle.refusals.specs.declared.Denial.the-variants.{Early, Uncertified, Exhausted}
+use Rattle.judging.specs.declared.Judged.the-variants.{Granted, Denied}
 use Rattle.judging.specs.Standings.{standingOf, denialOf, judgedFrom, standing, denialAs, judgedAs, tablesOf}
 
 -- why no group grants, by the nearest before and the lowest groups from there on
 abbrev combined : Near → Lowest → Lowest → Judged
-combined near.Nothing c a = denialAs (ofCertified c a)
-combined (near.Admitting k) nobody a = Uncertified k
-combined (near.Admitting k) (group p g) a = Exhausted p
-combined (near.Certified k) c a = Exhausted k
+combined near.Nothing c a = Denied (denialAs (ofCertified c a))
+combined (near.Admitting k) nobody a = Denied (Uncertified k)
+combined (near.Admitting k) (group p g) a = Denied (Exhausted p)
+combined (near.Certified k) c a = Denied (Exhausted k)
 
 -- .. unless one grants
 abbrev unless-granted : Judged → Lowest → Judged
@@ -51,7 +52,7 @@ module _ (admitting certifying : Group → Bool) (left : ℕ → Group → Bool)
       unless-granted (combined n (lowest (λ k g. admitting g && certifying g) place gs) (lowest (λ k g. admitting g) place gs))
       (lowest (λ k g. admitting g && certifying g && left k g) place gs)
 
-  at-end : (n : Near) (place : ℕ) → denialOf n ≡ searched n place []
+  at-end : (n : Near) (place : ℕ) → Denied (denialOf n) ≡ searched n place []
   unfolding lowest
   at-end near.Nothing place = refl
   at-end (near.Admitting k) place = refl
@@ -92,21 +93,21 @@ module _ (l : Ledger) (km0 : Bytes) (q : Request) where
   unfolding standing
   judged-is gs = one-pass (groupAdmits km0 q) (certified q) (λ k. unspent l k q) near.Nothing 0 gs ∙ settle (lowest (grants l km0 q) 0 gs)
     where
-      settle : (g : Lowest) → unless-granted (denialAs (whyNot km0 gs q)) g ≡ judgedAs (judgedBy (whyNot km0 gs q) g)
+      settle : (g : Lowest) → unless-granted (Denied (denialAs (whyNot km0 gs q))) g ≡ judgedAs (judgedBy (whyNot km0 gs q) g)
       settle nobody = refl
       settle (group p g) = refl
 
 -- the clock: `if t < loaded`, `if t < last`
 module _ (counts counters : List ℕ) (loaded last t : ℕ) (km0 : Bytes) (gs : List Group) (q : Request) (e : t ≡ q .time) where
-  pub early-loaded : t < loaded → Early ≡ judgedAs (judge (tablesOf counts counters loaded last) km0 gs q)
+  pub early-loaded : t < loaded → Denied Early ≡ judgedAs (judge (tablesOf counts counters loaded last) km0 gs q)
   unfolding judge
   early-loaded h = sym (rw (← e, lt-ltb t loaded h))
 
-  pub early-last : t < last → Early ≡ judgedAs (judge (tablesOf counts counters loaded last) km0 gs q)
+  pub early-last : t < last → Denied Early ≡ judgedAs (judge (tablesOf counts counters loaded last) km0 gs q)
   unfolding judge
   early-last h = pick (ltb t loaded) refl
     where
-      pick : (b : Bool) → ltb t loaded ≡ b → Early ≡ judgedAs (judge (tablesOf counts counters loaded last) km0 gs q)
+      pick : (b : Bool) → ltb t loaded ≡ b → Denied Early ≡ judgedAs (judge (tablesOf counts counters loaded last) km0 gs q)
       pick true d = sym (rw (← e, d))
       pick false d = sym (rw (← e, d, lt-ltb t last h))
 

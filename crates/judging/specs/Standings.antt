@@ -14,8 +14,10 @@ use Rattle.judging.specs.declared.Standing.{Standing}
 use Rattle.judging.specs.declared.Standing.the-variants.{Silent, Admitting, Certified, Granting}
 use Rattle.judging.specs.declared.Near.{Near}
 use Rattle.judging.specs.declared.Near.the-variants as near
+use Rattle.refusals.specs.declared.Denial as code
+use Rattle.refusals.specs.declared.Denial.the-variants.{Early, Unadmitted, Uncertified, Exhausted}
 use Rattle.judging.specs.declared.Judged.{Judged}
-use Rattle.judging.specs.declared.Judged.the-variants.{Granted, Early, Unadmitted, Uncertified, Exhausted}
+use Rattle.judging.specs.declared.Judged.the-variants.{Granted, Denied}
 
 -- a group's standing, by whether it admits, is certified and is unspent
 abbrev pub standingOf : Bool → Bool → Bool → Standing
@@ -41,14 +43,14 @@ nearer (near.Certified k) Certified place = near.Certified k
 nearer n Granting place = n
 
 -- why no group grants, by the nearest
-abbrev pub denialOf : Near → Judged
+abbrev pub denialOf : Near → code.Denial
 denialOf near.Nothing = Unadmitted
 denialOf (near.Admitting k) = Uncertified k
 denialOf (near.Certified k) = Exhausted k
 
 -- the judgement of groups numbered from `place`, after those whose nearest is given
 unfoldable pub judgedFrom : (ℕ → Group → Standing) → Near → ℕ → List Group → Judged
-judgedFrom standing n place [] = denialOf n
+judgedFrom standing n place [] = Denied (denialOf n)
 judgedFrom standing n place (g ∷ gs) =
     if isGranting (standing place g) then Granted place else judgedFrom standing (nearer n (standing place g) place) (suc place) gs
 
@@ -66,8 +68,8 @@ standing counts counters elapsed km0 wanted certificates place g = standingWith 
 unfoldable pub recordStanding : List ℕ → ℕ → ℕ → Bytes → Wanted → List Certificate → Bytes → List Bytes → Standing
 recordStanding counters own elapsed km0 wanted certificates r rest = standingWith counters own elapsed km0 wanted certificates (groupOf r rest)
 
--- the judgement of the definitions, as the code answers it
-abbrev pub denialAs : Denial → Judged
+-- the denial and the judgement of the definitions, as the code answers them
+abbrev pub denialAs : Denial → code.Denial
 denialAs early = Early
 denialAs unadmitted = Unadmitted
 denialAs (uncertified place g) = Uncertified place
@@ -75,7 +77,7 @@ denialAs (exhausted place g) = Exhausted place
 
 abbrev pub judgedAs : Judgement → Judged
 judgedAs (granted place g) = Granted place
-judgedAs (denied d) = denialAs d
+judgedAs (denied d) = Denied (denialAs d)
 
 -- the ledger's tables and times as a ledger of the definitions
 abbrev pub tablesOf : List ℕ → List ℕ → ℕ → ℕ → Ledger

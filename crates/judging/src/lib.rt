@@ -10,6 +10,7 @@ ghost use Rattle.rules.specs.Request.{certificateOf, certificatesOf, requestOf,
 ghost use Rattle.rules.specs.Grant.{serves, certifiedBy, counterLeft, limitLeft, limitsLeft, unspentWith};
 ghost use Rattle.rules.specs.Gate.{judge};
 ghost use Rattle.judging.specs.Standings.{isGranting, nearer, denialOf, judgedFrom, standing, recordStanding, judgedAs, tablesOf, NextGroup};
+use refusals::Denial;
 
 // A full count: one more would not fit.
 const FULL: u32 = 4294967295;
@@ -29,13 +30,10 @@ enum Near {
     Certified(usize),
 }
 
-// The judgement: the group that grants; or why none does, with the group that came nearest.
+// The judgement: the group that grants, or why none does.
 pub enum Judged {
     Granted(usize),
-    Early,
-    Unadmitted,
-    Uncertified(usize),
-    Exhausted(usize),
+    Denied(Denial),
 }
 
 // A number against that of a group, if it has one.
@@ -224,13 +222,13 @@ fn near_with(n: Near, s: Standing, place: usize) -> Near
 }
 
 // Why no group grants, by the nearest.
-fn denial(n: Near) -> Judged
+fn why_not(n: Near) -> Denial
     ensures { λ r. ⌜ r ≡ denialOf n ⌝ }
 {
     match n {
-        Near::Nothing => Judged::Unadmitted,
-        Near::Admitting(k) => Judged::Uncertified(k),
-        Near::Certified(k) => Judged::Exhausted(k),
+        Near::Nothing => Denial::Unadmitted,
+        Near::Admitting(k) => Denial::Uncertified(k),
+        Near::Certified(k) => Denial::Exhausted(k),
     }
 }
 
@@ -278,7 +276,7 @@ fn judge_groups(
         place += 1;
         at = next_group(acl, at + sizes::RECORD);
     }
-    denial(near)
+    Judged::Denied(why_not(near))
 }
 
 // The judgement of a request: a time that does not go back, then the groups. One lifetime for both tables lets a caller lend two fields of its ledger.
@@ -296,10 +294,10 @@ pub fn judge_request<'a>(
 {
     let time = request::time(req);
     if time < loaded {
-        return Judged::Early;
+        return Judged::Denied(Denial::Early);
     }
     if time < last {
-        return Judged::Early;
+        return Judged::Denied(Denial::Early);
     }
     judge_groups(
         counts,

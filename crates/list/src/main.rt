@@ -13,7 +13,7 @@ fn print_listing(acl: &[u8]) {
         Reply::Produced(n) => {
             io::write_all(STDOUT_FILENO, arguments::prefix(&text, n));
         }
-        Reply::Refused(why) => arguments::refuse(1, files::number(why) as u64),
+        Reply::Refused(why) => arguments::refuse(1, refusals::number(why) as u64),
         Reply::BadLine(_) => arguments::refuse(1, 15),
     }
 }

@@ -14,7 +14,7 @@ ghost use Rattle.text.specs.Putting.{Put};
 ghost use Rattle.listing.specs.Answers.{Answers, linesFound};
 use acl::Place;
 use files::Checked;
-use files::Refusal;
+use refusals::Refusal;
 
 // What the entry points answer: the result's length, a refusal, or the number of the first bad line of a listing, from 1.
 pub enum Reply {

@@ -1,11 +1,12 @@
 // Drives every entry point from a script on standard input and prints one line for each call (docs/REPLAY.md). One ledger goes from call to call; memory
 // is fixed, so that a script may be of any length.
-use files::Refusal;
 use gate::Ledger;
 use gate::Outcome;
 use gate::Reply;
 use libc::STDIN_FILENO;
 use libc::STDOUT_FILENO;
+use refusals::Denial;
+use refusals::Refusal;
 use subject::Written;
 
 // The greatest length of an argument.
@@ -123,12 +124,30 @@ fn print_reply(reply: Reply) {
             print_number(place as u64);
         }
         Reply::Refuse(why) => print_refusal(why),
+        Reply::Deny(why) => print_denial(why),
     }
 }
 
 fn print_refusal(why: Refusal) {
     print(b"refuse ");
-    print_number(files::number(why) as u64);
+    print_number(refusals::number(why) as u64);
+}
+
+// A denial: its number and, where it names one, the group that came nearest.
+fn print_denial(why: Denial) {
+    print(b"refuse ");
+    print_number(refusals::denial_number(why) as u64);
+    match why {
+        Denial::Early => {}
+        Denial::Unadmitted => {}
+        Denial::Uncertified(place) => print_place(place),
+        Denial::Exhausted(place) => print_place(place),
+    }
+}
+
+fn print_place(place: usize) {
+    print(b" ");
+    print_number(place as u64);
 }
 
 // A ledger call: its line, and on with the ledger handed back.

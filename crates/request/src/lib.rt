@@ -4,9 +4,9 @@ ghost use lib.ListN.{length, drop};
 ghost use Rattle.rules.specs.Sizes.{recordBytes};
 ghost use Rattle.rules.specs.Basics.{records};
 ghost use Rattle.rules.specs.Request.{requestLaidOut, useOf, certificateRecord, certificatesFault, requestFault, requestOf, hintRecord, hintsFault};
-ghost use Rattle.files.specs.Refusals.{faultOf};
+ghost use Rattle.files.specs.Faults.{faultOf};
 use files::Checked;
-use files::Refusal;
+use refusals::Refusal;
 
 // Whether a record is a well-formed request: a use, a working blob or a recovery blob.
 pub fn request_record(rec: &[u8]) -> bool

@@ -7,7 +7,7 @@ use Rattle.rules.specs.Sizes.{dayRecords, groupsMax}
 use Rattle.rules.specs.Basics.{Bytes, ascii}
 use Rattle.rules.specs.Day.{dayLines}
 use Rattle.rules.proofs.Computing.{computing}
-use Rattle.rules.proofs.Samples.{rec, repeated, hash, openGroup, signGroup, limited, counting, sign, decrypt, otherMechanism}
+use Rattle.rules.proofs.Samples.{rec, repeated, hash, openGroup, signGroup, limited, certifiedGroup, counting, sign, decrypt, otherMechanism}
 
 -- "Two Sign groups, per load 1, then counter 3 maximum 2; four Signs"
 abbrev twoGroups : Bytes
@@ -22,9 +22,11 @@ prints acl requests = dayLines (hash 0) acl requests
 
 -- "prints a line per request"; "More records (1) or a bad file or record: only `0 refuse` and the number."
 pub record DayRows : Type 0 where
-  pub four-lines : prints twoGroups fourSigns ≡ ascii "1 permit 0\n2 permit 1\n3 permit 1\n4 refuse 7\n"
+  pub four-lines : prints twoGroups fourSigns ≡ ascii "1 permit 0\n2 permit 1\n3 permit 1\n4 refuse 7 0\n"
   pub no-requests : prints twoGroups [] ≡ []
   pub not-admitted : prints signGroup (sign 1 ++ decrypt 2 ++ sign 3) ≡ ascii "1 permit 0\n2 refuse 5\n3 permit 0\n"
+  pub nearest-of-two : prints (openGroup ++ certifiedGroup) (sign 1) ≡ ascii "1 refuse 6 1\n"
+  pub one-of-two-spent : prints (limited 1 1 ++ certifiedGroup) (sign 1 ++ sign 2) ≡ ascii "1 permit 0\n2 refuse 7 0\n"
   pub back-in-time : prints signGroup (sign 7 ++ sign 6 ++ sign 7) ≡ ascii "1 permit 0\n2 refuse 4\n3 permit 0\n"
   pub ten-lines : prints [] (repeated 10 (sign 1)) ≡ ascii "1 refuse 5\n2 refuse 5\n3 refuse 5\n4 refuse 5\n5 refuse 5\n6 refuse 5\n7 refuse 5\n8 refuse 5\n9 refuse 5\n10 refuse 5\n"
   pub km0-short : dayLines (replicate 19 0) twoGroups fourSigns ≡ ascii "0 refuse 1\n"
@@ -42,6 +44,8 @@ day-rows =
       four-lines = refl;
       no-requests = refl;
       not-admitted = refl;
+      nearest-of-two = refl;
+      one-of-two-spent = refl;
       back-in-time = refl;
       ten-lines = refl;
       km0-short = refl;

@@ -4,6 +4,7 @@
 use Prim.Native.Nat.{ℕ, _-_}
 use mathlib.Core.Path.{_≡_, refl}
 use mathlib.Core.List.{List, [], _∷_, _++_, map}
+use mathlib.Core.Option.{none, some}
 use mathlib.Core.Bool.{Bool, true, false}
 use lib.ListN.{length, replicate}
 use Rattle.rules.specs.Sizes.{groupsMax, countersMax}
@@ -39,7 +40,11 @@ permits loaded time = answered (permit 0) (ledgerOf (1 ∷ []) [] loaded time)
 
 -- a refusal leaves the ledger as it was loaded
 abbrev refuses : ℕ → ℕ → Stated
-refuses n loaded = answered (refuse n) (ledgerOf [] [] loaded loaded)
+refuses n loaded = answered (refuse n none) (ledgerOf [] [] loaded loaded)
+
+-- .. and carries the group of a place: "Its other cases of 6 and 7 carry group 0."
+abbrev refusesNear : ℕ → ℕ → ℕ → Stated
+refusesNear n place loaded = answered (refuse n (some place)) (ledgerOf [] [] loaded loaded)
 
 -- an acceptance under approach 2
 abbrev accepts : ℕ → Bool → Stated
@@ -80,11 +85,11 @@ starred =
     gate 0 [] (sign 5) is refuses 5 0
     ∷ gate 0 signGroup (sign 5) is permits 0 5
     ∷ gate 0 signGroup (decrypt 5) is refuses 5 0
-    ∷ gate 0 (limited 1 0) (sign 5) is refuses 7 0
-    ∷ gate 0 certifiedGroup (sign 5) is refuses 6 0
-    ∷ gate 0 certifiedGroup (sign 5 ++ otherMechanism) is refuses 6 0
+    ∷ gate 0 (limited 1 0) (sign 5) is refusesNear 7 0 0
+    ∷ gate 0 certifiedGroup (sign 5) is refusesNear 6 0 0
+    ∷ gate 0 certifiedGroup (sign 5 ++ otherMechanism) is refusesNear 6 0 0
     ∷ gate 100 (limited 3 10) (sign 109) is permits 100 109
-    ∷ gate 100 (limited 3 10) (sign 110) is refuses 7 100
+    ∷ gate 100 (limited 3 10) (sign 110) is refusesNear 7 0 100
     ∷ gate 100 (limited 3 10) (sign 99) is refuses 4 100
     ∷ attest (openGroup ++ blob 28 (hash 20) cardset ++ blob 5 (hash 0) []) is accepts 1 false
     ∷ attest (openGroup ++ blob 29 (hash 20) cardset) is accepts 1 false
@@ -95,7 +100,8 @@ starred =
 
 -- What document 01 shuts out ("denying all", "permitting all", "protection always 1", "a gate that never charges or spends a whole limit at load",
 -- "a narrowing check that always says 8", "made-up counters", "a writer that writes nothing") or fears ("Grading by the first blob action",
--- "Trusting hkm because it is listed", "Letting two new groups share one source"), as far as no starred row does.
+-- "Trusting hkm because it is listed", "Letting two new groups share one source"), as far as no starred row does; and, of document 02, a refusal that
+-- always carries group 0.
 unfoldable pub guards : List Example
 guards =
     gate 0 (counting 3 2) (sign 5) is answered (permit 0) (ledgerOf (1 ∷ []) (0 ∷ 0 ∷ 0 ∷ 1 ∷ []) 0 5)
@@ -106,6 +112,8 @@ guards =
     ∷ handed (expand freshLedger (hash 0) expandable (enlarge 6) signGroup) is answered (permit 0) (ledgerOf [] [] 0 6)
     ∷ handed (clear (ledgerOf [] (0 ∷ 7 ∷ 7 ∷ []) 0 0) 1) is answered done (ledgerOf [] (0 ∷ 0 ∷ 7 ∷ []) 0 0)
     ∷ handed (clear freshLedger 96) is refuses 10 0
+    ∷ gate 0 (openGroup ++ certifiedGroup ++ certifiedGroup) (sign 5) is refusesNear 6 1 0
+    ∷ gate 0 (certifiedGroup ++ limited 1 0 ++ limited 1 0) (sign 5) is refusesNear 7 1 0
     ∷ attest (openGroup ++ blob 28 (hash 20) cardset) is accepts 3 false
     ∷ attest (openGroup ++ blob 28 (hash 20) softcard) is accepts 2 false
     ∷ attest (openGroup ++ archive) is accepts 4 true

@@ -3,11 +3,12 @@
 use Prim.Native.Nat.{ℕ, _-_}
 use mathlib.Core.Path.{_≡_, refl}
 use mathlib.Core.List.{[], _∷_, _++_}
+use mathlib.Core.Option.{some}
 use lib.ListN.{replicate}
 use Rattle.rules.specs.Sizes.{fullCount}
 use Rattle.rules.specs.Basics.{Bytes}
 use Rattle.rules.specs.Ledger.{Ledger, freshLedger}
-use Rattle.rules.specs.Gate.{Outcome, refused, permitted, finished, request, load, clear, narrow, expand}
+use Rattle.rules.specs.Gate.{Outcome, refusedNear, refused, permitted, finished, request, load, clear, narrow, expand}
 use Rattle.rules.proofs.Computing.{computing}
 use Rattle.rules.proofs.Samples.{rec, timed, hash, openGroup, signAction, signGroup, limited, certifiedGroup, sign, counting, reducible, reduce, enlarge, hint, blob, cardset, softcard, archive}
 use Rattle.rules.proofs.Examples.{ledgerOf}
@@ -52,9 +53,11 @@ pub record ChargeRows : Type 0 where
   pub first-certified : asks (certifiedGroup ++ signGroup) (sign 5 ++ rightMechanism) ≡ permitted 0 (ledgerOf (1 ∷ []) [] 0 5)
   pub named-counters-only : asks (decryptGroup ++ four) (sign 5) ≡ permitted 1 (ledgerOf (0 ∷ 1 ∷ []) (0 ∷ 1 ∷ 1 ∷ []) 0 5)
   pub counted-on : request used (hash 0) (decryptGroup ++ counting 0 9) (sign 5) ≡ permitted 1 (ledgerOf (3 ∷ 6 ∷ []) (8 ∷ []) 0 5)
-  pub spent-counter : request used (hash 0) (counting 0 7) (sign 5) ≡ refused used 7
-  pub spent-count : request used (hash 0) (limited 1 3) (sign 5) ≡ refused used 7
-  pub full-count : request (ledgerOf (fullCount ∷ []) [] 0 0) (hash 0) signGroup (sign 5) ≡ refused (ledgerOf (fullCount ∷ []) [] 0 0) 7
+  pub spent-counter : request used (hash 0) (counting 0 7) (sign 5) ≡ refusedNear used 7 (some 0)
+  pub spent-count : request used (hash 0) (limited 1 3) (sign 5) ≡ refusedNear used 7 (some 0)
+  pub nearest-uncertified : request used (hash 0) (decryptGroup ++ certifiedGroup ++ certifiedGroup) (sign 5) ≡ refusedNear used 6 (some 1)
+  pub nearest-spent : request used (hash 0) (decryptGroup ++ certifiedGroup ++ limited 1 0 ++ limited 1 0) (sign 5) ≡ refusedNear used 7 (some 2)
+  pub full-count : request (ledgerOf (fullCount ∷ []) [] 0 0) (hash 0) signGroup (sign 5) ≡ refusedNear (ledgerOf (fullCount ∷ []) [] 0 0) 7 (some 0)
   pub almost-full-count : request (ledgerOf ((fullCount - 1) ∷ []) [] 0 0) (hash 0) signGroup (sign 5) ≡ permitted 0 (ledgerOf (fullCount ∷ []) [] 0 5)
   pub before-last-time : request (ledgerOf [] [] 3 9) (hash 0) signGroup (sign 8) ≡ refused (ledgerOf [] [] 3 9) 4
   pub at-last-time : request (ledgerOf [] [] 3 9) (hash 0) signGroup (sign 9) ≡ permitted 0 (ledgerOf (1 ∷ []) [] 3 9)
@@ -74,6 +77,8 @@ charge-rows =
       counted-on = refl;
       spent-counter = refl;
       spent-count = refl;
+      nearest-uncertified = refl;
+      nearest-spent = refl;
       full-count = refl;
       almost-full-count = refl;
       before-last-time = refl;
@@ -197,10 +202,12 @@ pub record ReplaceRows : Type 0 where
   pub certifier-dropped : narrow used (hash 0) reducibleCertified (reduce 6 ++ rightMechanism) signGroup (hint 0) ≡ refused used 8
   pub certifier-kept : narrow used (hash 0) reducibleCertified (reduce 6 ++ rightMechanism) certifiedGroup (hint 0) ≡ permitted 0 (ledgerOf (4 ∷ []) (7 ∷ []) 0 6)
   pub request-before-hints : narrow used (hash 0) signGroup (reduce 6) signGroup [] ≡ refused used 5
+  pub narrowing-uncertified : narrow used (hash 0) (signGroup ++ reducibleCertified) (reduce 6) signGroup (hint 1) ≡ refusedNear used 6 (some 1)
   pub by-expand-acl : narrow used (hash 0) reducible (enlarge 6) signGroup (hint 0) ≡ refused used 2
   pub expansion : expand used (hash 0) (decryptGroup ++ openGroup ++ limit 2 0 9 ++ permitting 0x10 0) (enlarge 6) (signGroup ++ signGroup) ≡ permitted 1 (ledgerOf [] (8 ∷ []) 0 6)
   pub expansion-by-reduce-acl : expand used (hash 0) (openGroup ++ permitting 0x10 4) (reduce 6) signGroup ≡ refused used 2
   pub expansion-not-admitted : expand used (hash 0) reducible (enlarge 6) signGroup ≡ refused used 5
+  pub expansion-spent : expand used (hash 0) (decryptGroup ++ openGroup ++ limit 2 0 7 ++ permitting 0x10 0) (enlarge 6) signGroup ≡ refusedNear used 7 (some 1)
 
 pub replace-rows : ReplaceRows
 unfolding computing
@@ -228,8 +235,10 @@ replace-rows =
       certifier-dropped = refl;
       certifier-kept = refl;
       request-before-hints = refl;
+      narrowing-uncertified = refl;
       by-expand-acl = refl;
       expansion = refl;
       expansion-by-reduce-acl = refl;
       expansion-not-admitted = refl;
+      expansion-spent = refl;
     }

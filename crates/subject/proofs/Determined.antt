@@ -1,7 +1,7 @@
 -- The reading of the writer's answers loses nothing: answers that read the same are the same, so that the writer's promise determines its answer.
 use mathlib.Core.Path.{_≡_, refl, sym, _∙_, ap}
 use Rattle.rules.specs.Subject.{SubjectReply, written, unwritten}
-use Rattle.files.proofs.Determined.{refusalBack, refusal-back}
+use Rattle.refusals.proofs.Determined.{refusalBack, refusal-back}
 use Rattle.subject.specs.declared.Written.{Written}
 use Rattle.subject.specs.declared.Written.the-variants.{Length, Refused}
 use Rattle.subject.specs.Writing.{replyOf}

@@ -8,7 +8,7 @@ use Rattle.rules.specs.Sizes.{hashBytes}
 use Rattle.rules.specs.Numbers.{badLength, shortBuffer}
 use Rattle.rules.specs.Basics.{if_then_else_, Bytes, unless, firstFault}
 use Rattle.rules.specs.Subject.{SubjectReply, written, unwritten, writtenLength, writtenOver}
-use Rattle.files.specs.Refusals.{refusalNumber}
+use Rattle.refusals.specs.Refusals.{refusalNumber}
 use Rattle.subject.specs.declared.Written.{Written}
 use Rattle.subject.specs.declared.Written.the-variants.{Length, Refused}
 

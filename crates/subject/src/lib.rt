@@ -12,7 +12,7 @@ ghost use Rattle.rules.specs.Subject.{headerBytes, subjectReply, subjectBuffer}
 ghost use Rattle.suites.specs.declared.Lookup.the-variants.{Known};
 ghost use Rattle.suites.specs.Calls.{keysText, setupText, suiteAs, answerOf, Measured};
 ghost use Rattle.subject.specs.Writing.{replyOf, over, hashCount, headedReply, headedBuffer};
-use files::Refusal;
+use refusals::Refusal;
 use suites::Header;
 use suites::Lookup;
 use suites::Suite;

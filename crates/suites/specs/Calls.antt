@@ -8,7 +8,7 @@ use Rattle.rules.specs.Sizes.{hashBytes}
 use Rattle.rules.specs.Numbers.{unknownSuite}
 use Rattle.rules.specs.Basics.{ascii}
 use Rattle.rules.specs.Suites as rules
-use Rattle.files.specs.Refusals.{refusalNumber}
+use Rattle.refusals.specs.Refusals.{refusalNumber}
 use Rattle.suites.specs.declared.Header.{Header}
 use Rattle.suites.specs.declared.Header.the-variants.{Plain, TypeRijndael, Dlf3072Rijndael, Dlf3072Aes, Ecp521Aes}
 use Rattle.suites.specs.declared.Suite.{Suite}

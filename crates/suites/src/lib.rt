@@ -1,7 +1,7 @@
 // The ciphersuites: one match on a suite's number.
 ghost use mathlib.Core.Path.{_≡_};
 ghost use Rattle.suites.specs.Calls.{answerOf, calledFor};
-use files::Refusal;
+use refusals::Refusal;
 
 // Which header texts the subjects of certificates 3 and 4 have.
 pub enum Header {

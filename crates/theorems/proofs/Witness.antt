@@ -3,6 +3,7 @@
 -- desk that accepts nothing, and a gate that permits no blob.
 use mathlib.Core.Path.{_≡_, refl}
 use mathlib.Core.List.{List, [], _∷_, _++_, map}
+use mathlib.Core.Option.{none, some}
 use mathlib.Core.Bool.{true, false}
 use Rattle.rules.specs.Basics.{Bytes, records, any, same, numberFrom, chunks}
 use Rattle.rules.specs.Request.{wantedOf, certificatesOf, requestFrom}
@@ -54,7 +55,7 @@ start = record { ledger = freshLedger; acl = useful }
 
 -- the bundle and the ACL are accepted; the calls are answered so; none of them presents the officer's certificate
 pub witness : (desk bundle useful ≡ accepted (approach2 grade))
-    × (replies start calls ≡ (permit 0 ∷ permit 0 ∷ refuse 8 ∷ permit 0 ∷ permit 0 ∷ refuse 7 ∷ refuse 4 ∷ []))
+    × (replies start calls ≡ (permit 0 ∷ permit 0 ∷ refuse 8 none ∷ permit 0 ∷ permit 0 ∷ refuse 7 (some 0) ∷ refuse 4 none ∷ []))
     × (map (officerSigned (records bundle)) calls ≡ (false ∷ false ∷ false ∷ false ∷ false ∷ false ∷ false ∷ []))
 unfolding outcome after byOfficer computing
 witness = (refl, refl, refl)

@@ -18,7 +18,7 @@ fn write_acl(text: &[u8]) {
     let reply = listing::read_listing(text, &mut acl);
     match reply {
         Reply::Produced(n) => arguments::overwrite(2, b"FILE", arguments::prefix(&acl, n)),
-        Reply::Refused(why) => arguments::refuse(1, files::number(why) as u64),
+        Reply::Refused(why) => arguments::refuse(1, refusals::number(why) as u64),
         Reply::BadLine(n) => bad_line(n as u64),
     }
 }

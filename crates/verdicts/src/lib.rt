@@ -1,7 +1,7 @@
 // A verdict of the desk as a line of text: `accept 1`, `accept 2 protection P recoverable yes` or `no`, `fail STEP`, `refuse N`.
 ghost use Prim.Native.Nat.{_+_, _≤_};
 ghost use lib.ListN.{length};
-ghost use Rattle.files.specs.Refusals.{refusalNumber};
+ghost use Rattle.refusals.specs.Refusals.{refusalNumber};
 ghost use Rattle.steps.specs.Steps.{stepOf};
 ghost use Rattle.desk.specs.Replies.{namedBy, replyOf};
 ghost use Rattle.listings.specs.Words.{spaced};
@@ -9,7 +9,7 @@ ghost use Rattle.text.specs.Putting.{Put, Held};
 ghost use Rattle.verdicts.specs.Lines.{lineBytes, stepText, acceptanceLine, failureLine, refusalLine, lineOf};
 use desk::Acceptance;
 use desk::Verdict;
-use files::Refusal;
+use refusals::Refusal;
 use steps::Step;
 
 // No line is longer.
@@ -58,7 +58,7 @@ fn refusal_line(r: Refusal, buffer: &mut [u8]) -> usize
     requires { ⌜ lineBytes ≤ length (now buffer) ⌝ }
     ensures { λ n. ⌜ Put (refusalLine (refusalNumber r)) 0 (now (buffer .entry)) (now (buffer .exit)) n ⌝ }
 {
-    let number = files::number(r) as u32;
+    let number = refusals::number(r) as u32;
     let named = text::number_if(true, b"refuse ", number, 0, buffer);
     text::append(b"\n", named, buffer)
 }

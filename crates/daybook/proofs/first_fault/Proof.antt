@@ -1,6 +1,6 @@
 use mathlib.Core.Path.{refl, sym, _∙_, ap}
 use Rattle.rules.specs.Day.{dayFault}
-use Rattle.files.specs.Refusals.{faultOf}
+use Rattle.files.specs.Faults.{faultOf}
 use Rattle.rules.proofs.Faults.{fault-here, fault-later, fault-last, fault-found, fault-passed}
 use borrow.Author.Needs.{needs}
 use Rattle.daybook.proofs.first_fault.Statement.{statement}

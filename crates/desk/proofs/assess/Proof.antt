@@ -1,5 +1,5 @@
 use mathlib.Core.Path.{sym, _∙_, ap}
-use Rattle.files.specs.Refusals.{faultOf}
+use Rattle.files.specs.Faults.{faultOf}
 use Rattle.desk.proofs.Laws.{sound-files, faulty-files}
 use borrow.Author.Needs.{needs}
 use Rattle.desk.proofs.assess.Statement.{statement}

@@ -1,5 +1,5 @@
 use mathlib.Core.Path.{refl, sym, _∙_, ap}
-use Rattle.files.specs.Refusals.{faultOf}
+use Rattle.files.specs.Faults.{faultOf}
 use Rattle.rules.proofs.Faults.{fault-here, fault-later, fault-last, fault-found, fault-passed}
 use borrow.Author.Needs.{needs}
 use Rattle.gate.proofs.request_files.Statement.{statement}

@@ -8,8 +8,11 @@ answer-code-requires c κs = search needs
 answer-number-requires : tie.Need-answer-number-requires
 answer-number-requires c κs = search needs
 
+answer-group-requires : tie.Need-answer-group-requires
+answer-group-requires c κs = search needs
+
 returns : tie.Need-returns
-returns c = rw (c .before .answer-code .ensures, c .answer-number .ensures)
+returns c = rw (c .before .before .answer-code .ensures, c .before .answer-number .ensures, c .answer-group .ensures)
 
 pub told-spec : {M : Type 1} → statement M
-told-spec = tie.close (tie.spec answer-code-requires answer-number-requires returns)
+told-spec = tie.close (tie.spec answer-code-requires answer-number-requires answer-group-requires returns)

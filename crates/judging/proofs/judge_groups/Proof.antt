@@ -104,8 +104,8 @@ loop-again c =
     let n = groups-next _ _ _ _ _ _ (i .1) t (i .0 t) _ d _ (f .before .grants .ensures) _ _ (f .if1 .left) (c .before .near-with .ensures) (e .same) in
     (e .inside, (omega (arith, e .later), (e .head, n)))
 
-denial-requires : tie.Need-denial-requires Inv-loop μ-loop
-denial-requires c κs = search needs
+why-not-requires : tie.Need-why-not-requires Inv-loop μ-loop
+why-not-requires c κs = search needs
 
 returns-2 : tie.Need-returns-2 Inv-loop μ-loop
 returns-2 c = search (needs, groups-done)
@@ -137,5 +137,5 @@ judge-groups-spec =
     next-group-requires-2
     loop-less
     loop-again
-    denial-requires
+    why-not-requires
     returns-2)

@@ -1,6 +1,6 @@
 use mathlib.Core.Path.{sym, _∙_, ap}
 use Rattle.rules.specs.Gate.{request}
-use Rattle.files.specs.Refusals.{faultOf}
+use Rattle.files.specs.Faults.{faultOf}
 use Rattle.gate.proofs.Settling.{refused-by, not-refused, files-sound}
 use borrow.Author.Needs.{needs}
 use Rattle.gate.proofs.Ledger.request.Statement.{statement}

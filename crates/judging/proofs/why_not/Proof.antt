@@ -1,6 +1,6 @@
 use borrow.Author.Needs.{needs}
-use Rattle.judging.proofs.denial.Statement.{statement}
-use Rattle.judging.proofs.denial.Tie as tie
+use Rattle.judging.proofs.why_not.Statement.{statement}
+use Rattle.judging.proofs.why_not.Tie as tie
 
 enum-told : tie.Need-enum-told
 enum-told c = search needs
@@ -20,6 +20,6 @@ returns-2 c = rw (c .before .n .given .1)
 returns-3 : tie.Need-returns-3
 returns-3 c = rw (c .before .n2 .given .1)
 
-pub denial-spec : {M : Type 1} → statement M
-denial-spec =
+pub why-not-spec : {M : Type 1} → statement M
+why-not-spec =
     tie.close (tie.spec enum-told enum-known-n enum-known-n-2 returns returns-2 returns-3)

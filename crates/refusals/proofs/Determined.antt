@@ -1,0 +1,63 @@
+-- The reading of refusals and denials loses nothing: the number, with the group where there is one, tells which it was, and which of the two.
+use Prim.Native.Nat.{ℕ}
+use mathlib.Core.Path.{_≡_, refl}
+use mathlib.Core.Option.{Option, none, some}
+use mathlib.Core.Bool.{Bool, true, false, _&&_}
+use lib.Dec.{eqb, leb}
+use Rattle.rules.specs.Basics.{if_then_else_}
+use Rattle.refusals.specs.declared.Refusal.{Refusal}
+use Rattle.refusals.specs.declared.Refusal.the-variants.{BadLength, Malformed, TooMany, NotNarrower, ShortBuffer, OutOfRange, UnknownSuite}
+use Rattle.refusals.specs.declared.Denial.{Denial}
+use Rattle.refusals.specs.declared.Denial.the-variants.{Early, Unadmitted, Uncertified, Exhausted}
+use Rattle.refusals.specs.Refusals.{refusalNumber, denialNumber, denialGroup}
+
+-- what each number stands for
+abbrev pub refusalBack : ℕ → Refusal
+refusalBack n =
+    if eqb n 1 then BadLength
+    else if eqb n 2 then Malformed
+    else if eqb n 3 then TooMany
+    else if eqb n 8 then NotNarrower
+    else if eqb n 9 then ShortBuffer
+    else if eqb n 10 then OutOfRange
+    else UnknownSuite
+
+-- .. it is what was read
+pub refusal-back : (r : Refusal) → refusalBack (refusalNumber r) ≡ r
+refusal-back BadLength = refl
+refusal-back Malformed = refl
+refusal-back TooMany = refl
+refusal-back NotNarrower = refl
+refusal-back ShortBuffer = refl
+refusal-back OutOfRange = refl
+refusal-back UnknownSuite = refl
+
+-- .. with its group, of a denial
+abbrev pub denialBack : ℕ → Option ℕ → Denial
+denialBack n none = if eqb n 4 then Early else Unadmitted
+denialBack n (some place) = if eqb n 6 then Uncertified place else Exhausted place
+
+pub denial-back : (d : Denial) → denialBack (denialNumber d) (denialGroup d) ≡ d
+denial-back Early = refl
+denial-back Unadmitted = refl
+denial-back (Uncertified place) = refl
+denial-back (Exhausted place) = refl
+
+-- the numbers of denials: 4 to 7, which no refusal has
+abbrev pub denies : ℕ → Bool
+denies n = leb 4 n && leb n 7
+
+pub refusal-not-denied : (r : Refusal) → denies (refusalNumber r) ≡ false
+refusal-not-denied BadLength = refl
+refusal-not-denied Malformed = refl
+refusal-not-denied TooMany = refl
+refusal-not-denied NotNarrower = refl
+refusal-not-denied ShortBuffer = refl
+refusal-not-denied OutOfRange = refl
+refusal-not-denied UnknownSuite = refl
+
+pub denial-denied : (d : Denial) → denies (denialNumber d) ≡ true
+denial-denied Early = refl
+denial-denied Unadmitted = refl
+denial-denied (Uncertified place) = refl
+denial-denied (Exhausted place) = refl

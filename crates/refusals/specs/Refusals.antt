@@ -1,0 +1,32 @@
+-- The numbers of document 01's table, for the refusals and denials of the code, and the group that a denial carries.
+use Prim.Native.Nat.{ℕ}
+use mathlib.Core.Option.{Option, none, some}
+use Rattle.rules.specs.Numbers as numbers
+use Rattle.refusals.specs.declared.Refusal.{Refusal}
+use Rattle.refusals.specs.declared.Refusal.the-variants.{BadLength, Malformed, TooMany, NotNarrower, ShortBuffer, OutOfRange, UnknownSuite}
+use Rattle.refusals.specs.declared.Denial.{Denial}
+use Rattle.refusals.specs.declared.Denial.the-variants.{Early, Unadmitted, Uncertified, Exhausted}
+
+-- "Refusal numbers": all but 4 to 7
+abbrev pub refusalNumber : Refusal → ℕ
+refusalNumber BadLength = numbers.badLength
+refusalNumber Malformed = numbers.malformed
+refusalNumber TooMany = numbers.tooMany
+refusalNumber NotNarrower = numbers.notNarrower
+refusalNumber ShortBuffer = numbers.shortBuffer
+refusalNumber OutOfRange = numbers.outOfRange
+refusalNumber UnknownSuite = numbers.unknownSuite
+
+-- .. 4 to 7
+abbrev pub denialNumber : Denial → ℕ
+denialNumber Early = numbers.clockBack
+denialNumber Unadmitted = numbers.notAdmitted
+denialNumber (Uncertified place) = numbers.notCertified
+denialNumber (Exhausted place) = numbers.spent
+
+-- "Refusal 6 shall carry the lowest group that admits; refusal 7 the lowest that admits and is certified."; "Refusal 5 stays bare."
+abbrev pub denialGroup : Denial → Option ℕ
+denialGroup Early = none
+denialGroup Unadmitted = none
+denialGroup (Uncertified place) = some place
+denialGroup (Exhausted place) = some place
