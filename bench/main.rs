@@ -114,7 +114,7 @@ fn request_cases() -> Vec<Case> {
     vec![
         case("Sign, 1 group: permit", "Permit(0)", asked(inputs::small_acl(), inputs::small_request(SIGN))),
         case("Sign, 16 full groups, the last permits", "Permit(15)", asked(inputs::granted_last(), inputs::full_request(SIGN))),
-        case("Sign, 16 full groups, all spent: 7", "Refuse(7)", asked(inputs::all_spent(), inputs::full_request(SIGN))),
+        case("Sign, 16 full groups, all spent: 7", "Refuse(7, Some(0))", asked(inputs::all_spent(), inputs::full_request(SIGN))),
     ]
 }
 
@@ -128,7 +128,7 @@ fn narrowing_cases() -> Vec<Case> {
     vec![
         case("narrowing, 1 group", 1_000_000, "Permit(0)", replaced(small.clone(), small_req, small, inputs::same_places(1, 1))),
         case("narrowing, 16 full groups", 400_000, "Permit(15)", shown),
-        case("narrowing, 16 full groups, wider at the end: 8", 400_000, "Refuse(8)", wider),
+        case("narrowing, 16 full groups, wider at the end: 8", 400_000, "Refuse(8, None)", wider),
     ]
 }
 

@@ -3,16 +3,12 @@
 use super::record::*;
 
 /// A refusal, by its number.
-#[derive(Clone, Copy, PartialEq, Eq, PartialOrd, Ord)]
+#[derive(Clone, Copy)]
 pub enum Refusal {
     BadLength = 1,
-    Malformed,
-    TooMany,
-    ClockBack,
-    NotAdmitted,
-    NotCertified,
-    Spent,
-    NotNarrower,
+    Malformed = 2,
+    TooMany = 3,
+    NotNarrower = 8,
     ShortBuffer,
     OutOfRange,
     UnknownSuite,

@@ -1,7 +1,7 @@
 //! The gate: the steps that take the ledger whole and hand it back with the reply.
 
 use super::files::{self, whole, Refusal, ACL_RECORDS, GROUPS, HINT_RECORDS, REQUEST_RECORDS};
-use super::judge::{judge, limits, Grant};
+use super::judge::{judge, limits, Denial, Grant};
 use super::narrow::shows_narrowing;
 use super::record::*;
 use super::{Ledger, Reply};
@@ -14,11 +14,25 @@ fn hash_of(bytes: &[u8]) -> Result<&Hash, Refusal> {
     bytes.try_into().map_err(|_| Refusal::BadLength)
 }
 
-fn reply(decided: Result<usize, Refusal>) -> Reply {
-    match decided {
-        Ok(place) => Reply::Permit(place as u64),
-        Err(why) => Reply::Refuse(why as u64),
+impl From<Refusal> for Reply {
+    fn from(why: Refusal) -> Reply {
+        Reply::Refuse(why as u64, None)
     }
+}
+
+impl From<Denial> for Reply {
+    fn from(why: Denial) -> Reply {
+        match why {
+            Denial::Early => Reply::Refuse(4, None),
+            Denial::Unadmitted => Reply::Refuse(5, None),
+            Denial::Uncertified(place) => Reply::Refuse(6, Some(place as u64)),
+            Denial::Exhausted(place) => Reply::Refuse(7, Some(place as u64)),
+        }
+    }
+}
+
+fn reply(decided: Result<usize, Reply>) -> Reply {
+    decided.map_or_else(|refused| refused, |place| Reply::Permit(place as u64))
 }
 
 impl Ledger {
@@ -38,7 +52,7 @@ impl Ledger {
     /// A clear of one named counter.
     pub fn clear(mut self, counter: usize) -> (Ledger, Reply) {
         let Some(count) = self.counters.get_mut(counter) else {
-            return (self, Reply::Refuse(Refusal::OutOfRange as u64));
+            return (self, Refusal::OutOfRange.into());
         };
         *count = 0;
         (self, Reply::Done)
@@ -63,7 +77,7 @@ impl Ledger {
     }
 
     // The three below change the ledger only once nothing can refuse any more.
-    fn try_request(&mut self, km0: &[u8], acl: &[u8], req: &[u8]) -> Result<usize, Refusal> {
+    fn try_request(&mut self, km0: &[u8], acl: &[u8], req: &[u8]) -> Result<usize, Reply> {
         let km0 = hash_of(km0)?;
         let acl = whole(acl, ACL_RECORDS)?;
         let req = whole(req, REQUEST_RECORDS)?;
@@ -74,7 +88,7 @@ impl Ledger {
         Ok(grant.place)
     }
 
-    fn try_narrow(&mut self, km0: &[u8], acl: &[u8], req: &[u8], new: &[u8], hints: &[u8]) -> Result<usize, Refusal> {
+    fn try_narrow(&mut self, km0: &[u8], acl: &[u8], req: &[u8], new: &[u8], hints: &[u8]) -> Result<usize, Reply> {
         let km0 = hash_of(km0)?;
         let acl = whole(acl, ACL_RECORDS)?;
         let req = whole(req, REQUEST_RECORDS)?;
@@ -86,14 +100,14 @@ impl Ledger {
         files::hints(hints)?;
         let grant = judge(self, km0, acl, &req)?;
         if !shows_narrowing(acl, new, hints) {
-            return Err(Refusal::NotNarrower);
+            return Err(Refusal::NotNarrower.into());
         }
         self.charge(&grant, req.time());
         self.carry(hints);
         Ok(grant.place)
     }
 
-    fn try_expand(&mut self, km0: &[u8], acl: &[u8], req: &[u8], new: &[u8]) -> Result<usize, Refusal> {
+    fn try_expand(&mut self, km0: &[u8], acl: &[u8], req: &[u8], new: &[u8]) -> Result<usize, Reply> {
         let km0 = hash_of(km0)?;
         let acl = whole(acl, ACL_RECORDS)?;
         let req = whole(req, REQUEST_RECORDS)?;

@@ -1,11 +1,20 @@
 //! Judging a request on an ACL: the lowest group that admits it, is certified and unspent, or how far the groups come.
 
-use super::files::{Refusal, Request};
+use super::files::Request;
 use super::record::*;
 use super::Ledger;
 
 // The null module key.
 const NULL_KEY: Hash = [1, 0, 0, 0, 0, 0, 0, 0, 0, 0, 0, 0, 0, 0, 0, 0, 0, 0, 0, 0];
+
+/// Why no group grants: the clock, or how far the nearest came, with its place.
+#[derive(Clone, Copy, PartialEq)]
+pub enum Denial {
+    Early,
+    Unadmitted,
+    Uncertified(usize),
+    Exhausted(usize),
+}
 
 /// The group that grants, with the records that follow its first one.
 pub struct Grant<'a> {
@@ -82,27 +91,31 @@ fn limit_left(counters: &[u32; COUNTERS], own: u32, elapsed: u64, limit: &Record
     }
 }
 
-/// The group that grants a request. Else the clock went back, or the refusal says how far the nearest group came.
-pub fn judge<'a>(ledger: &Ledger, km0: &Hash, acl: &'a [Record], req: &Request) -> Result<Grant<'a>, Refusal> {
+/// The group that grants a request. Else the clock went back, or the denial says how far the nearest group came.
+pub fn judge<'a>(ledger: &Ledger, km0: &Hash, acl: &'a [Record], req: &Request) -> Result<Grant<'a>, Denial> {
     let time = req.time();
     if time < ledger.loaded || time < ledger.last {
-        return Err(Refusal::ClockBack);
+        return Err(Denial::Early);
     }
     let elapsed = time - ledger.loaded;
-    let mut nearest = Refusal::NotAdmitted;
+    let mut nearest = Denial::Unadmitted;
     for (place, (group, body)) in groups(acl).enumerate() {
         if !actions(body).any(|act| action_admits(km0, req.record, act)) {
             continue;
         }
         if !is_certified(group, req.certificates) {
-            nearest = nearest.max(Refusal::NotCertified);
+            if nearest == Denial::Unadmitted {
+                nearest = Denial::Uncertified(place);
+            }
             continue;
         }
         let own = ledger.counts[place];
         if own < u32::MAX && limits(body).all(|l| limit_left(&ledger.counters, own, elapsed, l)) {
             return Ok(Grant { place, body });
         }
-        nearest = Refusal::Spent;
+        if !matches!(nearest, Denial::Exhausted(_)) {
+            nearest = Denial::Exhausted(place);
+        }
     }
     Err(nearest)
 }

@@ -23,12 +23,12 @@ pub struct Ledger {
     pub last: u64,
 }
 
-/// A load or a clear is done, a group permits, or a refusal with its number.
+/// A load or a clear is done, a group permits, or a refusal with its number and, where that is 6 or 7, the group that came nearest.
 #[derive(Clone, Copy, PartialEq, Eq, Debug)]
 pub enum Reply {
     Done,
     Permit(u64),
-    Refuse(u64),
+    Refuse(u64, Option<u64>),
 }
 
 /// The desk's answer: what an acceptance names, the failing step, or a refusal with its number.
