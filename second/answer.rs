@@ -84,7 +84,7 @@ fn permit(ledger: &mut Ledger, reply: Result<(usize, Ledger), Refusal>) -> Answe
 
 impl Answer {
     /// The answer's words, without ledger or buffer.
-    fn words(self) -> String {
+    pub fn words(self) -> String {
         match self {
             Answer::Done => "done".to_string(),
             Answer::Permit(place) => format!("permit {place}"),
@@ -271,7 +271,7 @@ mod tests {
         let lines = "1 permit 0 load 0 last 0 counts 0:1 counters\n\
                      2 permit 1 load 0 last 0 counts 0:1 1:1 counters 3:1\n\
                      3 permit 1 load 0 last 0 counts 0:1 1:2 counters 3:2\n\
-                     4 refuse 7 load 0 last 0 counts 0:1 1:2 counters 3:2\n";
+                     4 refuse 7 0 load 0 last 0 counts 0:1 1:2 counters 3:2\n";
         assert_eq!(answers(&script, ALL_KINDS), lines);
     }
 

@@ -89,7 +89,7 @@ pub fn request(
     grant(ledger, km0, &acl, &request, &certificates)
 }
 
-/// Refusals 4, 5, 6 and 7 in this order; else the lowest group that admits, is certified and is
+/// Refusals 4, 5, 6 and 7 in this order, 6 and 7 with the group that came nearest; else the lowest group that admits, is certified and is
 /// unspent, charged.
 pub fn grant(
     ledger: &Ledger,
@@ -104,15 +104,11 @@ pub fn grant(
     }
     let mut places: Vec<usize> = (0..acl.groups.len()).collect();
     places.retain(|&place| admits(&acl.groups[place], km0, &request.asked));
-    if places.is_empty() {
-        return Err(Refusal::NotAdmitted);
-    }
+    let nearest = *places.first().ok_or(Refusal::NotAdmitted)?;
     places.retain(|&place| is_certified(&acl.groups[place], certificates));
-    if places.is_empty() {
-        return Err(Refusal::NotCertified);
-    }
+    let nearest = *places.first().ok_or(Refusal::NotCertified { nearest })?;
     places.retain(|&place| is_unspent(&acl.groups[place], place, ledger, request.time));
-    let place = *places.first().ok_or(Refusal::Spent)?;
+    let place = *places.first().ok_or(Refusal::Spent { nearest })?;
     Ok((
         place,
         ledger.charged(&acl.groups[place], place, request.time),
@@ -350,6 +346,40 @@ mod tests {
         }
         assert_eq!(replies, [Ok(0), Ok(1), Ok(1), Err(7)]);
         assert_eq!(ledger.counters[3], 2);
+        let reply = request(&ledger, &KM0, &acl, &use_at(SIGN, 0));
+        assert_eq!(reply, Err(Refusal::Spent { nearest: 0 }));
+    }
+
+    #[test]
+    fn refusals_carry_the_nearest_group() {
+        let certified = |certifier| Group {
+            certifier,
+            ..limited(Sort::UsesPerLoad, 0)
+        };
+        let idle = || Group::default();
+        let sign = |group| Group {
+            actions: vec![Action::OpPermissions(0x10)],
+            ..group
+        };
+        let reply = |groups| {
+            let acl = encode::acl(&Acl { groups });
+            request(&Ledger::fresh(), &KM0, &acl, &use_at(SIGN, 0))
+        };
+        let uncertified = || sign(certified(Some([7; 20])));
+        assert_eq!(
+            reply(vec![idle(), uncertified(), uncertified()]),
+            Err(Refusal::NotCertified { nearest: 1 })
+        );
+        assert_eq!(
+            reply(vec![
+                uncertified(),
+                idle(),
+                sign(certified(None)),
+                sign(certified(None))
+            ]),
+            Err(Refusal::Spent { nearest: 2 })
+        );
+        assert_eq!(reply(vec![idle()]), Err(Refusal::NotAdmitted));
     }
 
     #[test]

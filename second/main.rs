@@ -6,6 +6,7 @@ mod acl;
 mod answer;
 mod call;
 mod damage;
+mod day;
 mod desk;
 mod edge_files;
 mod encode;
@@ -35,7 +36,8 @@ use script::ALL_KINDS;
 
 const USAGE: &str = "usage: second answer [KINDS] < SCRIPT\n\
                      \u{20}      second tally [KINDS] < SCRIPT\n\
-                     \u{20}      second generate SEED CALLS [KINDS] > SCRIPT";
+                     \u{20}      second generate SEED CALLS [KINDS] > SCRIPT\n\
+                     \u{20}      second day KM0 ACL REQUESTS";
 
 fn main() -> ExitCode {
     let arguments: Vec<String> = std::env::args().skip(1).collect();
@@ -50,6 +52,10 @@ fn main() -> ExitCode {
 }
 
 fn run(words: &[&str]) -> Result<(), String> {
+    if let ["day", km0, acl, requests] = words {
+        print!("{}", day::day(&read(km0)?, &read(acl)?, &read(requests)?));
+        return Ok(());
+    }
     let (command, numbers, kinds) = match words {
         [command @ ("answer" | "tally")] => (*command, None, ALL_KINDS),
         [command @ ("answer" | "tally"), kinds] => (*command, None, *kinds),
@@ -72,6 +78,10 @@ fn run(words: &[&str]) -> Result<(), String> {
         None => answer::tally_script(&mut input, &mut output, kinds),
     };
     outcome.map_err(|error| format!("{command}: {error}"))
+}
+
+fn read(name: &str) -> Result<Vec<u8>, String> {
+    std::fs::read(name).map_err(|error| format!("{name}: {error}"))
 }
 
 fn number(word: &str) -> Result<u64, String> {

@@ -14,8 +14,14 @@ pub enum Refusal {
     TooMany,
     TooEarly,
     NotAdmitted,
-    NotCertified,
-    Spent,
+    /// "Refusal 6 shall carry the lowest group that admits; refusal 7 the lowest that admits and is
+    /// certified."
+    NotCertified {
+        nearest: usize,
+    },
+    Spent {
+        nearest: usize,
+    },
     NotNarrower,
     ShortBuffer,
     NoSuchNumber,
@@ -34,8 +40,8 @@ impl Refusal {
             Refusal::TooMany => 3,
             Refusal::TooEarly => 4,
             Refusal::NotAdmitted => 5,
-            Refusal::NotCertified => 6,
-            Refusal::Spent => 7,
+            Refusal::NotCertified { .. } => 6,
+            Refusal::Spent { .. } => 7,
             Refusal::NotNarrower => 8,
             Refusal::ShortBuffer => 9,
             Refusal::NoSuchNumber => 10,
@@ -44,9 +50,10 @@ impl Refusal {
         }
     }
 
-    /// What is told beside the number.
+    /// What is told beside the number: a group or a line.
     pub fn beside(self) -> Option<usize> {
         match self {
+            Refusal::NotCertified { nearest } | Refusal::Spent { nearest } => Some(nearest),
             Refusal::NotALine { line } => Some(line),
             _ => None,
         }
