@@ -56,6 +56,7 @@ typedef struct {
 #define AKUBOLINFE_SHORT_BUFFER 9
 #define AKUBOLINFE_OUT_OF_RANGE 10
 #define AKUBOLINFE_UNKNOWN_SUITE 11
+#define AKUBOLINFE_OPEN_ARCHIVE 12
 #define AKUBOLINFE_NOT_LISTING 15
 
 /* The fresh ledger: all zero. */

@@ -4,14 +4,16 @@ use native.Mathlib.Omega.{arith}
 use native.Mathlib.Numerals.{add-one}
 use mathlib.Core.Path.{_≡_, refl, sym, _∙_, ap}
 use mathlib.Core.List.{List, [], _∷_, _++_}
+use mathlib.Core.Option.{none, some}
 use mathlib.Core.Bool.{Bool, true, false, not, _&&_, _||_}
 use lib.ListN.{length, take, drop, getD, set, drop-of-length-le, length-take}
 use lib.Seq.{drop-cons, take-suc-set}
 use lib.Dec.{eqb, ltb}
-use borrow.Author.Tests.{eq-eqb, ne-eqb, lt-ltb, le-ltb, ltb-true, ltb-false, not-false}
+use borrow.Author.Tests.{eq-eqb, ne-eqb, lt-ltb, le-ltb, ltb-true, ltb-false, not-true, not-false}
 use Rattle.rules.specs.Sizes.{groupsMax, limitsMax, actionsMax}
-use Rattle.rules.specs.Basics.{Bytes, any, kind, recordFault}
-use Rattle.rules.specs.Acl.{AclPlace, among, limitKey, limitInPlace, inPlace, hasRoom, aclRecordFault, limitAdded}
+use Rattle.rules.specs.Basics.{Bytes, any, kind, flag, firstFault}
+use Rattle.rules.specs.Numbers.{malformed, tooMany, openArchive}
+use Rattle.rules.specs.Acl.{AclPlace, among, limitKey, limitInPlace, inPlace, hasRoom, keyed, aclRecordFault, limitAdded, afterRecord}
 use Rattle.acl.specs.declared.Place.{Place}
 use Rattle.acl.specs.Places.{placeOf}
 
@@ -44,13 +46,33 @@ key-added : (n key : ℕ) (keys : List ℕ) → n < length keys → take (n + 1)
 key-added n key keys h = rw add-one (take-suc-set keys n key h)
 
 pub place-added : (p : Place) (key : ℕ) → p .limits < length (p .keys)
-    → placeOf (record { groups = p .groups; limits = p .limits + 1; actions = p .actions; keys = set (p .keys) (p .limits) key }) ≡ limitAdded (placeOf p) key
-place-added p key h = ap (λ (l : List ℕ). record { groups = p .groups; limits = l; actions = p .actions }) (key-added (p .limits) key (p .keys) h)
+    → placeOf (record { groups = p .groups; opened = p .opened; limits = p .limits + 1; actions = p .actions; keys = set (p .keys) (p .limits) key }) ≡ limitAdded (placeOf p) key
+place-added p key h = ap (λ (l : List ℕ). record { groups = p .groups; isOpen = p .opened; limits = l; actions = p .actions }) (key-added (p .limits) key (p .keys) h)
 
--- the fault of a record by its two tests
-pub acl-is : (s : AclPlace) (r : Bytes) → aclRecordFault s r ≡ recordFault (inPlace s r) (hasRoom s r)
-unfolding aclRecordFault
-acl-is s r = refl
+-- the fault of a record by its three tests, `if !f(..)`
+module _ (s : AclPlace) (r : Bytes) (a : Bool) (p : a ≡ inPlace s r) where
+  pub bad-record : not a ≡ true → aclRecordFault s r ≡ some malformed
+  unfolding aclRecordFault firstFault
+  bad-record h = rw (sym p ∙ not-true a h)
+
+  module _ (h : not a ≡ false) (b : Bool) (q : b ≡ hasRoom s r) where
+    pub full-record : not b ≡ true → aclRecordFault s r ≡ some tooMany
+    unfolding aclRecordFault firstFault
+    full-record k = rw (sym p ∙ not-false a h, sym q ∙ not-true b k)
+
+    module _ (k : not b ≡ false) (c : Bool) (t : c ≡ keyed (s .isOpen) r) where
+      pub open-record : not c ≡ true → aclRecordFault s r ≡ some openArchive
+      unfolding aclRecordFault firstFault
+      open-record l = rw (sym p ∙ not-false a h, sym q ∙ not-false b k, sym t ∙ not-true c l)
+
+      pub sound-record : not c ≡ false → aclRecordFault s r ≡ none
+      unfolding aclRecordFault firstFault
+      sound-record l = rw (sym p ∙ not-false a h, sym q ∙ not-false b k, sym t ∙ not-false c l)
+
+-- after a group's record: open if it has no certifier
+pub group-next : (s : AclPlace) (r : Bytes) (f : Bool) → kind r ≡ 1 → f ≡ flag 0 r → record { groups = s .groups + 1; isOpen = not f; limits = []; actions = 0 } ≡ afterRecord s r
+unfolding afterRecord
+group-next s r f k e = rw (eq-eqb (kind r) 1 k, e)
 
 -- what room says of each kind
 module _ (p : Place) (r : Bytes) (h : hasRoom (placeOf p) r ≡ true) where

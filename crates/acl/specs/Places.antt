@@ -5,4 +5,4 @@ use Rattle.acl.specs.declared.Place.{Place}
 
 -- the first `limits` keys are those of the limits read
 abbrev pub placeOf : Place → AclPlace
-placeOf p = record { groups = p .groups; limits = take (p .limits) (p .keys); actions = p .actions }
+placeOf p = record { groups = p .groups; isOpen = p .opened; limits = take (p .limits) (p .keys); actions = p .actions }

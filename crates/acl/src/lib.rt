@@ -5,15 +5,17 @@ ghost use Prim.Native.Nat.{_≤_, _<_};
 ghost use lib.ListN.{length};
 ghost use Rattle.rules.specs.Sizes.{recordBytes, limitsMax};
 ghost use Rattle.rules.specs.Basics.{records};
-ghost use Rattle.rules.specs.Acl.{aclStart, among, limitInPlace, actionLaidOut, inPlace, hasRoom, limitAdded, afterRecord, aclFault, aclFileFault};
+ghost use Rattle.rules.specs.Acl.{aclStart, among, limitInPlace, actionLaidOut, inPlace, hasRoom, keyed, limitAdded, afterRecord, aclFault, aclFileFault};
 ghost use Rattle.files.specs.Faults.{faultOf};
 ghost use Rattle.acl.specs.Places.{placeOf};
 use files::Checked;
 use refusals::Refusal;
 
-// Where reading stands: groups begun; of the last group the limits, with the sort and counter of each, and the actions.
+// Where reading stands: groups begun; of the last group whether it is open (it has no certifier), the limits, with the sort and counter of each, and
+// the actions.
 pub struct Place {
     pub groups: usize,
+    pub opened: bool,
     pub limits: usize,
     pub actions: usize,
     pub keys: [u16; sizes::LIMITS],
@@ -57,6 +59,7 @@ impl Place {
     {
         Self {
             groups: 0,
+            opened: false,
             limits: 0,
             actions: 0,
             keys: [0u16; sizes::LIMITS],
@@ -109,6 +112,15 @@ impl Place {
         self.actions < sizes::ACTIONS
     }
 
+    // Whether a record is none that opens the key to any recovery key: a MakeArchiveBlob action without kahash in an open group.
+    fn is_keyed(self, rec: &[u8]) -> bool
+        requires { ⌜ length (now rec) ≡ recordBytes ⌝ }
+        ensures { λ r. ⌜ r ≡ keyed (placeOf self .isOpen) (now (rec .entry)) ⌝ }
+    {
+        let kind = rec[0];
+        !(self.opened & (kind == 5)) | fields::flag_of(0, rec)
+    }
+
     // Where reading stands after a limit for which there is room.
     fn after_limit(mut self, key: u16) -> Self
         requires { ⌜ self .limits < limitsMax ⌝ }
@@ -130,6 +142,7 @@ impl Place {
         if kind == 1 {
             return Self {
                 groups: self.groups + 1,
+                opened: !fields::flag_of(0, rec),
                 limits: 0,
                 actions: 0,
                 keys: keys,
@@ -140,6 +153,7 @@ impl Place {
         }
         Self {
             groups: self.groups,
+            opened: self.opened,
             limits: self.limits,
             actions: self.actions + 1,
             keys: keys,
@@ -147,7 +161,7 @@ impl Place {
     }
 }
 
-// The first fault of an ACL's records, from the first on; 2 before 3 within a record.
+// The first fault of an ACL's records, from the first on; within a record 2, then 3, then 12.
 pub fn acl_records(acl: &[u8]) -> Checked
     ensures { λ r. ⌜ faultOf r ≡ aclFault (records (now (acl .entry))) ⌝ }
 {
@@ -160,6 +174,9 @@ pub fn acl_records(acl: &[u8]) -> Checked
         }
         if !place.has_room(rec) {
             return Checked::Refused(Refusal::TooMany);
+        }
+        if !place.is_keyed(rec) {
+            return Checked::Refused(Refusal::OpenArchive);
         }
         place = place.after(rec);
         at += sizes::RECORD;

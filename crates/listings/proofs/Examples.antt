@@ -8,7 +8,7 @@ use Rattle.rules.specs.Sizes.{groupsMax}
 use Rattle.rules.specs.Basics.{Bytes, ascii}
 use Rattle.rules.specs.Acl.{aclFileFault}
 use Rattle.rules.proofs.Computing.{computing}
-use Rattle.rules.proofs.Samples.{rec, hash, openGroup, signAction}
+use Rattle.rules.proofs.Samples.{rec, hash, openGroup, signAction, keyless}
 use Rattle.listings.specs.Words.{hexDigit, hex, wordText, wordsText, permissionWords, lineOf, listingOf, groupLineMax, limitLineMax, lineMax, listingMax}
 use Rattle.listings.specs.Decoding.{stands, has, afterWord, hexValue, unhex, hashAfter, afterHash, digitsOf, decimalFrom, numberAfter, afterNumber, bytesOf, ofBits, headed, groupFrom, limitFrom, namesFrom, permissionsFrom, blobFrom, archiveFrom, decoded}
 use Rattle.listings.specs.Listing.{linesOf, isWritten, goodLine, lineFault, afterLine, listingEnd, listingFault, listedBytes, Reading, acl, badLine, readListing, produced, refusedWith, refusedAt, Listed, writeFault, writeListing, readListingInto}
@@ -54,6 +54,8 @@ rowsRead =
     ∷ readListing (ascii "group\nlimit uses 4294967296\n")
     ∷ readListing (ascii "limit uses 1\n")
     ∷ readListing (ascii "group\n\ngroup\n")
+    ∷ readListing (ascii "group\nOpPermissions Sign\nMakeArchiveBlob mechanism 2\n")
+    ∷ readListing (ascii "group certifier 0909090909090909090909090909090909090909\nMakeArchiveBlob mechanism 2\n")
     ∷ []
 
 abbrev rowsExpected : List Reading
@@ -70,6 +72,8 @@ rowsExpected =
     ∷ badLine 2
     ∷ badLine 1
     ∷ badLine 2
+    ∷ badLine 3
+    ∷ acl (rec (1 ∷ 0 ∷ 0 ∷ 1 ∷ [] ++ hash 9) ++ keyless)
     ∷ []
 
 -- the entry points, on buffers of eights
@@ -78,6 +82,7 @@ entries =
     writeListing openGroup (replicate 7 8)
     ∷ writeListing openGroup (replicate 5 8)
     ∷ writeListing (openGroup ++ (1 ∷ [])) []
+    ∷ writeListing (openGroup ++ keyless) []
     ∷ readListingInto (ascii "group\n") (replicate 65 8)
     ∷ readListingInto (ascii "group\n") (replicate 63 8)
     ∷ readListingInto (ascii "group\ngroups\n") (replicate 63 8)
@@ -88,6 +93,7 @@ entriesExpected =
     record { reply = produced 6; buffer = ascii "group\n" ++ (8 ∷ []) }
     ∷ record { reply = refusedWith 9; buffer = replicate 5 8 }
     ∷ record { reply = refusedWith 1; buffer = [] }
+    ∷ record { reply = refusedWith 12; buffer = [] }
     ∷ record { reply = produced 64; buffer = openGroup ++ (8 ∷ []) }
     ∷ record { reply = refusedWith 9; buffer = replicate 63 8 }
     ∷ record { reply = refusedAt 15 2; buffer = replicate 63 8 }

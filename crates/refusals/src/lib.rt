@@ -2,7 +2,8 @@
 ghost use mathlib.Core.Path.{_≡_};
 ghost use Rattle.refusals.specs.Refusals.{refusalNumber, denialNumber};
 
-// A refusal of files, buffers and numbers; refusalNumber gives its number in document 01's table. It never names a group.
+// A refusal of files, buffers and numbers; refusalNumber gives its number in document 01's table, with those that document 02 adds. It never names a
+// group.
 pub enum Refusal {
     BadLength,
     Malformed,
@@ -11,6 +12,7 @@ pub enum Refusal {
     ShortBuffer,
     OutOfRange,
     UnknownSuite,
+    OpenArchive,
 }
 
 // Why no group grants: the time goes back; none admits; none that admits is certified, with the lowest that admits; none of those is unspent, with the
@@ -34,6 +36,7 @@ pub fn number(r: Refusal) -> u8
         Refusal::ShortBuffer => 9,
         Refusal::OutOfRange => 10,
         Refusal::UnknownSuite => 11,
+        Refusal::OpenArchive => 12,
     }
 }
 

@@ -7,7 +7,7 @@ use Rattle.rules.specs.Sizes.{dayRecords, groupsMax}
 use Rattle.rules.specs.Basics.{Bytes, ascii}
 use Rattle.rules.specs.Day.{dayLines}
 use Rattle.rules.proofs.Computing.{computing}
-use Rattle.rules.proofs.Samples.{rec, repeated, hash, openGroup, signGroup, limited, certifiedGroup, counting, sign, decrypt, otherMechanism}
+use Rattle.rules.proofs.Samples.{rec, repeated, hash, openGroup, signGroup, limited, certifiedGroup, counting, sign, decrypt, otherMechanism, keyless}
 
 -- "Two Sign groups, per load 1, then counter 3 maximum 2; four Signs"
 abbrev twoGroups : Bytes
@@ -32,6 +32,7 @@ pub record DayRows : Type 0 where
   pub km0-short : dayLines (replicate 19 0) twoGroups fourSigns ≡ ascii "0 refuse 1\n"
   pub acl-bad : prints (twoGroups ++ rec []) fourSigns ≡ ascii "0 refuse 2\n"
   pub acl-group-too-many : prints (repeated (groupsMax + 1) openGroup) fourSigns ≡ ascii "0 refuse 3\n"
+  pub acl-open-archive : prints (openGroup ++ keyless) fourSigns ≡ ascii "0 refuse 12\n"
   pub request-bad : prints twoGroups (fourSigns ++ rec []) ≡ ascii "0 refuse 2\n"
   pub certificate : prints twoGroups (sign 1 ++ otherMechanism) ≡ ascii "0 refuse 2\n"
   pub requests-not-whole : prints twoGroups (fourSigns ++ (0 ∷ [])) ≡ ascii "0 refuse 1\n"
@@ -51,6 +52,7 @@ day-rows =
       km0-short = refl;
       acl-bad = refl;
       acl-group-too-many = refl;
+      acl-open-archive = refl;
       request-bad = refl;
       certificate = refl;
       requests-not-whole = refl;

@@ -10,7 +10,7 @@ use Rattle.rules.specs.Basics.{Bytes}
 use Rattle.rules.specs.Suites.{suite}
 use Rattle.rules.specs.Desk.{WV1, MSCV1, MSCV2, MSCV3, MSCV4, MSCV5, WBCV1, WBCV2, WBCV3, KGCV1, KGCV2, ACLV3, WB1, WB2, WB3, WB6, RB1, RB2, RB3, KV3, CSRL1, approach1, approach2, Verdict, accepted, failed, faulty, desk}
 use Rattle.rules.proofs.Computing.{computing}
-use Rattle.rules.proofs.Samples.{rec, repeated, hash, openGroup, signGroup, fact, signedWell, blob, cardset, archive}
+use Rattle.rules.proofs.Samples.{rec, repeated, hash, openGroup, signGroup, certifiedGroup, fact, signedWell, blob, cardset, archive, keyless}
 
 -- "byte 4 suite, byte 5 approach 1 or 2, byte 6 bits .., byte 7 lowest protection"
 abbrev policy : ℕ → ℕ → ℕ → ℕ → Bytes
@@ -94,6 +94,7 @@ pub record StepRows : Type 0 where
   pub wb6 : desk whole (openGroup ++ blob 12 (hash 20) []) ≡ failed WB6
   pub rb1 : desk (damaged (signatureAt 5) []) fine ≡ failed RB1
   pub rb2 : desk whole (openGroup ++ rec (5 ∷ 0 ∷ 0 ∷ 1 ∷ [] ++ hash 6 ++ (0 ∷ 2 ∷ []))) ≡ failed RB2
+  pub rb2-without-key : desk whole (certifiedGroup ++ keyless) ≡ failed RB2
   pub rb3 : desk whole (openGroup ++ rec (5 ∷ 0 ∷ 0 ∷ 1 ∷ [] ++ hash 7 ++ (0 ∷ 1 ∷ []))) ≡ failed RB3
   pub rb3-suite-5 : desk (damaged policyAt (policy 5 2 7 1)) fine ≡ failed RB3
   pub kv3 : desk (damaged policyAt (policy 3 2 7 4)) fine ≡ failed KV3
@@ -127,6 +128,7 @@ step-rows =
       wb6 = refl;
       rb1 = refl;
       rb2 = refl;
+      rb2-without-key = refl;
       rb3 = refl;
       rb3-suite-5 = refl;
       kv3 = refl;

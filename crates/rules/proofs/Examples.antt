@@ -12,10 +12,10 @@ use Rattle.rules.specs.Basics.{Bytes, ascii}
 use Rattle.rules.specs.Ledger.{Ledger, freshLedger}
 use Rattle.rules.specs.Gate.{Answer, done, permit, refuse, Outcome, request, load, clear, narrow, expand}
 use Rattle.rules.specs.Suites.{suite}
-use Rattle.rules.specs.Desk.{Step, WB1, WB2, WB6, approach2, Verdict, accepted, failed, desk}
+use Rattle.rules.specs.Desk.{Step, WB1, WB2, WB6, approach2, Verdict, accepted, failed, faulty, desk}
 use Rattle.rules.specs.Subject.{SubjectReply, written, unwritten, subjectReply, subjectBuffer}
 use Rattle.rules.proofs.Computing.{computing}
-use Rattle.rules.proofs.Samples.{rec, hash, openGroup, signGroup, limited, certifiedGroup, sign, decrypt, otherMechanism, counting, reducible, expandable, reduce, enlarge, hint, bundle, uncertifiedBundle, blob, cardset, softcard, archive}
+use Rattle.rules.proofs.Samples.{rec, hash, openGroup, signGroup, limited, certifiedGroup, sign, decrypt, otherMechanism, counting, reducible, expandable, reduce, enlarge, hint, bundle, uncertifiedBundle, blob, cardset, softcard, archive, keyless}
 
 -- What an example states: the gate's answer with the whole ledger handed back, the desk's verdict, or the subject writer's reply with the whole
 -- buffer.
@@ -101,7 +101,7 @@ starred =
 -- What document 01 shuts out ("denying all", "permitting all", "protection always 1", "a gate that never charges or spends a whole limit at load",
 -- "a narrowing check that always says 8", "made-up counters", "a writer that writes nothing") or fears ("Grading by the first blob action",
 -- "Trusting hkm because it is listed", "Letting two new groups share one source"), as far as no starred row does; and, of document 02, a refusal that
--- always carries group 0.
+-- always carries group 0, and an open group's MakeArchiveBlob action without kahash.
 unfoldable pub guards : List Example
 guards =
     gate 0 (counting 3 2) (sign 5) is answered (permit 0) (ledgerOf (1 ∷ []) (0 ∷ 0 ∷ 0 ∷ 1 ∷ []) 0 5)
@@ -120,6 +120,9 @@ guards =
     ∷ judged (desk uncertifiedBundle (openGroup ++ blob 5 (hash 0) [])) is fails WB2
     ∷ write 5 1 (hash 1 ++ hash 2 ++ hash 3) (replicate 76 8) is wrote (written 74) (ascii "Card Recovery" ++ (0 ∷ []) ++ hash 1 ++ hash 2 ++ hash 3 ++ (8 ∷ 8 ∷ []))
     ∷ write 3 1 (hash 1 ++ hash 2 ++ hash 3) (replicate 71 8) is wrote (unwritten 9) (replicate 71 8)
+    ∷ gate 0 (openGroup ++ keyless) (sign 5) is refuses 12 0
+    ∷ gate 0 (certifiedGroup ++ keyless) (sign 5) is refusesNear 6 0 0
+    ∷ attest (openGroup ++ keyless) is judged (faulty 12)
     ∷ []
 
 -- what is computed is what is stated, row by row

@@ -9,7 +9,7 @@ use Rattle.rules.specs.Basics.{Bytes}
 use Rattle.rules.specs.Ledger.{freshLedger}
 use Rattle.rules.specs.Gate.{Outcome, refused, permitted, request, narrow, expand}
 use Rattle.rules.proofs.Computing.{computing}
-use Rattle.rules.proofs.Samples.{rec, repeated, timed, hash, openGroup, signAction, signGroup, sign, decrypt, counting, reducible, expandable, reduce, enlarge, hint}
+use Rattle.rules.proofs.Samples.{rec, repeated, timed, hash, openGroup, signAction, signGroup, sign, decrypt, counting, reducible, expandable, reduce, enlarge, hint, keyless}
 use Rattle.rules.proofs.Examples.{ledgerOf}
 
 -- a request of a fresh ledger
@@ -200,11 +200,17 @@ blank-rows =
     }
 
 -- "Order: 1 over all inputs, then records from the first, inputs in the order ACL, request with certificates, new ACL, hints .. then 4, 5, 6, 7, 8."
+-- 12 is "given while the action record is read, after 2 and 3".
 pub record OrderRows : Type 0 where
   pub lengths-first : narrow freshLedger (hash 0) stray (reduce 6) signGroup (0 ∷ []) ≡ refuses 1
   pub acl-before-request : asks (repeated (groupsMax + 1) openGroup) stray ≡ refuses 3
   pub request-before-new-acl : expand freshLedger (hash 0) expandable stray (repeated (groupsMax + 1) openGroup) ≡ refuses 2
   pub new-acl-before-hints : narrow freshLedger (hash 0) reducible (reduce 6) (repeated (groupsMax + 1) openGroup) stray ≡ refuses 3
+  pub key-of-old-acl : expand freshLedger (hash 0) (expandable ++ keyless) (enlarge 6) stray ≡ refuses 12
+  pub key-of-new-acl : narrow freshLedger (hash 0) reducible (reduce 6) (openGroup ++ keyless) stray ≡ refuses 12
+  pub key-before-later-records : asks (openGroup ++ keyless ++ stray) (sign 5) ≡ refuses 12
+  pub key-after-layout : asks (openGroup ++ rec (5 ∷ [])) (sign 5) ≡ refuses 2
+  pub key-after-room : asks (openGroup ++ repeated actionsMax signAction ++ keyless) (sign 5) ≡ refuses 3
   pub hints-before-time : narrow (ledgerOf [] [] 9 9) (hash 0) reducible (reduce 6) signGroup stray ≡ refused (ledgerOf [] [] 9 9) 2
   pub request-before-time : request (ledgerOf [] [] 9 9) (hash 0) signGroup (sign 5 ++ stray) ≡ refused (ledgerOf [] [] 9 9) 2
   pub time-before-groups : request (ledgerOf [] [] 9 9) (hash 0) [] (sign 5) ≡ refused (ledgerOf [] [] 9 9) 4
@@ -217,6 +223,11 @@ order-rows =
       acl-before-request = refl;
       request-before-new-acl = refl;
       new-acl-before-hints = refl;
+      key-of-old-acl = refl;
+      key-of-new-acl = refl;
+      key-before-later-records = refl;
+      key-after-layout = refl;
+      key-after-room = refl;
       hints-before-time = refl;
       request-before-time = refl;
       time-before-groups = refl;

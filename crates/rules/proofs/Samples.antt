@@ -105,3 +105,7 @@ softcard = 0 ∷ 1 ∷ 1 ∷ 2 ∷ 0 ∷ 0 ∷ 0 ∷ 0 ∷ []
 -- MakeArchiveBlob under hkre, by suite 3's mechanism
 abbrev pub archive : Bytes
 archive = rec (5 ∷ 0 ∷ 0 ∷ 1 ∷ [] ++ hash 7 ++ (0 ∷ 2 ∷ []))
+
+-- MakeArchiveBlob without kahash
+abbrev pub keyless : Bytes
+keyless = rec (5 ∷ 0 ∷ 0 ∷ 0 ∷ [] ++ hash 0 ++ (0 ∷ 2 ∷ []))

@@ -1,6 +1,7 @@
 use Rattle.rules.specs.Acl.{afterRecord}
 use Rattle.rules.proofs.Choices.{picks}
-use Rattle.acl.proofs.Laws.{group-fits, limit-fits, action-fits, limit-next}
+use Rattle.acl.proofs.Laws.{group-fits, limit-fits, action-fits, limit-next, group-next}
+use Rattle.acl.specs.Places.{placeOf}
 use borrow.Author.Needs.{needs}
 use Rattle.acl.proofs.Place.after.Statement.{statement}
 use Rattle.acl.proofs.Place.after.Tie as tie
@@ -13,9 +14,13 @@ add-t8 c = let a = c .before .before .before .before .before in
     let h = group-fits (a .args .self) (a .args .rec .now) (a .pre .0) (c .before .if1 .taken) in
     search needs
 
+flag-of-requires : tie.Need-flag-of-requires
+flag-of-requires c κs = search needs
+
 returns : tie.Need-returns
-unfolding afterRecord
-returns c = (search (needs, picks), search needs)
+returns c =
+    let a = c .before .before .before .before .before .before in
+    (group-next (placeOf (a .args .self)) (a .args .rec .now) _ (c .before .before .if1 .taken) (c .flag-of .ensures), search needs)
 
 be16-requires : tie.Need-be16-requires
 be16-requires c κs = search needs
@@ -27,8 +32,8 @@ returns-2 : tie.Need-returns-2
 unfolding afterRecord
 returns-2 c = (search (needs, picks, limit-next), search needs)
 
-add-t10 : tie.Need-add-t10
-add-t10 c = let a = c .before .before .before .before .before .before in
+add-t12 : tie.Need-add-t12
+add-t12 c = let a = c .before .before .before .before .before .before in
     let h = action-fits (a .args .self) (a .args .rec .now) (a .pre .0) (c .before .before .if1 .left) (c .before .if2 .left) in
     search needs
 
@@ -42,9 +47,10 @@ after-spec =
     (tie.spec
     shared-slice-read-kind
     add-t8
+    flag-of-requires
     returns
     be16-requires
     after-limit-requires
     returns-2
-    add-t10
+    add-t12
     returns-3)
