@@ -12,6 +12,7 @@ pub enum Refusal {
     ShortBuffer,
     OutOfRange,
     UnknownSuite,
+    OpenArchive,
 }
 
 /// Groups of an ACL; limits and actions of a group; listed module keys of a bundle.
@@ -49,10 +50,11 @@ pub fn whole(file: &[u8], most: usize) -> Result<&[Record], Refusal> {
     Ok(records)
 }
 
-// Where reading an ACL stands: groups begun; of the last group the limits, with the sort and counter of each, and the actions.
+// Where reading an ACL stands: groups begun; of the last group whether it is open, the limits, with the sort and counter of each, and the actions.
 #[derive(Default)]
 struct Place {
     groups: usize,
+    open: bool,
     limits: usize,
     actions: usize,
     keys: [u16; LIMITS],
@@ -63,6 +65,7 @@ impl Place {
         unless(is_group(rec), Refusal::Malformed)?;
         unless(self.groups < GROUPS, Refusal::TooMany)?;
         self.groups += 1;
+        self.open = !flag(rec, 0);
         self.limits = 0;
         self.actions = 0;
         Ok(())
@@ -85,6 +88,12 @@ impl Place {
         self.actions += 1;
         Ok(())
     }
+
+    // An open group's archive action names its key.
+    fn archive(&mut self, rec: &Record) -> Result<(), Refusal> {
+        self.action(is_archive_action(rec))?;
+        unless(!self.open || flag(rec, 0), Refusal::OpenArchive)
+    }
 }
 
 /// The first fault of an ACL's records.
@@ -96,7 +105,7 @@ pub fn acl(records: &[Record]) -> Result<(), Refusal> {
             2 => place.limit(rec)?,
             3 => place.action(is_permissions(rec))?,
             4 => place.action(is_blob_action(rec))?,
-            5 => place.action(is_archive_action(rec))?,
+            5 => place.archive(rec)?,
             _ => return Err(Refusal::Malformed),
         }
     }
