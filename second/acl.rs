@@ -22,6 +22,13 @@ pub struct Group {
     pub actions: Vec<Action>,
 }
 
+impl Group {
+    /// "Open means no certifier."
+    pub fn is_open(&self) -> bool {
+        self.certifier.is_none()
+    }
+}
+
 #[derive(Clone, Copy, Debug, PartialEq)]
 pub struct Limit {
     pub sort: Sort,
@@ -45,6 +52,13 @@ pub enum Action {
         kahash: Option<Hash>,
         mechanism: u16,
     },
+}
+
+impl Action {
+    /// Whether it is a MakeArchiveBlob without kahash.
+    pub fn lacks_kahash(&self) -> bool {
+        matches!(self, Action::MakeArchiveBlob { kahash: None, .. })
+    }
 }
 
 #[derive(Clone, Debug, Default, PartialEq)]

@@ -62,9 +62,23 @@ impl Maker {
     fn damage_one(&mut self, files: &mut [(FileKind, &mut Bytes)]) {
         let weights: Vec<u64> = files.iter().map(|(kind, _)| kind.weight()).collect();
         let (kind, file) = &mut files[self.random.weighted(&weights)];
-        self.damage_file(*kind, file);
+        if matches!(kind, FileKind::Acl | FileKind::NewAcl) && self.random.chance(20) {
+            self.open_an_archive(file);
+        } else {
+            self.damage_file(*kind, file);
+        }
         // A second damage must not make a call that no script can hold.
         file.truncate(LONGEST_BYTES);
+    }
+
+    /// An ACL whose last group has an archive action without a key, mostly as an open group.
+    fn open_an_archive(&mut self, file: &mut Bytes) {
+        let mut acl = self.acl();
+        acl.groups.truncate(3);
+        if let Some(group) = acl.groups.last_mut() {
+            self.open_archive(group);
+        }
+        *file = encode::acl(&acl);
     }
 
     /// Two files bad at once: of a wrong length, malformed, or with one thing too many.

@@ -45,7 +45,7 @@ impl Maker {
         }
         let place = self.random.place(acl.groups.len());
         let group = &mut acl.groups[place];
-        match self.random.below(9) {
+        match self.random.below(13) {
             0 => self.groups_up_to(&mut acl, MOST_GROUPS + 1),
             1 => self.groups_up_to(&mut acl, MOST_GROUPS),
             2 => self.five_limits(group),
@@ -59,19 +59,24 @@ impl Maker {
                 let place = self.random.place(group.actions.len() + 1);
                 group.actions.insert(place, action);
             }
+            8..=11 => self.open_archive(group),
             _ => group.limits = vec![self.edge_limit()],
         }
         acl
     }
 
-    /// An ACL or a bundle with one thing too many.
+    /// An ACL or a bundle with one thing too many, or an ACL with an open archive action.
     pub fn one_too_many(&mut self, kind: FileKind, file: &mut Bytes) {
         match kind {
             FileKind::Acl | FileKind::NewAcl => {
                 let mut acl = Acl {
                     groups: vec![self.group(0), self.group(1)],
                 };
-                self.overfill(&mut acl);
+                if self.random.chance(30) {
+                    self.open_archive(&mut acl.groups[0]);
+                } else {
+                    self.overfill(&mut acl);
+                }
                 *file = encode::acl(&acl);
             }
             FileKind::Bundle => {
@@ -81,6 +86,23 @@ impl Maker {
             }
             _ => {}
         }
+    }
+
+    /// An archive action without a key, mostly in an open group; now and then it is malformed too,
+    /// or the ninth action.
+    pub fn open_archive(&mut self, group: &mut Group) {
+        if self.random.chance(75) {
+            group.certifier = None;
+            group.mechanism = None;
+        }
+        let before = self.random.pick(&[0, 1, 2, MOST_ACTIONS - 1, MOST_ACTIONS]);
+        self.actions_up_to(group, before);
+        group.actions.truncate(before);
+        self.name_keys(group);
+        group.actions.push(Action::MakeArchiveBlob {
+            kahash: None,
+            mechanism: self.random.pick(&[0, 1, 1, 2, 256]),
+        });
     }
 
     /// A 17th group, a ninth action or a fifth limit.

@@ -426,6 +426,9 @@ mod tests {
             }
             has(&format!(" {letter} permit"));
         }
+        for letter in ["R", "N", "X", "D", "W"] {
+            has(&format!(" {letter} refuse 12"));
+        }
         has(" N refuse 8");
         has(" C refuse 10");
         for number in [1, 2, 3, 11] {

@@ -251,7 +251,20 @@ impl Maker {
             self.random
                 .pick_weighted(&[(3, 0), (46, 1), (28, 2), (13, 3), (7, 5), (3, 8)]);
         group.actions = (0..actions).map(|_| self.action()).collect();
+        self.name_keys(&mut group);
         group
+    }
+
+    /// Names a recovery key wherever an open group lacks it.
+    pub fn name_keys(&mut self, group: &mut Group) {
+        let open = group.is_open();
+        for action in &mut group.actions {
+            if let Action::MakeArchiveBlob { kahash, .. } = action {
+                if open && kahash.is_none() {
+                    *kahash = Some(self.recovery_key());
+                }
+            }
+        }
     }
 
     pub fn acl(&mut self) -> Acl {
@@ -300,6 +313,7 @@ impl Maker {
             let action = self.action();
             group.actions.push(action);
         }
+        self.name_keys(&mut group);
         group
     }
 

@@ -454,9 +454,11 @@ impl Maker {
     /// Puts an action at any place of a group that is not the officer's, or into a group of its own
     /// at the end.
     fn add_action(&mut self, case: &mut DeskCase, action: Action) -> bool {
+        let lacks_kahash = action.lacks_kahash();
         let fits = |place: &usize| {
             let group = &case.acl.groups[*place];
-            !case.is_officers(group) && group.actions.len() < MOST_ACTIONS
+            let may_take = !(group.is_open() && lacks_kahash);
+            !case.is_officers(group) && may_take && group.actions.len() < MOST_ACTIONS
         };
         let places: Vec<usize> = (0..case.acl.groups.len()).filter(fits).collect();
         if !places.is_empty() && self.random.chance(70) {
@@ -465,7 +467,9 @@ impl Maker {
             let place = self.random.pick(&[any, actions.len()]);
             actions.insert(place, action);
         } else if case.acl.groups.len() < MOST_GROUPS {
+            let certifier = lacks_kahash.then(|| self.not_the_officer(case));
             case.acl.groups.push(Group {
+                certifier,
                 actions: vec![action],
                 ..Group::default()
             });

@@ -341,6 +341,7 @@ impl Maker {
             Breach::CertifierDropped => {
                 group.certifier = None;
                 group.mechanism = None;
+                self.name_keys(group);
             }
             Breach::CertifierChanged => {
                 group.certifier = group.certifier.map(|hash| self.near(hash))
@@ -424,6 +425,7 @@ impl Maker {
         self.random.shuffle(&mut choices);
         for (group, place, source_group, source_place) in choices {
             let source = &old.groups[source_group].actions[source_place];
+            let open = new.groups[group].is_open();
             let action = &mut new.groups[group].actions[place];
             if breach == Breach::OtherKindHinted {
                 let kinds = &old.groups[source_group].actions;
@@ -433,8 +435,11 @@ impl Maker {
                     return true;
                 }
             } else if let Some(wider) = self.widened(action, source, breach) {
-                *action = wider;
-                return true;
+                // In an open group a lost key would be a matter of 12.
+                if !(open && wider.lacks_kahash()) {
+                    *action = wider;
+                    return true;
+                }
             }
         }
         false

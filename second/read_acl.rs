@@ -60,7 +60,15 @@ impl AclReader {
 
     fn add_action(&mut self, record: Record) -> Result<(), Refusal> {
         let action = read_action(record)?;
-        push_up_to(&mut self.group()?.actions, action, MOST_ACTIONS)
+        let group = self.group()?;
+        // "A MakeArchiveBlob entry lacking kahash in an open group is a loophole [...] given while
+        // the action record is read, after 2 and 3."
+        let loophole = group.is_open() && action.lacks_kahash();
+        push_up_to(&mut group.actions, action, MOST_ACTIONS)?;
+        if loophole {
+            return Err(Refusal::OpenArchive);
+        }
+        Ok(())
     }
 }
 
@@ -248,5 +256,34 @@ mod tests {
             groups: vec![Group::default(); 17],
         };
         assert_eq!(read_acl(&encode::acl(&groups)), Err(Refusal::TooMany));
+    }
+
+    #[test]
+    fn an_open_archive_action_without_a_key() {
+        let file = |certifier, before, mechanism| {
+            let mut actions = vec![Action::OpPermissions(16); before];
+            actions.push(Action::MakeArchiveBlob {
+                kahash: None,
+                mechanism,
+            });
+            let group = Group {
+                certifier,
+                actions,
+                ..Group::default()
+            };
+            // A malformed record after it is no longer looked at.
+            [
+                encode::acl(&Acl {
+                    groups: vec![group],
+                }),
+                vec![0; 64],
+            ]
+            .concat()
+        };
+        assert_eq!(read_acl(&file(None, 7, 1)), Err(Refusal::OpenArchive));
+        assert_eq!(read_acl(&file(None, 8, 1)), Err(Refusal::TooMany));
+        assert_eq!(read_acl(&file(None, 8, 0)), Err(Refusal::Malformed));
+        let certified = file(Some([0; 20]), 7, 1);
+        assert!(read_acl(&certified[..certified.len() - 64]).is_ok());
     }
 }

@@ -263,6 +263,7 @@ mod tests {
         assert_eq!(bad_line("group\nOpPermissions Sign\nlimit uses 1\n"), 3);
         assert_eq!(bad_line("group\nlimit uses 1\nlimit uses 2\n"), 3);
         assert_eq!(bad_line("group\nlimit counter 96 uses 1\n"), 2);
+        assert_eq!(bad_line("group\nMakeArchiveBlob mechanism 1\n"), 2);
     }
 
     #[test]

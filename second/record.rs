@@ -26,6 +26,7 @@ pub enum Refusal {
     ShortBuffer,
     NoSuchNumber,
     NoSuchSuite,
+    OpenArchive,
     /// The first line of a text, from 1, that is no line of a listing.
     NotALine {
         line: usize,
@@ -46,6 +47,7 @@ impl Refusal {
             Refusal::ShortBuffer => 9,
             Refusal::NoSuchNumber => 10,
             Refusal::NoSuchSuite => 11,
+            Refusal::OpenArchive => 12,
             Refusal::NotALine { .. } => 15,
         }
     }
