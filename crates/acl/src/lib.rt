@@ -113,7 +113,7 @@ impl Place {
     }
 
     // Whether a record is none that opens the key to any recovery key: a MakeArchiveBlob action without kahash in an open group.
-    fn is_keyed(self, rec: &[u8]) -> bool
+    pub fn is_keyed(self, rec: &[u8]) -> bool
         requires { ⌜ length (now rec) ≡ recordBytes ⌝ }
         ensures { λ r. ⌜ r ≡ keyed (placeOf self .isOpen) (now (rec .entry)) ⌝ }
     {

@@ -125,7 +125,7 @@ fn is_good(place: Place, rec: [u8; sizes::RECORD], line: &[u8]) -> bool
     requires { ⌜ (place .limits ≤ limitsMax) × (rec ≡ decoded (now line)) ⌝ }
     ensures { λ r. ⌜ r ≡ goodLine (placeOf place) (now (line .entry)) ⌝ }
 {
-    place.in_place(&rec) & place.has_room(&rec) & is_line(&rec, line)
+    place.in_place(&rec) & place.has_room(&rec) & place.is_keyed(&rec) & is_line(&rec, line)
 }
 
 // The first pass: each line is decoded once, judged, and its record gives the next place.
