@@ -68,7 +68,8 @@ akubolinfe_outcome akubolinfe_load(akubolinfe_ledger ledger, uint64_t time);
 /* A clear of one named counter, 0 to 95. */
 akubolinfe_outcome akubolinfe_clear(akubolinfe_ledger ledger, size_t counter);
 
-/* A request for a use or a blob: the KM0 hash, the ACL in force, the request record with its certificates. */
+/* A request for a use or a blob: the KM0 hash, the ACL in force, the request record with up to 32 certificates (kind 9),
+ * then up to 16 delegations (kind 14): at most 49 records. */
 akubolinfe_outcome akubolinfe_request(akubolinfe_ledger ledger, const uint8_t *km0, size_t km0_length, const uint8_t *acl,
                                       size_t acl_length, const uint8_t *request, size_t request_length);
 

@@ -1,22 +1,22 @@
 -- From a judgement to the outcome: the group that grants stands at its place, is not full, and is charged; a denial keeps the ledger.
-use Prim.Native.Nat.{ℕ, suc, _+_, _-_, _≤_, _<_}
+use Prim.Native.Nat.{ℕ, suc, _+_, _-_, _*_, _%_, _≤_, _<_}
 use native.Mathlib.Omega.{arith}
 use mathlib.Core.Path.{_≡_, refl, sym, _∙_, ap}
 use mathlib.Core.List.{List, [], _∷_}
 use mathlib.Core.Option.{Option, none, some}
 use mathlib.Core.Bool.{Bool, true, false, _&&_}
-use borrow.Author.Tests.{eqb-true, ltb-true, ltb-false}
+use borrow.Author.Tests.{eqb-true, ltb-true, ltb-false, leb-true}
 use lib.ListN.{length, drop, getD}
-use lib.Dec.{eqb, ltb}
-use Rattle.rules.specs.Sizes.{fullCount}
-use Rattle.rules.specs.Numbers.{malformed}
-use Rattle.rules.specs.Basics.{Bytes, all, records}
+use lib.Dec.{eqb, ltb, leb}
+use Rattle.rules.specs.Sizes.{recordBytes, hashBytes, fullCount, aclRecords, requestRecords}
+use Rattle.rules.specs.Numbers.{badLength, malformed}
+use Rattle.rules.specs.Basics.{Bytes, all, records, fits}
 use Rattle.rules.specs.Acl.{Limit, Group}
 use Rattle.rules.specs.Request.{Request, requestLaidOut, requestFault}
 use Rattle.rules.specs.Ledger.{Ledger, charge}
 use Rattle.rules.specs.Grant.{limitLeft, limitsLeft, groupAdmits, certified, unspent}
-use Rattle.rules.specs.Gate.{Outcome, Lowest, nobody, group, lowest, Denial, early, unadmitted, uncertified, exhausted, Judgement, granted, denied, grants, tooEarly, whyNot, judgedBy, judge, refusedNear, refused, settle, unlessFault, requestFiles}
-use Rattle.rules.proofs.Laws.{never, and-left, and-right, and-both, implication, fault-none-every}
+use Rattle.rules.specs.Gate.{Outcome, Lowest, nobody, group, lowest, Denial, early, unadmitted, uncertified, exhausted, Judgement, granted, denied, grants, tooEarly, whyNot, judgedBy, judge, refusedNear, refused, settle, unlessFault, lengthsFit, requestFiles}
+use Rattle.rules.proofs.Laws.{never, and-left, and-right, and-both, implication, unless-passed, fault-none-every}
 use Rattle.rules.proofs.Rows.{no-rows}
 use Rattle.groups.specs.Parts.{firstLimits}
 use Rattle.refusals.specs.declared.Denial as code
@@ -149,6 +149,16 @@ module _ (l : Ledger) (fault : Option ℕ) (o s : Outcome) where
   pub not-refused : fault ≡ none → o ≡ s → o ≡ unlessFault l fault s
   not-refused e p = p ∙ sym (rw e)
 
--- the request's records are sound where a request's files are
-pub files-sound : (km0 acl req : Bytes) → requestFiles km0 acl req ≡ none → 64 ≤ length req
-files-sound km0 acl req e = let h = fault-none-every _ e in sound-request requestLaidOut req (h .1 .1 .0)
+-- A request file that fits is short: at most 63 records, as many as the bits of a set of delegations less one.
+pub fitting-request : (km0 acl req : Bytes) → lengthsFit km0 acl req ≡ true → length req ≤ 4032
+unfolding fits
+fitting-request km0 acl req e =
+    let f : fits requestRecords req ≡ true = and-right (eqb (length km0) hashBytes && fits aclRecords acl) (fits requestRecords req) e in
+    let a = leb-true (length req) (requestRecords * recordBytes) (and-right (eqb (length req % recordBytes) 0) (leb (length req) (requestRecords * recordBytes)) f) in
+    omega arith
+
+-- a request's files without fault: its record is there, and the file is short
+pub files-sound : (km0 acl req : Bytes) → requestFiles km0 acl req ≡ none → (64 ≤ length req) × (length req ≤ 4032)
+files-sound km0 acl req e =
+    let h = fault-none-every _ e in
+    (sound-request requestLaidOut req (h .1 .1 .0), fitting-request km0 acl req (unless-passed (lengthsFit km0 acl req) badLength (h .0)))

@@ -202,7 +202,7 @@ fn request_files(km0: &[u8], acl: &[u8], req: &[u8]) -> Checked
 impl Ledger {
     // What becomes of a request whose files are sound: the lowest group that grants is charged, or the refusal says how far the groups came.
     fn settle(self, km0: &[u8], acl: &[u8], req: &[u8]) -> Outcome
-        requires { ⌜ recordBytes ≤ length (now req) ⌝ }
+        requires { ⌜ (recordBytes ≤ length (now req)) × (length (now req) ≤ 4032) ⌝ }
         ensures { λ r. ⌜ outcomeOf r ≡ settle (ledgerOf self) (requestOf (now (req .entry)) .time) permitted (judge (ledgerOf self) (now (km0 .entry)) (aclOf (now (acl .entry))) (requestOf (now (req .entry)))) ⌝ }
     {
         let loaded = self.loaded;
@@ -387,7 +387,7 @@ impl Ledger {
 
     // What becomes of a narrowing whose files are sound.
     fn settle_narrow(self, km0: &[u8], acl: &[u8], req: &[u8], new: &[u8], hints: &[u8]) -> Outcome
-        requires { ⌜ (recordBytes ≤ length (now req)) × (length (hintsOf (now hints)) ≤ groupsMax) ⌝ }
+        requires { ⌜ ((recordBytes ≤ length (now req)) × (length (now req) ≤ 4032)) × (length (hintsOf (now hints)) ≤ groupsMax) ⌝ }
         ensures { λ r. ⌜ outcomeOf r ≡ settle (ledgerOf self) (requestOf (now (req .entry)) .time) (narrowed (ledgerOf self) (aclOf (now (acl .entry))) (aclOf (now (new .entry))) (hintsOf (now (hints .entry)))) (judge (ledgerOf self) (now (km0 .entry)) (aclOf (now (acl .entry))) (requestOf (now (req .entry)))) ⌝ }
     {
         let loaded = self.loaded;
@@ -416,7 +416,7 @@ impl Ledger {
 
     // What becomes of an expansion whose files are sound.
     fn settle_expand(self, km0: &[u8], acl: &[u8], req: &[u8]) -> Outcome
-        requires { ⌜ recordBytes ≤ length (now req) ⌝ }
+        requires { ⌜ (recordBytes ≤ length (now req)) × (length (now req) ≤ 4032) ⌝ }
         ensures { λ r. ⌜ outcomeOf r ≡ settle (ledgerOf self) (requestOf (now (req .entry)) .time) expanded (judge (ledgerOf self) (now (km0 .entry)) (aclOf (now (acl .entry))) (requestOf (now (req .entry)))) ⌝ }
     {
         let loaded = self.loaded;

@@ -4,74 +4,21 @@ use native.Mathlib.Numerals.{add-one}
 use native.Mathlib.Omega.{arith}
 use mathlib.Core.Path.{_≡_, sym, _∙_, ap}
 use mathlib.Core.List.{List, _∷_}
-use mathlib.Core.Option.{Option}
-use mathlib.Core.Bool.{Bool, true, false, not}
-use borrow.Author.Tests.{eq-eqb, ne-eqb, not-true, not-false}
-use lib.ListN.{length, getD, List·getD-eq-default, drop}
-use lib.Dec.{eqb, ltb}
-use Rattle.rules.specs.Basics.{Bytes, any, same, part, number, byte, flag, optional, matchesNumber, records}
-use Rattle.rules.specs.Acl.{limitOf, Group, groupOf, groupsOf}
-use Rattle.rules.specs.Request.{Wanted, Certificate, certificateOf, certificatesOf}
-use Rattle.rules.specs.Grant.{serves, certifiedBy, counterLeft, limitLeft}
-use Rattle.rules.proofs.Rows.{recordsFrom, rows-lent, rows-end, rows-rest, lentRecord, lentRest, lent-record, kind-at}
+use mathlib.Core.Bool.{Bool, true, false}
+use borrow.Author.Tests.{eq-eqb, ne-eqb}
+use lib.ListN.{length, take, drop, getD, List·getD-eq-default}
+use lib.Dec.{ltb}
+use Rattle.rules.specs.Basics.{Bytes, any, number, byte, records}
+use Rattle.rules.specs.Acl.{limitOf, Action, Group, groupOf, groupsOf}
+use Rattle.rules.specs.Request.{Wanted, wantedOf, Request, requestOf}
+use Rattle.rules.specs.Grant.{admits, counterLeft, limitLeft}
+use Rattle.rules.proofs.Rows.{wanted-first, recordsFrom, rows-lent, rows-end, rows-rest, lentRecord, lentRest, lent-record, kind-at}
 use Rattle.judging.specs.declared.Standing.{Standing}
 use Rattle.judging.specs.declared.Near.{Near}
 use Rattle.refusals.specs.declared.Denial.{Denial}
 use Rattle.judging.specs.declared.Judged.{Judged}
 use Rattle.judging.specs.declared.Judged.the-variants.{Granted, Denied}
 use Rattle.judging.specs.Standings.{isGranting, nearer, denialOf, judgedFrom, standingWith, standing, recordStanding, NextGroup}
-
--- a field that a flag announces
-module _ (u : Bool) (m n : ℕ) where
-  pub number-absent : not u ≡ true → true ≡ matchesNumber (optional u m) n
-  number-absent e = sym (rw (not-true u e))
-
-  pub number-present : not u ≡ false → eqb m n ≡ matchesNumber (optional u m) n
-  number-present e = sym (rw (not-false u e))
-
-module _ (u : Bool) (k : Bytes) (m : Option ℕ) (cs : List Certificate) (f : Bool) (d : f ≡ u) where
-  pub certifier-absent : not f ≡ true → true ≡ certifiedBy (optional u k) m cs
-  certifier-absent e = sym (rw (sym d ∙ not-true f e))
-
-  pub certifier-present : (r : Bool) → not f ≡ false → r ≡ any (serves k m) cs → r ≡ certifiedBy (optional u k) m cs
-  certifier-present r e p = p ∙ sym (rw (sym d ∙ not-false f e))
-
-module _ (g c : Bytes) (a : Bool) (p : a ≡ same (part 4 20 c) (part 4 20 g)) where
-  pub serves-not : not a ≡ true → false ≡ serves (part 4 20 g) (optional (flag 1 g) (number 24 2 g)) (certificateOf c)
-  unfolding serves
-  serves-not e = sym (rw (sym p ∙ not-true a e))
-
-  pub serves-is : (f b : Bool) (m n : ℕ) → not a ≡ false → f ≡ flag 1 g → m ≡ number 24 2 g → n ≡ number 24 2 c → b ≡ matchesNumber (optional f m) n
-      → b ≡ serves (part 4 20 g) (optional (flag 1 g) (number 24 2 g)) (certificateOf c)
-  unfolding serves
-  serves-is f b m n e q r s t = rw (t, q, r, s) (sym (rw (sym p ∙ not-false a e)))
-
--- A loop over certificates.
-module _ (p : Certificate → Bool) (s : Bytes) (at : ℕ) (x : Bool) (inv : any p (certificatesOf (recordsFrom s at)) ≡ x) where
-  certs-step : 64 ≤ length s - at → getD s at 0 ≡ 9 → certificatesOf (recordsFrom s at) ≡ certificateOf (lentRecord s at) ∷ certificatesOf (recordsFrom s (at + 64))
-  unfolding certificatesOf
-  certs-step h e = ap certificatesOf (rows-lent s at h) ∙ rw (lent-record s at, kind-at s at, eq-eqb (getD s at 0) 9 e)
-
-  pub certs-skip : 64 ≤ length s - at → (getD s at 0 ≡ 9 → ⊥) → any p (certificatesOf (recordsFrom s (at + 64))) ≡ x
-  unfolding certificatesOf
-  certs-skip h n =
-      sym (ap (λ (l : List Bytes). any p (certificatesOf l)) (rows-lent s at h) ∙ rw (lent-record s at, kind-at s at, ne-eqb (getD s at 0) 9 n)) ∙ inv
-
-  pub certs-found : (t : Bool) → 64 ≤ length s - at → getD s at 0 ≡ 9 → t ≡ p (certificateOf (lentRecord s at)) → t ≡ true → true ≡ x
-  unfolding any
-  certs-found t h e d y =
-      let q : p (certificateOf (lentRecord s at)) ≡ true = sym d ∙ y in
-      sym (ap (any p) (certs-step h e) ∙ rw q) ∙ inv
-
-  pub certs-next : (t : Bool) → 64 ≤ length s - at → getD s at 0 ≡ 9 → t ≡ p (certificateOf (lentRecord s at)) → t ≡ false → any p (certificatesOf (recordsFrom s (at + 64))) ≡ x
-  unfolding any
-  certs-next t h e d y =
-      let q : p (certificateOf (lentRecord s at)) ≡ false = sym d ∙ y in
-      sym (ap (any p) (certs-step h e) ∙ rw q) ∙ inv
-
-  pub certs-none : length s - at < 64 → false ≡ x
-  unfolding any certificatesOf
-  certs-none h = sym (ap (λ (l : List Bytes). any p (certificatesOf l)) (rows-end s at h)) ∙ inv
 
 -- a count past a table
 pub past-table : (t : List ℕ) (i : ℕ) → length t ≤ i → 0 ≡ getD t i 0
@@ -141,11 +88,15 @@ module _ (f : ℕ → Group → Standing) (s : Bytes) (at : ℕ) (near : Near) (
   groups-done d h e = ap Denied e ∙ sym (ap (λ (l : List Bytes). judgedFrom f near place (groupsOf l)) (rows-end s at h)) ∙ inv
 
 -- a group's standing, as the code asked for it
-pub standing-at : (counts counters : List ℕ) (own elapsed : ℕ) (km0 : Bytes) (w : Wanted) (cs : List Certificate) (place : ℕ) (s : Bytes) (at : ℕ) (t : Standing)
-    → own ≡ getD counts place 0 → t ≡ recordStanding counters own elapsed km0 w cs (lentRecord s at) (records (lentRest s (at + 64)))
-    → t ≡ standing counts counters elapsed km0 w cs place (groupOf (lentRecord s at) (recordsFrom s (at + 64)))
+pub standing-at : (counts counters : List ℕ) (own elapsed : ℕ) (km0 : Bytes) (q : Request) (place : ℕ) (s : Bytes) (at : ℕ) (t : Standing)
+    → own ≡ getD counts place 0 → t ≡ recordStanding counters own elapsed km0 q (lentRecord s at) (records (lentRest s (at + 64)))
+    → t ≡ standing counts counters elapsed km0 q place (groupOf (lentRecord s at) (recordsFrom s (at + 64)))
 unfolding standing recordStanding
-standing-at counts counters own elapsed km0 w cs place s at t o e =
+standing-at counts counters own elapsed km0 q place s at t o e =
     e
-    ∙ ap (λ (n : ℕ). standingWith counters n elapsed km0 w cs (groupOf (lentRecord s at) (records (lentRest s (at + 64))))) o
-    ∙ ap (λ (l : List Bytes). standingWith counters (getD counts place 0) elapsed km0 w cs (groupOf (lentRecord s at) l)) (rows-rest s (at + 64))
+    ∙ ap (λ (n : ℕ). standingWith counters n elapsed km0 q (groupOf (lentRecord s at) (records (lentRest s (at + 64))))) o
+    ∙ ap (λ (l : List Bytes). standingWith counters (getD counts place 0) elapsed km0 q (groupOf (lentRecord s at) l)) (rows-rest s (at + 64))
+
+-- a group that admits what the request record asks for admits the request
+pub admits-asked : (km0 s : Bytes) (acts : List Action) (r : Bool) → r ≡ any (admits km0 (wantedOf (take 64 s))) acts → 64 ≤ length s → r ≡ any (admits km0 (requestOf s .wanted)) acts
+admits-asked km0 s acts r e h = e ∙ ap (λ (w : Wanted). any (admits km0 w) acts) (wanted-first s h)

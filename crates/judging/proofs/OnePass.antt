@@ -4,15 +4,13 @@ use mathlib.Core.Path.{_≡_, refl, sym, _∙_, ap}
 use mathlib.Core.List.{List, [], _∷_}
 use mathlib.Core.Bool.{Bool, true, false, _&&_}
 use borrow.Author.Tests.{lt-ltb, le-ltb}
-use lib.ListN.{length, take, drop}
 use lib.Dec.{ltb}
-use Rattle.rules.specs.Basics.{Bytes, records}
+use Rattle.rules.specs.Basics.{Bytes}
 use Rattle.rules.specs.Acl.{Group}
-use Rattle.rules.specs.Request.{Request, Wanted, Certificate, wantedOf, certificatesOf, requestFrom, requestOf}
+use Rattle.rules.specs.Request.{Request}
 use Rattle.rules.specs.Ledger.{Ledger}
 use Rattle.rules.specs.Grant.{groupAdmits, certified, unspent}
 use Rattle.rules.specs.Gate.{Lowest, nobody, group, lowest, ofCertified, whyNot, grants, judgedBy, judge}
-use Rattle.rules.proofs.Rows.{first}
 use Rattle.judging.specs.declared.Standing.{Standing}
 use Rattle.judging.specs.declared.Near.{Near}
 use Rattle.judging.specs.declared.Near.the-variants as near
@@ -88,7 +86,7 @@ module _ (admitting certifying : Group → Bool) (left : ℕ → Group → Bool)
 
 -- .. of the ledger and the request
 module _ (l : Ledger) (km0 : Bytes) (q : Request) where
-  pub judged-is : (gs : List Group) → judgedFrom (standing (l .counts) (l .counters) (q .time - l .loaded) km0 (q .wanted) (q .certificates)) near.Nothing 0 gs
+  pub judged-is : (gs : List Group) → judgedFrom (standing (l .counts) (l .counters) (q .time - l .loaded) km0 q) near.Nothing 0 gs
       ≡ judgedAs (judgedBy (whyNot km0 gs q) (lowest (grants l km0 q) 0 gs))
   unfolding standing
   judged-is gs = one-pass (groupAdmits km0 q) (certified q) (λ k. unspent l k q) near.Nothing 0 gs ∙ settle (lowest (grants l km0 q) 0 gs)
@@ -111,19 +109,9 @@ module _ (counts counters : List ℕ) (loaded last t : ℕ) (km0 : Bytes) (gs : 
       pick true d = sym (rw (← e, d))
       pick false d = sym (rw (← e, d, lt-ltb t last h))
 
-  pub in-time : (w : Wanted) (cs : List Certificate) (r : Judged) → loaded ≤ t → last ≤ t → w ≡ q .wanted → cs ≡ q .certificates
-      → r ≡ judgedFrom (standing counts counters (t - loaded) km0 w cs) near.Nothing 0 gs → r ≡ judgedAs (judge (tablesOf counts counters loaded last) km0 gs q)
+  pub in-time : (r : Judged) → loaded ≤ t → last ≤ t → r ≡ judgedFrom (standing counts counters (t - loaded) km0 q) near.Nothing 0 gs
+      → r ≡ judgedAs (judge (tablesOf counts counters loaded last) km0 gs q)
   unfolding judge
-  in-time w cs r h k a b d =
-      let x : judgedFrom (standing counts counters (t - loaded) km0 w cs) near.Nothing 0 gs ≡ judgedFrom (standing counts counters (q .time - loaded) km0 (q .wanted) (q .certificates)) near.Nothing 0 gs = rw (e, a, b) in
+  in-time r h k d =
+      let x : judgedFrom (standing counts counters (t - loaded) km0 q) near.Nothing 0 gs ≡ judgedFrom (standing counts counters (q .time - loaded) km0 q) near.Nothing 0 gs = ap (λ (n : ℕ). judgedFrom (standing counts counters (n - loaded) km0 q) near.Nothing 0 gs) e in
       d ∙ x ∙ judged-is (tablesOf counts counters loaded last) km0 q gs ∙ sym (rw (← e, le-ltb t loaded h, le-ltb t last k))
-
--- what a request file asks for, by its first record
-pub wanted-first : (s : Bytes) → 64 ≤ length s → wantedOf (take 64 s) ≡ requestOf s .wanted
-unfolding requestFrom
-wanted-first s h = sym (ap (λ (l : List Bytes). requestFrom l .wanted) (first s h))
-
--- .. and the certificates that follow it
-pub certificates-rest : (s r : Bytes) → 64 ≤ length s → r ≡ drop 64 s → certificatesOf (records r) ≡ requestOf s .certificates
-unfolding requestFrom
-certificates-rest s r h e = ap (λ (b : Bytes). certificatesOf (records b)) e ∙ sym (ap (λ (l : List Bytes). requestFrom l .certificates) (first s h))

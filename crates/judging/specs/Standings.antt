@@ -4,11 +4,11 @@ use mathlib.Core.Path.{_≡_}
 use mathlib.Core.List.{List, [], _∷_}
 use mathlib.Core.Bool.{Bool, true, false}
 use lib.ListN.{length, getD, drop}
-use Rattle.rules.specs.Basics.{if_then_else_, Bytes, any, records}
+use Rattle.rules.specs.Basics.{if_then_else_, Bytes, records}
 use Rattle.rules.specs.Acl.{Group, groupOf, groupsOf}
-use Rattle.rules.specs.Request.{Wanted, Certificate}
+use Rattle.rules.specs.Request.{Request}
 use Rattle.rules.specs.Ledger.{Ledger}
-use Rattle.rules.specs.Grant.{admits, certifiedBy, unspentWith}
+use Rattle.rules.specs.Grant.{groupAdmits, certified, unspentWith}
 use Rattle.rules.specs.Gate.{Denial, early, unadmitted, uncertified, exhausted, Judgement, granted, denied}
 use Rattle.judging.specs.declared.Standing.{Standing}
 use Rattle.judging.specs.declared.Standing.the-variants.{Silent, Admitting, Certified, Granting}
@@ -54,19 +54,17 @@ judgedFrom standing n place [] = Denied (denialOf n)
 judgedFrom standing n place (g ∷ gs) =
     if isGranting (standing place g) then Granted place else judgedFrom standing (nearer n (standing place g) place) (suc place) gs
 
--- a group's standing by the ledger's named counters, its own count, the seconds since load, and what a request asks for and presents
-abbrev pub standingWith : List ℕ → ℕ → ℕ → Bytes → Wanted → List Certificate → Group → Standing
-standingWith counters own elapsed km0 wanted certificates g =
-    standingOf (any (admits km0 wanted) (g .actions)) (certifiedBy (g .certifier) (g .mechanism) certificates)
-    (unspentWith counters own elapsed (g .limits))
+-- a group's standing for a request by the ledger's named counters, its own count and the seconds since load
+abbrev pub standingWith : List ℕ → ℕ → ℕ → Bytes → Request → Group → Standing
+standingWith counters own elapsed km0 q g = standingOf (groupAdmits km0 q g) (certified q g) (unspentWith counters own elapsed (g .limits))
 
 -- .. of a group at its place
-unfoldable pub standing : List ℕ → List ℕ → ℕ → Bytes → Wanted → List Certificate → ℕ → Group → Standing
-standing counts counters elapsed km0 wanted certificates place g = standingWith counters (getD counts place 0) elapsed km0 wanted certificates g
+unfoldable pub standing : List ℕ → List ℕ → ℕ → Bytes → Request → ℕ → Group → Standing
+standing counts counters elapsed km0 q place g = standingWith counters (getD counts place 0) elapsed km0 q g
 
 -- .. of a group by its first record and those that follow
-unfoldable pub recordStanding : List ℕ → ℕ → ℕ → Bytes → Wanted → List Certificate → Bytes → List Bytes → Standing
-recordStanding counters own elapsed km0 wanted certificates r rest = standingWith counters own elapsed km0 wanted certificates (groupOf r rest)
+unfoldable pub recordStanding : List ℕ → ℕ → ℕ → Bytes → Request → Bytes → List Bytes → Standing
+recordStanding counters own elapsed km0 q r rest = standingWith counters own elapsed km0 q (groupOf r rest)
 
 -- the denial and the judgement of the definitions, as the code answers them
 abbrev pub denialAs : Denial → code.Denial

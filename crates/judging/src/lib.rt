@@ -1,13 +1,13 @@
-// Judging a request on an ACL: whether a group is certified and unspent, the lowest group that admits and is both, and else how far the groups come.
+// Judging a request on an ACL: whether a group is unspent, the lowest group that admits, is certified and unspent, and else how far the groups come.
 // The functions take the ledger's tables and times, not the ledger; they decode whatever bytes stand there.
 ghost use mathlib.Core.Path.{_≡_};
 ghost use Prim.Native.Nat.{_≤_};
 ghost use lib.ListN.{length, getD};
-ghost use Rattle.rules.specs.Sizes.{recordBytes, hashBytes};
-ghost use Rattle.rules.specs.Basics.{any, part, number, flag, optional, matchesNumber, records};
+ghost use Rattle.rules.specs.Sizes.{recordBytes};
+ghost use Rattle.rules.specs.Basics.{records};
 ghost use Rattle.rules.specs.Acl.{limitOf, limitsOf, aclOf};
-ghost use Rattle.rules.specs.Request.{certificateOf, certificatesOf, requestOf, wantedOf};
-ghost use Rattle.rules.specs.Grant.{serves, certifiedBy, counterLeft, limitLeft, limitsLeft, unspentWith};
+ghost use Rattle.rules.specs.Request.{requestOf};
+ghost use Rattle.rules.specs.Grant.{counterLeft, limitLeft, limitsLeft, unspentWith};
 ghost use Rattle.rules.specs.Gate.{judge};
 ghost use Rattle.judging.specs.Standings.{isGranting, nearer, denialOf, judgedFrom, standing, recordStanding, judgedAs, tablesOf, NextGroup};
 use refusals::Denial;
@@ -34,61 +34,6 @@ enum Near {
 pub enum Judged {
     Granted(usize),
     Denied(Denial),
-}
-
-// A number against that of a group, if it has one.
-fn matches_number(used: bool, wanted: u16, n: u16) -> bool
-    ensures { λ r. ⌜ r ≡ matchesNumber (optional used wanted) n ⌝ }
-{
-    if !used {
-        return true;
-    }
-    wanted == n
-}
-
-// Whether a certificate has the hash of a group's certifier and, where named, its mechanism.
-fn certificate_serves(group: &[u8], cert: &[u8]) -> bool
-    requires { ⌜ (length (now group) ≡ recordBytes) × (length (now cert) ≡ recordBytes) ⌝ }
-    ensures { λ r. ⌜ r ≡ serves (part 4 hashBytes (now (group .entry))) (optional (flag 1 (now (group .entry))) (number 24 2 (now (group .entry)))) (certificateOf (now (cert .entry))) ⌝ }
-{
-    if !fields::same_bytes(&cert[4..24], &group[4..24]) {
-        return false;
-    }
-    matches_number(
-        fields::flag_of(1, group),
-        fields::be16(group, 24),
-        fields::be16(cert, 24),
-    )
-}
-
-// Whether one of the presented certificates does.
-fn some_serves(group: &[u8], certs: &[u8]) -> bool
-    requires { ⌜ length (now group) ≡ recordBytes ⌝ }
-    ensures { λ r. ⌜ r ≡ any (serves (part 4 hashBytes (now (group .entry))) (optional (flag 1 (now (group .entry))) (number 24 2 (now (group .entry))))) (certificatesOf (records (now (certs .entry)))) ⌝ }
-{
-    let mut at = 0;
-    while sizes::RECORD <= certs.len() - at {
-        if certs[at] != 9 {
-            at += sizes::RECORD;
-            continue;
-        }
-        if certificate_serves(group, &certs[at..at + sizes::RECORD]) {
-            return true;
-        }
-        at += sizes::RECORD;
-    }
-    false
-}
-
-// Whether a group is certified: it has no certifier, or a presented certificate serves.
-fn is_certified(group: &[u8], certs: &[u8]) -> bool
-    requires { ⌜ length (now group) ≡ recordBytes ⌝ }
-    ensures { λ r. ⌜ r ≡ certifiedBy (optional (flag 0 (now (group .entry))) (part 4 hashBytes (now (group .entry)))) (optional (flag 1 (now (group .entry))) (number 24 2 (now (group .entry)))) (certificatesOf (records (now (certs .entry)))) ⌝ }
-{
-    if !fields::flag_of(0, group) {
-        return true;
-    }
-    some_serves(group, certs)
 }
 
 // A count of a table; 0 past its end.
@@ -149,24 +94,23 @@ fn is_unspent(counters: &[u32], own: u32, elapsed: u64, body: &[u8]) -> bool
     (own < FULL) & limits_left(counters, own, elapsed, body)
 }
 
-// How far a group comes: its first record, the records that follow it, and its own count.
+// How far a group comes with a request: its first record, the records that follow it, and its own count.
 fn group_standing(
     counters: &[u32],
     own: u32,
     elapsed: u64,
     km0: &[u8],
-    rec: &[u8],
-    certs: &[u8],
+    req: &[u8],
     group: &[u8],
     body: &[u8],
 ) -> Standing
-    requires { ⌜ (length (now rec) ≡ recordBytes) × (length (now group) ≡ recordBytes) ⌝ }
-    ensures { λ r. ⌜ r ≡ recordStanding (now (counters .entry)) own elapsed (now (km0 .entry)) (wantedOf (now (rec .entry))) (certificatesOf (records (now (certs .entry)))) (now (group .entry)) (records (now (body .entry))) ⌝ }
+    requires { ⌜ ((recordBytes ≤ length (now req)) × (length (now req) ≤ 4032)) × (length (now group) ≡ recordBytes) ⌝ }
+    ensures { λ r. ⌜ r ≡ recordStanding (now (counters .entry)) own elapsed (now (km0 .entry)) (requestOf (now (req .entry))) (now (group .entry)) (records (now (body .entry))) ⌝ }
 {
-    if !admitting::group_admits(km0, rec, body) {
+    if !admitting::group_admits(km0, &req[0..sizes::RECORD], body) {
         return Standing::Silent;
     }
-    if !is_certified(group, certs) {
+    if !chains::is_certified(group, req) {
         return Standing::Admitting;
     }
     if !is_unspent(counters, own, elapsed, body) {
@@ -254,12 +198,11 @@ fn judge_groups(
     counters: &[u32],
     elapsed: u64,
     km0: &[u8],
-    rec: &[u8],
-    certs: &[u8],
+    req: &[u8],
     acl: &[u8],
 ) -> Judged
-    requires { ⌜ length (now rec) ≡ recordBytes ⌝ }
-    ensures { λ r. ⌜ r ≡ judgedFrom (standing (now (counts .entry)) (now (counters .entry)) elapsed (now (km0 .entry)) (wantedOf (now (rec .entry))) (certificatesOf (records (now (certs .entry))))) Near.Nothing 0 (aclOf (now (acl .entry))) ⌝ }
+    requires { ⌜ (recordBytes ≤ length (now req)) × (length (now req) ≤ 4032) ⌝ }
+    ensures { λ r. ⌜ r ≡ judgedFrom (standing (now (counts .entry)) (now (counters .entry)) elapsed (now (km0 .entry)) (requestOf (now (req .entry)))) Near.Nothing 0 (aclOf (now (acl .entry))) ⌝ }
 {
     let mut near = Near::Nothing;
     let mut place = 0;
@@ -268,7 +211,7 @@ fn judge_groups(
         let own = count_at(counts, place);
         let group = &acl[at..at + sizes::RECORD];
         let body = &acl[at + sizes::RECORD..];
-        let s = group_standing(counters, own, elapsed, km0, rec, certs, group, body);
+        let s = group_standing(counters, own, elapsed, km0, req, group, body);
         if grants(s) {
             return Judged::Granted(place);
         }
@@ -289,7 +232,7 @@ pub fn judge_request<'a>(
     acl: &[u8],
     req: &[u8],
 ) -> Judged
-    requires { ⌜ recordBytes ≤ length (now req) ⌝ }
+    requires { ⌜ (recordBytes ≤ length (now req)) × (length (now req) ≤ 4032) ⌝ }
     ensures { λ r. ⌜ r ≡ judgedAs (judge (tablesOf (now (counts .entry)) (now (counters .entry)) loaded last) (now (km0 .entry)) (aclOf (now (acl .entry))) (requestOf (now (req .entry)))) ⌝ }
 {
     let time = request::time(req);
@@ -299,13 +242,5 @@ pub fn judge_request<'a>(
     if time < last {
         return Judged::Denied(Denial::Early);
     }
-    judge_groups(
-        counts,
-        counters,
-        time - loaded,
-        km0,
-        &req[0..sizes::RECORD],
-        request::presented(req),
-        acl,
-    )
+    judge_groups(counts, counters, time - loaded, km0, req, acl)
 }

@@ -5,7 +5,7 @@ ghost use Prim.Native.Nat.{_+_, _≤_, _<_};
 ghost use lib.ListN.{length};
 ghost use Rattle.rules.specs.Sizes.{recordBytes};
 ghost use Rattle.rules.specs.Basics.{within};
-ghost use Rattle.rules.specs.Layout.{header, zeroUnless, mechanismAt, tokenParametersIf, certifierMechanism, counterOfSort, groupLaidOut, limitLaidOut, permissionsLaidOut, blobActionLaidOut, archiveActionLaidOut, useLaidOut, blobRequestLaidOut, recoveryLaidOut, certificateLaidOut, factLaidOut, signatureLaidOut, policyLaidOut, hintLaidOut};
+ghost use Rattle.rules.specs.Layout.{header, zeroUnless, mechanismAt, tokenParametersIf, certifierMechanism, counterOfSort, groupLaidOut, limitLaidOut, permissionsLaidOut, blobActionLaidOut, archiveActionLaidOut, useLaidOut, blobRequestLaidOut, recoveryLaidOut, certificateLaidOut, factLaidOut, signatureLaidOut, policyLaidOut, hintLaidOut, delegationLaidOut};
 
 // Flags of byte 3: none is set but those listed.
 fn low_flags(flags: u8, listed: u16) -> bool
@@ -235,4 +235,12 @@ pub fn hint(s: &[u8]) -> bool
     ensures { λ r. ⌜ r ≡ hintLaidOut (now (s .entry)) ⌝ }
 {
     plain_header(0, s) & fields::zero_part(s, 5, 3) & fields::zero_part(s, 16, 48)
+}
+
+// Kind 14, a delegation.
+pub fn delegation(s: &[u8]) -> bool
+    requires { ⌜ length (now s) ≡ recordBytes ⌝ }
+    ensures { λ r. ⌜ r ≡ delegationLaidOut (now (s .entry)) ⌝ }
+{
+    plain_header(0, s) & fields::zero_part(s, 46, 18)
 }

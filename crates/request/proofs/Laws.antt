@@ -1,18 +1,18 @@
 -- A request file by its first record and the rest, and the fault of one certificate or hint by what the tests answered.
-use Prim.Native.Nat.{ℕ, _-_, _≤_, _<_}
+use Prim.Native.Nat.{ℕ, _+_, _-_, _≤_, _<_}
 use native.Mathlib.Omega.{arith}
 use mathlib.Core.Path.{_≡_, refl, sym, _∙_, ap}
 use mathlib.Core.List.{List, [], _∷_}
 use mathlib.Core.Option.{Option, none, some}
-use mathlib.Core.Bool.{Bool, true, false, not}
-use lib.ListN.{length, take, drop, drop-of-length-le}
-use lib.Dec.{ltb}
-use borrow.Author.Tests.{not-true, not-false}
-use Rattle.rules.specs.Sizes.{certificatesMax}
-use Rattle.rules.specs.Numbers.{malformed}
-use Rattle.rules.specs.Basics.{Bytes, number, records, recordFault}
-use Rattle.rules.specs.Request.{certificateRecord, certificateFault, certificatesFault, requestFault, requestFrom, requestOf, hintRecord, hintFault}
-use Rattle.rules.proofs.Rows.{no-rows, rows-start, rows-at, rows-rest, lent-rest}
+use mathlib.Core.Bool.{Bool, true, false, not, _&&_}
+use lib.ListN.{length, take, drop, getD, drop-of-length-le}
+use lib.Dec.{eqb, ltb}
+use borrow.Author.Tests.{eq-eqb, ne-eqb, not-true, not-false}
+use Rattle.rules.specs.Sizes.{certificatesMax, delegationsMax}
+use Rattle.rules.specs.Numbers.{malformed, tooMany}
+use Rattle.rules.specs.Basics.{Bytes, number, records, recordFault, scan}
+use Rattle.rules.specs.Request.{certificateRecord, delegationRecord, PresentedCounts, certificateFault, delegationFault, presentedRecordFault, afterPresented, presentedEnd, presentedFault, requestFault, requestFrom, requestOf, hintRecord, hintFault}
+use Rattle.rules.proofs.Rows.{recordsFrom, scan-stop, scan-next, bad-record, full-record, sound-record, no-rows, rows-start, rows-at, rows-rest, lentRecord, lent-record, kind-at, lent-rest}
 
 -- the first record as code lends it, `&s[..64]`, and what follows
 request-rows : (s : Bytes) → 64 ≤ length s → records s ≡ take 64 s ∷ records (take (length s - 64) (drop 64 s))
@@ -28,14 +28,55 @@ module _ (first : Bytes → Bool) (s : Bytes) where
   request-bad r h e n = sym (ap (requestFault first) (request-rows s h) ∙ rw (sym e ∙ not-true r n))
 
   pub request-rest : (r : Bool) (x : Option ℕ) → 64 ≤ length s → r ≡ first (take 64 s) → not r ≡ false
-      → x ≡ certificatesFault (records (take (length s - 64) (drop 64 s))) → x ≡ requestFault first (records s)
+      → x ≡ presentedFault (records (take (length s - 64) (drop 64 s))) → x ≡ requestFault first (records s)
   unfolding requestFault
   request-rest r x h e n p = p ∙ sym (ap (requestFault first) (request-rows s h) ∙ rw (sym e ∙ not-false r n))
 
--- the fault of a certificate by its two tests
-pub certificate-is : (n : ℕ) (r : Bytes) → certificateFault n r ≡ recordFault (certificateRecord r) (ltb n certificatesMax)
-unfolding certificateFault
-certificate-is n r = refl
+-- The turns of the loop over certificates and delegations, after n of the one and m of the other.
+module _ (s : Bytes) (at n m : ℕ) (x : Option ℕ)
+    (inv : scan presentedRecordFault afterPresented presentedEnd (record { certificates = n; delegations = m }) (recordsFrom s at) ≡ x)
+    (more : 64 ≤ length s - at) where
+  abbrev Counts : PresentedCounts
+  Counts = record { certificates = n; delegations = m }
+
+  module _ (e : getD s at 0 ≡ 9) (r : Bool) (d : r ≡ certificateRecord (lentRecord s at)) where
+    certificate-is : presentedRecordFault Counts (lentRecord s at) ≡ recordFault (certificateRecord (lentRecord s at) && eqb m 0) (ltb n certificatesMax)
+    unfolding presentedRecordFault certificateFault
+    certificate-is = rw (lent-record s at, kind-at s at, eq-eqb (getD s at 0) 9 e)
+
+    good : (r && eqb m 0) ≡ (certificateRecord (lentRecord s at) && eqb m 0)
+    good = ap (λ (b : Bool). b && eqb m 0) d
+
+    pub certificate-bad : not (r && eqb m 0) ≡ true → some malformed ≡ x
+    certificate-bad h = scan-stop _ _ _ s at _ x inv _ more (bad-record _ _ _ _ certificate-is good h)
+
+    pub certificate-full : not (r && eqb m 0) ≡ false → not (ltb n certificatesMax) ≡ true → some tooMany ≡ x
+    certificate-full h k = scan-stop _ _ _ s at _ x inv _ more (full-record _ _ _ _ certificate-is good _ refl h k)
+
+    pub certificate-sound : not (r && eqb m 0) ≡ false → not (ltb n certificatesMax) ≡ false
+        → scan presentedRecordFault afterPresented presentedEnd (record { certificates = n + 1; delegations = m }) (recordsFrom s (at + 64)) ≡ x
+    unfolding afterPresented
+    certificate-sound h k =
+        scan-next _ _ _ s at _ x inv _ more (sound-record _ _ _ _ certificate-is good _ refl h k)
+        (sym (rw (lent-record s at, kind-at s at, eq-eqb (getD s at 0) 9 e)))
+
+  module _ (e : getD s at 0 ≡ 9 → ⊥) (r : Bool) (d : r ≡ delegationRecord (lentRecord s at)) where
+    delegation-is : presentedRecordFault Counts (lentRecord s at) ≡ recordFault (delegationRecord (lentRecord s at)) (ltb m delegationsMax)
+    unfolding presentedRecordFault delegationFault
+    delegation-is = rw (lent-record s at, kind-at s at, ne-eqb (getD s at 0) 9 e)
+
+    pub delegation-bad : not r ≡ true → some malformed ≡ x
+    delegation-bad h = scan-stop _ _ _ s at _ x inv _ more (bad-record _ _ _ _ delegation-is d h)
+
+    pub delegation-full : not r ≡ false → not (ltb m delegationsMax) ≡ true → some tooMany ≡ x
+    delegation-full h k = scan-stop _ _ _ s at _ x inv _ more (full-record _ _ _ _ delegation-is d _ refl h k)
+
+    pub delegation-sound : not r ≡ false → not (ltb m delegationsMax) ≡ false
+        → scan presentedRecordFault afterPresented presentedEnd (record { certificates = n; delegations = m + 1 }) (recordsFrom s (at + 64)) ≡ x
+    unfolding afterPresented
+    delegation-sound h k =
+        scan-next _ _ _ s at _ x inv _ more (sound-record _ _ _ _ delegation-is d _ refl h k)
+        (sym (rw (lent-record s at, kind-at s at, ne-eqb (getD s at 0) 9 e)))
 
 -- The fault of a hint.
 module _ (r : Bytes) (a : Bool) (e : a ≡ hintRecord r) where

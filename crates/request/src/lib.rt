@@ -1,9 +1,9 @@
-// A request file with its certificates, and a hints file: their first faults; a request's time and certificates.
+// A request file with its certificates and delegations, and a hints file: their first faults; a request's time, and what follows its first record.
 ghost use mathlib.Core.Path.{_≡_};
 ghost use lib.ListN.{length, drop};
 ghost use Rattle.rules.specs.Sizes.{recordBytes};
 ghost use Rattle.rules.specs.Basics.{records};
-ghost use Rattle.rules.specs.Request.{requestLaidOut, useOf, certificateRecord, certificatesFault, requestFault, requestOf, hintRecord, hintsFault};
+ghost use Rattle.rules.specs.Request.{requestLaidOut, useOf, certificateRecord, delegationRecord, presentedFault, requestFault, requestOf, hintRecord, hintsFault};
 ghost use Rattle.files.specs.Faults.{faultOf};
 use files::Checked;
 use refusals::Refusal;
@@ -42,20 +42,40 @@ fn certificate_record(rec: &[u8]) -> bool
     (rec[0] == 9) & layout::certificate(rec)
 }
 
-// The first fault of the certificates of a request.
-fn certificate_records(rest: &[u8]) -> Checked
-    ensures { λ r. ⌜ faultOf r ≡ certificatesFault (records (now (rest .entry))) ⌝ }
+// Whether a record is a well-formed delegation.
+fn delegation_record(rec: &[u8]) -> bool
+    requires { ⌜ length (now rec) ≡ recordBytes ⌝ }
+    ensures { λ r. ⌜ r ≡ delegationRecord (now (rec .entry)) ⌝ }
 {
-    let mut n = 0;
+    (rec[0] == 14) & layout::delegation(rec)
+}
+
+// The first fault of the certificates and delegations of a request.
+fn presented_records(rest: &[u8]) -> Checked
+    ensures { λ r. ⌜ faultOf r ≡ presentedFault (records (now (rest .entry))) ⌝ }
+{
+    let mut certs = 0;
+    let mut dels = 0;
     let mut at = 0;
     while sizes::RECORD <= rest.len() - at {
-        if !certificate_record(&rest[at..at + sizes::RECORD]) {
+        if rest[at] == 9 {
+            if !(certificate_record(&rest[at..at + sizes::RECORD]) & (dels == 0)) {
+                return Checked::Refused(Refusal::Malformed);
+            }
+            if !(certs < sizes::CERTIFICATES) {
+                return Checked::Refused(Refusal::TooMany);
+            }
+            certs += 1;
+            at += sizes::RECORD;
+            continue;
+        }
+        if !delegation_record(&rest[at..at + sizes::RECORD]) {
             return Checked::Refused(Refusal::Malformed);
         }
-        if !(n < sizes::CERTIFICATES) {
+        if !(dels < sizes::DELEGATIONS) {
             return Checked::Refused(Refusal::TooMany);
         }
-        n += 1;
+        dels += 1;
         at += sizes::RECORD;
     }
     Checked::Sound
@@ -71,7 +91,7 @@ pub fn request_records(req: &[u8]) -> Checked
     if !request_record(&req[0..sizes::RECORD]) {
         return Checked::Refused(Refusal::Malformed);
     }
-    certificate_records(&req[sizes::RECORD..])
+    presented_records(&req[sizes::RECORD..])
 }
 
 // The first fault of the records of a request file that has to be a use of permission p.
@@ -84,7 +104,7 @@ pub fn use_records(p: u8, req: &[u8]) -> Checked
     if !use_record(p, &req[0..sizes::RECORD]) {
         return Checked::Refused(Refusal::Malformed);
     }
-    certificate_records(&req[sizes::RECORD..])
+    presented_records(&req[sizes::RECORD..])
 }
 
 // Whether a record is a well-formed hint.
@@ -119,7 +139,7 @@ pub fn time(req: &[u8]) -> u64
     fields::be64(&req[0..sizes::RECORD], 56)
 }
 
-// The part of a request file that holds its certificates: what follows the first record.
+// The part of a request file that holds its certificates and delegations: what follows the first record.
 pub fn presented(req: &[u8]) -> &[u8]
     ensures { λ r. ⌜ now r ≡ drop recordBytes (now (req .entry)) ⌝ }
 {

@@ -15,7 +15,7 @@ use Rattle.rules.specs.Suites.{suite}
 use Rattle.rules.specs.Desk.{Step, WB1, WB2, WB6, approach2, Verdict, accepted, failed, faulty, desk}
 use Rattle.rules.specs.Subject.{SubjectReply, written, unwritten, subjectReply, subjectBuffer}
 use Rattle.rules.proofs.Computing.{computing}
-use Rattle.rules.proofs.Samples.{rec, hash, openGroup, signGroup, limited, certifiedGroup, sign, decrypt, otherMechanism, counting, reducible, expandable, reduce, enlarge, hint, bundle, uncertifiedBundle, blob, cardset, softcard, archive, keyless}
+use Rattle.rules.proofs.Samples.{rec, hash, openGroup, signGroup, limited, certifiedGroup, sign, decrypt, otherMechanism, certificate, delegation, signLink, decryptLink, counting, reducible, expandable, reduce, enlarge, hint, bundle, uncertifiedBundle, blob, cardset, softcard, directBlob, certifiedBlobGroup, archive, keyless}
 
 -- What an example states: the gate's answer with the whole ledger handed back, the desk's verdict, or the subject writer's reply with the whole
 -- buffer.
@@ -57,6 +57,11 @@ fails s = judged (failed s)
 -- what is handed back of an outcome
 abbrev handed : Outcome → Stated
 handed o = answered (o .answer) (o .ledger)
+
+-- files one after the other
+abbrev concat : List Bytes → Bytes
+concat [] = []
+concat (file ∷ files) = file ++ concat files
 
 -- a fresh ledger loaded at a time, then one request
 abbrev gate : ℕ → Bytes → Bytes → Stated
@@ -125,11 +130,35 @@ guards =
     ∷ attest (openGroup ++ keyless) is judged (faulty 12)
     ∷ []
 
+-- Document 02, request f, over a Sign group whose certifier is key 9 at mechanism 1: one delegation; four; four in another order; five; a mask without
+-- the bit; a delegation the wrong way round; a loop beside a chain, and alone; a repeated delegation; another mechanism on the presented certificate;
+-- a chain that starts elsewhere. Then a blob request, by a chain and by the certifier's own certificate. Then files: a certificate after a delegation,
+-- a malformed delegation, a seventeenth.
+unfoldable pub delegations : List Example
+delegations =
+    gate 0 certifiedGroup (sign 5 ++ certificate 13 1 ++ signLink 9 13) is permits 0 5
+    ∷ gate 0 certifiedGroup (sign 5 ++ certificate 13 1 ++ signLink 9 10 ++ signLink 10 11 ++ signLink 11 12 ++ signLink 12 13) is permits 0 5
+    ∷ gate 0 certifiedGroup (sign 5 ++ certificate 13 1 ++ signLink 12 13 ++ signLink 11 12 ++ signLink 10 11 ++ signLink 9 10) is permits 0 5
+    ∷ gate 0 certifiedGroup (sign 5 ++ certificate 13 1 ++ signLink 9 10 ++ signLink 10 11 ++ signLink 11 12 ++ signLink 12 14 ++ signLink 14 13) is refusesNear 6 0 0
+    ∷ gate 0 certifiedGroup (sign 5 ++ certificate 13 1 ++ signLink 9 10 ++ decryptLink 10 13) is refusesNear 6 0 0
+    ∷ gate 0 certifiedGroup (sign 5 ++ certificate 13 1 ++ signLink 13 9) is refusesNear 6 0 0
+    ∷ gate 0 certifiedGroup (sign 5 ++ certificate 13 1 ++ signLink 9 10 ++ signLink 10 9 ++ signLink 10 13) is permits 0 5
+    ∷ gate 0 certifiedGroup (sign 5 ++ certificate 13 1 ++ signLink 9 10 ++ signLink 10 9 ++ signLink 9 9) is refusesNear 6 0 0
+    ∷ gate 0 certifiedGroup (sign 5 ++ certificate 13 1 ++ signLink 9 10 ++ signLink 9 10 ++ signLink 10 13 ++ signLink 10 13) is permits 0 5
+    ∷ gate 0 certifiedGroup (sign 5 ++ certificate 13 2 ++ signLink 9 13) is refusesNear 6 0 0
+    ∷ gate 0 certifiedGroup (sign 5 ++ certificate 13 1 ++ signLink 10 13) is refusesNear 6 0 0
+    ∷ gate 0 certifiedBlobGroup (directBlob 5 ++ certificate 13 1 ++ delegation 9 13 255 255) is refusesNear 6 0 0
+    ∷ gate 0 certifiedBlobGroup (directBlob 5 ++ certificate 9 1 ++ delegation 9 13 255 255) is permits 0 5
+    ∷ gate 0 certifiedGroup (sign 5 ++ signLink 9 13 ++ certificate 13 1) is refuses 2 0
+    ∷ gate 0 certifiedGroup (sign 5 ++ certificate 13 1 ++ rec (14 ∷ 0 ∷ 0 ∷ 0 ∷ [] ++ hash 9 ++ hash 13 ++ (0 ∷ 16 ∷ 1 ∷ []))) is refuses 2 0
+    ∷ gate 0 certifiedGroup (sign 5 ++ concat (replicate 17 (signLink 9 13))) is refuses 3 0
+    ∷ []
+
 -- what is computed is what is stated, row by row
 abbrev Hold : List Example → Type 0
 Hold rows = map (λ e. e .computed) rows ≡ map (λ e. e .expected) rows
 
--- Both tables hold: the starred one, and the one that guards the definitions.
-pub examples-hold : Hold starred × Hold guards
-unfolding starred guards computing
-examples-hold = (refl, refl)
+-- The tables hold: the starred one, the one that guards the definitions, and that of the delegations.
+pub examples-hold : Hold starred × Hold guards × Hold delegations
+unfolding starred guards delegations computing
+examples-hold = (refl, refl, refl)

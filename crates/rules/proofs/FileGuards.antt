@@ -4,12 +4,12 @@ use Prim.Native.Nat.{ℕ, _+_, _-_}
 use mathlib.Core.Path.{_≡_, refl}
 use mathlib.Core.List.{[], _∷_, _++_}
 use lib.ListN.{replicate}
-use Rattle.rules.specs.Sizes.{groupsMax, actionsMax, countersMax, certificatesMax, aclRecords, requestRecords, hintRecords}
+use Rattle.rules.specs.Sizes.{groupsMax, actionsMax, countersMax, certificatesMax, delegationsMax, aclRecords, requestRecords, hintRecords}
 use Rattle.rules.specs.Basics.{Bytes}
 use Rattle.rules.specs.Ledger.{freshLedger}
 use Rattle.rules.specs.Gate.{Outcome, refused, permitted, request, narrow, expand}
 use Rattle.rules.proofs.Computing.{computing}
-use Rattle.rules.proofs.Samples.{rec, repeated, timed, hash, openGroup, signAction, signGroup, sign, decrypt, counting, reducible, expandable, reduce, enlarge, hint, keyless}
+use Rattle.rules.proofs.Samples.{rec, repeated, timed, hash, openGroup, signAction, signGroup, sign, decrypt, counting, reducible, expandable, reduce, enlarge, hint, keyless, delegation}
 use Rattle.rules.proofs.Examples.{ledgerOf}
 
 -- a request of a fresh ledger
@@ -39,7 +39,8 @@ certificate = rec (9 ∷ 0 ∷ 0 ∷ 0 ∷ [] ++ hash 9 ++ (0 ∷ 1 ∷ []))
 abbrev stray : Bytes
 stray = rec []
 
--- "at most 16 groups, 4 limits and 8 actions per group"; "then at most 32 certificates"; "within one record 2 before 3".
+-- "at most 16 groups, 4 limits and 8 actions per group"; "then at most 32 certificates"; delegations "at most 16 .., after the certificates"; "within
+-- one record 2 before 3".
 pub record ManyRows : Type 0 where
   pub groups-at-most : asks (repeated (groupsMax - 1) openGroup ++ signGroup) (sign 5) ≡ permitted (groupsMax - 1) (ledgerOf (replicate (groupsMax - 1) 0 ++ (1 ∷ [])) [] 0 5)
   pub group-too-many : asks (repeated (groupsMax + 1) openGroup) (sign 5) ≡ refuses 3
@@ -49,7 +50,9 @@ pub record ManyRows : Type 0 where
   pub actions-at-most : asks (openGroup ++ repeated actionsMax signAction) (sign 5) ≡ permits
   pub action-too-many : asks (openGroup ++ repeated (actionsMax + 1) signAction) (sign 5) ≡ refuses 3
   pub certificates-at-most : asks signGroup (sign 5 ++ repeated certificatesMax certificate) ≡ permits
-  pub certificate-too-many : asks signGroup (sign 5 ++ repeated (certificatesMax + 1) certificate) ≡ refuses 1
+  pub certificate-too-many : asks signGroup (sign 5 ++ repeated (certificatesMax + 1) certificate) ≡ refuses 3
+  pub presented-at-most : asks signGroup (sign 5 ++ repeated certificatesMax certificate ++ repeated delegationsMax (delegation 9 13 0 16)) ≡ permits
+  pub delegation-too-many : asks signGroup (sign 5 ++ repeated (delegationsMax + 1) (delegation 9 13 0 16)) ≡ refuses 3
   pub malformed-before-too-many : asks (signUnder (limit 1 0 ++ limit 3 0 ++ limit 2 0 ++ limit 2 1 ++ limit 2 1)) (sign 5) ≡ refuses 2
   pub too-many-before-later-malformed : asks (repeated (groupsMax + 1) openGroup ++ stray) (sign 5) ≡ refuses 3
   pub new-acl-group-too-many : expand freshLedger (hash 0) expandable (enlarge 6) (repeated (groupsMax + 1) openGroup) ≡ refuses 3
@@ -67,6 +70,8 @@ many-rows =
       action-too-many = refl;
       certificates-at-most = refl;
       certificate-too-many = refl;
+      presented-at-most = refl;
+      delegation-too-many = refl;
       malformed-before-too-many = refl;
       too-many-before-later-malformed = refl;
       new-acl-group-too-many = refl;

@@ -1,4 +1,4 @@
--- Sample files of document 01's examples.
+-- Sample files of document 01's examples, and of those of the requests made after it.
 use Prim.Native.Nat.{ℕ, zero, suc, _-_}
 use mathlib.Core.List.{[], _∷_, _++_}
 use lib.ListN.{length, replicate}
@@ -47,6 +47,20 @@ decrypt time = timed (6 ∷ 0 ∷ 0 ∷ 0 ∷ 9 ∷ []) time
 -- the certifier's hash at mechanism 2
 abbrev pub otherMechanism : Bytes
 otherMechanism = rec (9 ∷ 0 ∷ 0 ∷ 0 ∷ [] ++ hash 9 ++ (0 ∷ 2 ∷ []))
+
+-- a certificate of a key at a mechanism
+abbrev pub certificate : ℕ → ℕ → Bytes
+certificate key mechanism = rec (9 ∷ 0 ∷ 0 ∷ 0 ∷ [] ++ hash key ++ (0 ∷ mechanism ∷ []))
+
+-- a delegation from a key to a key, with the two bytes of its mask; for Sign alone; for Decrypt alone
+abbrev pub delegation : ℕ → ℕ → ℕ → ℕ → Bytes
+delegation from to high low = rec (14 ∷ 0 ∷ 0 ∷ 0 ∷ [] ++ hash from ++ hash to ++ (high ∷ low ∷ []))
+
+abbrev pub signLink : ℕ → ℕ → Bytes
+signLink from to = delegation from to 0 0x10
+
+abbrev pub decryptLink : ℕ → ℕ → Bytes
+decryptLink from to = delegation from to 0x02 0
 
 -- a group with a limit of sort 2 on a counter
 abbrev pub counting : ℕ → ℕ → Bytes
@@ -101,6 +115,13 @@ cardset = 0 ∷ 0 ∷ 1 ∷ 2 ∷ 0 ∷ 0 ∷ 0 ∷ 0 ∷ []
 -- shares 1 of 2, soft slots
 abbrev pub softcard : Bytes
 softcard = 0 ∷ 1 ∷ 1 ∷ 2 ∷ 0 ∷ 0 ∷ 0 ∷ 0 ∷ []
+
+-- a direct blob under hkm, and a group with the certifier of certifiedGroup that admits it under any KM0
+abbrev pub directBlob : ℕ → Bytes
+directBlob time = timed (7 ∷ 0 ∷ 0 ∷ 0 ∷ [] ++ hash 6) time
+
+abbrev pub certifiedBlobGroup : Bytes
+certifiedBlobGroup = rec (1 ∷ 0 ∷ 0 ∷ 3 ∷ [] ++ hash 9 ++ (0 ∷ 1 ∷ [])) ++ blob 7 (hash 0) []
 
 -- MakeArchiveBlob under hkre, by suite 3's mechanism
 abbrev pub archive : Bytes

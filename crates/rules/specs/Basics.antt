@@ -74,6 +74,11 @@ allBelow (suc k) p = p k && allBelow k p
 unfoldable pub within : ℕ → ℕ → ℕ → Bool
 within k a b = allBelow k (λ i. implies (bit i a) (bit i b))
 
+-- the elements of a list that pass a test, as a set: a number, in which bit i says whether the i-th is in it
+unfoldable pub setOf : {A : Type 0} → (A → Bool) → List A → ℕ
+setOf test [] = 0
+setOf test (x ∷ xs) = (if test x then 1 else 0) + 2 * setOf test xs
+
 -- The fields of a record: len bytes from off, as bytes, as a number, and the test that they are zero.
 abbrev pub part : ℕ → ℕ → Bytes → Bytes
 part off len r = take len (drop off r)

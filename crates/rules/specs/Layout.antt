@@ -1,5 +1,5 @@
--- The layout of each kind of record: document 01, "Records". "Unlisted bytes, unlisted flag bits and absent optional fields are zero."
--- Each test takes a record whose kind is known already.
+-- The layout of each kind of record: document 01, "Records", and of the kinds added by document 02. "Unlisted bytes, unlisted flag bits and absent
+-- optional fields are zero." Each test takes a record whose kind is known already.
 use Prim.Native.Nat.{ℕ, _+_}
 use mathlib.Core.Bool.{Bool, not, _&&_, _||_}
 use lib.Dec.{eqb, leb, ltb}
@@ -92,3 +92,7 @@ policyLaidOut r = header 0 r && between 1 2 (byte 5 r) && within 16 (byte 6 r) 7
 -- 13 hint: byte 4 source group, 8-15 a source action for each action of the new group, all from 0. What they name is a matter of refusal 8.
 unfoldable pub hintLaidOut : Bytes → Bool
 hintLaidOut r = header 0 r && blank 5 3 r && blank 16 48 r
+
+-- 14 delegation (document 02, request f): from-hash 4-23, to-hash 24-43, sixteen-bit permission mask 44-45.
+unfoldable pub delegationLaidOut : Bytes → Bool
+delegationLaidOut r = header 0 r && blank 46 18 r

@@ -21,10 +21,15 @@ pub const CERTIFICATES: usize = 32;
 
 pub const LISTED: usize = 32;
 
+// Delegations of a request, and those of a chain.
+pub const DELEGATIONS: usize = 16;
+
+pub const LINKS: usize = 4;
+
 // The greatest lengths of files, in records.
 pub const ACL_RECORDS: usize = GROUPS * (1 + LIMITS + ACTIONS);
 
-pub const REQUEST_RECORDS: usize = 1 + CERTIFICATES;
+pub const REQUEST_RECORDS: usize = 1 + CERTIFICATES + DELEGATIONS;
 
 pub const BUNDLE_RECORDS: usize = 13 + LISTED + 6 + 1;
 

@@ -1,18 +1,17 @@
--- Demand 3 speaks of something: a bundle that the desk accepts under approach 2, and a sequence of calls without the officer's certificate in which
--- a token blob, a recovery blob, a narrowing and a use are permitted, and others refused with 8, 7 and 4. Two wrong products that this rules out: a
--- desk that accepts nothing, and a gate that permits no blob.
+-- Demand 3 speaks of something: a bundle that the desk accepts under approach 2, and a sequence of calls without the officer's certificate in which a
+-- token blob, a recovery blob, a use by a chain of delegations, a narrowing and a use are permitted, and others refused with 6, 8, 7 and 4. Two wrong
+-- products that this rules out: a desk that accepts nothing, and a gate that permits no blob.
 use mathlib.Core.Path.{_≡_, refl}
 use mathlib.Core.List.{List, [], _∷_, _++_, map}
 use mathlib.Core.Option.{none, some}
 use mathlib.Core.Bool.{true, false}
-use Rattle.rules.specs.Basics.{Bytes, records, any, same, numberFrom, chunks}
-use Rattle.rules.specs.Request.{wantedOf, certificatesOf, requestFrom}
+use Rattle.rules.specs.Basics.{Bytes, records}
 use Rattle.rules.specs.Ledger.{freshLedger}
 use Rattle.rules.specs.Gate.{Answer, permit, refuse}
-use Rattle.rules.specs.Bundle.{firstRecord, numbered, field}
-use Rattle.rules.specs.Desk.{Grade, approach2, accepted, desk}
+use Rattle.rules.specs.Bundle.{policyOf}
+use Rattle.rules.specs.Desk.{Grade, approach2, accepted, classOf, policyAdmits, desk}
 use Rattle.rules.proofs.Computing.{computing}
-use Rattle.rules.proofs.Samples.{rec, timed, hash, openGroup, limited, sign, reduce, hint, bundle, blob, cardset, archive}
+use Rattle.rules.proofs.Samples.{rec, timed, hash, openGroup, limited, sign, decrypt, certificate, delegation, signLink, decryptLink, reduce, hint, bundle, blob, cardset, archive}
 use Rattle.theorems.specs.Demands.{Call, requesting, narrowing, State, outcome, after, byOfficer, officerSigned, asked, Allowed, EveryPermit}
 use Rattle.theorems.proofs.Demand3.{demand-3}
 
@@ -21,10 +20,11 @@ abbrev pub replies : State → List Call → List Answer
 replies s [] = []
 replies s (c ∷ cs) = outcome s c .answer ∷ replies (after s c) cs
 
--- at most 5 uses per load; Sign and ReduceACL; a cardset of 1 of 2 under hkm; a recovery action
+-- at most 5 uses per load; Sign and ReduceACL; a cardset of 1 of 2 under hkm; a recovery action; then Decrypt, by key 9 at mechanism 1
 abbrev pub useful : Bytes
 useful =
     openGroup ++ rec (2 ∷ 0 ∷ 0 ∷ 0 ∷ 1 ∷ 0 ∷ 0 ∷ 0 ∷ 0 ∷ 0 ∷ 0 ∷ 5 ∷ []) ++ rec (3 ∷ 0 ∷ 0 ∷ 0 ∷ 0 ∷ 0x14 ∷ []) ++ blob 30 (hash 20) cardset ++ archive
+    ++ rec (1 ∷ 0 ∷ 0 ∷ 3 ∷ [] ++ hash 9 ++ (0 ∷ 1 ∷ [])) ++ rec (3 ∷ 0 ∷ 0 ∷ 0 ∷ 2 ∷ 0 ∷ [])
 
 -- at most 4 uses per load; Sign
 abbrev pub smaller : Bytes
@@ -40,6 +40,8 @@ abbrev pub calls : List Call
 calls =
     requesting (hash 0) tokenBlob
     ∷ requesting (hash 0) recovery
+    ∷ requesting (hash 0) (decrypt 5 ++ certificate 13 1 ++ decryptLink 9 10 ++ decryptLink 10 13)
+    ∷ requesting (hash 0) (decrypt 5 ++ certificate 13 1 ++ decryptLink 9 10 ++ signLink 10 13)
     ∷ narrowing (hash 0) (reduce 6) (smaller ++ smaller) (hint 0 ++ hint 0)
     ∷ narrowing (hash 0) (reduce 6) smaller (hint 0)
     ∷ requesting (hash 0) (sign 6)
@@ -53,15 +55,27 @@ grade = record { protection = 3; recoverable = true }
 abbrev pub start : State
 start = record { ledger = freshLedger; acl = useful }
 
--- the bundle and the ACL are accepted; the calls are answered so; none of them presents the officer's certificate
+-- The officer's group, with ExportAsPlain; its use by a chain that starts at the officer's key, which is key 4.
+abbrev pub officers : Bytes
+officers = rec (1 ∷ 0 ∷ 0 ∷ 1 ∷ [] ++ hash 4) ++ rec (3 ∷ 0 ∷ 0 ∷ 0 ∷ 4 ∷ 0 ∷ [])
+
+abbrev pub exporting : Call
+exporting = requesting (hash 0) (timed (6 ∷ 0 ∷ 0 ∷ 0 ∷ 10 ∷ []) 5 ++ certificate 13 1 ++ delegation 4 13 4 0)
+
+-- the bundle and the ACL are accepted; the calls are answered so; none of them presents the officer's certificate or a chain from the officer's
+-- key. Last, that the premise about chains is needed: a call that presents such a chain is permitted what the policy does not admit.
 pub witness : (desk bundle useful ≡ accepted (approach2 grade))
-    × (replies start calls ≡ (permit 0 ∷ permit 0 ∷ refuse 8 none ∷ permit 0 ∷ permit 0 ∷ refuse 7 (some 0) ∷ refuse 4 none ∷ []))
-    × (map (officerSigned (records bundle)) calls ≡ (false ∷ false ∷ false ∷ false ∷ false ∷ false ∷ false ∷ []))
+    × (replies start calls ≡ (permit 0 ∷ permit 0 ∷ permit 1 ∷ refuse 6 (some 1) ∷ refuse 8 none ∷ permit 0 ∷ permit 0 ∷ refuse 7 (some 0) ∷ refuse 4 none ∷ []))
+    × (map (officerSigned (records bundle)) calls ≡ (false ∷ false ∷ false ∷ false ∷ false ∷ false ∷ false ∷ false ∷ false ∷ []))
+    × (desk bundle officers ≡ accepted (approach2 (record { protection = 4; recoverable = true })))
+    × (replies (record { ledger = freshLedger; acl = officers }) (exporting ∷ []) ≡ (permit 0 ∷ []))
+    × (officerSigned (records bundle) exporting ≡ true)
+    × (policyAdmits (policyOf (records bundle)) (classOf 10) ≡ false)
 unfolding outcome after byOfficer computing
-witness = (refl, refl, refl)
+witness = (refl, refl, refl, refl, refl, refl, refl)
 
 -- .. and so demand 3 covers what they are permitted.
 pub witness-covered : EveryPermit (λ s c. Allowed (records bundle) grade (asked c)) start calls
-unfolding byOfficer any same numberFrom chunks records wantedOf certificatesOf requestFrom firstRecord numbered field
+unfolding byOfficer computing
 witness-covered =
-    demand-3 bundle useful grade (witness .0) freshLedger calls (refl, (refl, (refl, (refl, (refl, (refl, (refl, tt)))))))
+    demand-3 bundle useful grade (witness .0) freshLedger calls (refl, (refl, (refl, (refl, (refl, (refl, (refl, (refl, (refl, tt)))))))))

@@ -2,9 +2,8 @@ use Prim.Native.Nat.{_≤_, _-_}
 use native.Mathlib.Omega.{arith}
 use mathlib.Core.Path.{_≡_, ap}
 use lib.ListN.{length, getD}
-use Rattle.rules.specs.Basics.{records}
 use Rattle.rules.specs.Acl.{groupsOf, aclOf}
-use Rattle.rules.specs.Request.{wantedOf, certificatesOf}
+use Rattle.rules.specs.Request.{requestOf}
 use Rattle.rules.proofs.Rows.{recordsFrom}
 use Rattle.judging.specs.declared.Near.the-variants.{Nothing}
 use Rattle.judging.specs.Standings.{judgedFrom, standing}
@@ -14,10 +13,10 @@ use Rattle.judging.proofs.judge_groups.Statement.{statement}
 use Rattle.judging.proofs.judge_groups.Tie as tie
 
 abbrev Inv-loop : tie.InvT-loop
-Inv-loop counts counters elapsed km0 rec certs acl near₀ place₀ at₀ near place at = (at ≤ length acl) × ((place ≤ at) × ((64 ≤ length acl - at → getD acl at 0 ≡ 1) × (judgedFrom (standing counts counters elapsed km0 (wantedOf rec) (certificatesOf (records certs))) near place (groupsOf (recordsFrom acl at)) ≡ judgedFrom (standing counts counters elapsed km0 (wantedOf rec) (certificatesOf (records certs))) Nothing 0 (aclOf acl))))
+Inv-loop counts counters elapsed km0 req acl near₀ place₀ at₀ near place at = (at ≤ length acl) × ((place ≤ at) × ((64 ≤ length acl - at → getD acl at 0 ≡ 1) × (judgedFrom (standing counts counters elapsed km0 (requestOf req)) near place (groupsOf (recordsFrom acl at)) ≡ judgedFrom (standing counts counters elapsed km0 (requestOf req)) Nothing 0 (aclOf acl))))
 
 abbrev μ-loop : tie.MeasureT-loop
-μ-loop counts counters elapsed km0 rec certs acl near₀ place₀ at₀ near place at = length acl - at
+μ-loop counts counters elapsed km0 req acl near₀ place₀ at₀ near place at = length acl - at
 
 next-group-requires : tie.Need-next-group-requires Inv-loop μ-loop
 next-group-requires c κs = search needs
@@ -71,8 +70,8 @@ returns c =
     let l = o .before in
     let i = l .before .loop .inv .1 .1 in
     let t = l .loop-test .taken in
-    let a = l .before .before .before .before .before .before .before .before .before .args in
-    let d = standing-at _ _ _ _ _ _ _ _ (a .acl .now) (l .before .loop .at) _ (o .count-at .ensures) (s .group-standing .ensures) in
+    let a = l .before .before .before .before .before .before .before .before .args in
+    let d = standing-at _ _ _ _ _ _ _ (a .acl .now) (l .before .loop .at) _ (o .count-at .ensures) (s .group-standing .ensures) in
     groups-grant _ _ _ _ _ _ (i .1) t (i .0 t) _ d _ (c .before .grants .ensures) (c .if1 .taken)
 
 near-with-requires : tie.Need-near-with-requires Inv-loop μ-loop
@@ -98,9 +97,9 @@ loop-again c =
     let l = o .before in
     let i = l .before .loop .inv .1 .1 in
     let t = l .loop-test .taken in
-    let a = l .before .before .before .before .before .before .before .before .before .args in
+    let a = l .before .before .before .before .before .before .before .before .args in
     let e = c .next-group2 .ensures in
-    let d = standing-at _ _ _ _ _ _ _ _ (a .acl .now) (l .before .loop .at) _ (o .count-at .ensures) (s .group-standing .ensures) in
+    let d = standing-at _ _ _ _ _ _ _ (a .acl .now) (l .before .loop .at) _ (o .count-at .ensures) (s .group-standing .ensures) in
     let n = groups-next _ _ _ _ _ _ (i .1) t (i .0 t) _ d _ (f .before .grants .ensures) _ _ (f .if1 .left) (c .before .near-with .ensures) (e .same) in
     (e .inside, (omega (arith, e .later), (e .head, n)))
 

@@ -21,17 +21,17 @@ request-record-requires c κs = search needs
 returns-2 : tie.Need-returns-2
 returns-2 c = search (needs, request-bad)
 
-sub-certificate-records : tie.Need-sub-certificate-records
-sub-certificate-records c = search needs
+sub-presented-records : tie.Need-sub-presented-records
+sub-presented-records c = search needs
 
-part-certificate-records-start : tie.Need-part-certificate-records-start
-part-certificate-records-start c = search needs
+part-presented-records-start : tie.Need-part-presented-records-start
+part-presented-records-start c = search needs
 
-part-certificate-records-end : tie.Need-part-certificate-records-end
-part-certificate-records-end c = search needs
+part-presented-records-end : tie.Need-part-presented-records-end
+part-presented-records-end c = search needs
 
-certificate-records-requires : tie.Need-certificate-records-requires
-certificate-records-requires c κs = search needs
+presented-records-requires : tie.Need-presented-records-requires
+presented-records-requires c κs = search needs
 
 returns-3 : tie.Need-returns-3
 returns-3 c = search (needs, request-rest)
@@ -46,8 +46,8 @@ request-records-spec =
     part-request-record-end
     request-record-requires
     returns-2
-    sub-certificate-records
-    part-certificate-records-start
-    part-certificate-records-end
-    certificate-records-requires
+    sub-presented-records
+    part-presented-records-start
+    part-presented-records-end
+    presented-records-requires
     returns-3)

@@ -2,19 +2,19 @@ use Prim.Native.Nat.{_≤_, _-_}
 use mathlib.Core.Path.{_≡_, refl}
 use lib.ListN.{length}
 use Rattle.rules.proofs.Rows.{recordsFrom}
-use Rattle.rules.specs.Basics.{any, part, number, flag, optional, records}
+use Rattle.rules.specs.Basics.{any, number, flag, optional, records}
 use Rattle.rules.specs.Request.{certificatesOf}
-use Rattle.rules.specs.Grant.{serves}
-use Rattle.judging.proofs.Laws.{certs-skip, certs-found, certs-next, certs-none}
+use Rattle.rules.specs.Chain.{serves}
+use Rattle.chains.proofs.Laws.{certs-skip, certs-found, certs-next, certs-none}
 use borrow.Author.Needs.{needs}
-use Rattle.judging.proofs.some_serves.Statement.{statement}
-use Rattle.judging.proofs.some_serves.Tie as tie
+use Rattle.chains.proofs.some_serves.Statement.{statement}
+use Rattle.chains.proofs.some_serves.Tie as tie
 
 abbrev Inv-loop : tie.InvT-loop
-Inv-loop group certs at₀ at = (at ≤ length certs) × (any (serves (part 4 20 group) (optional (flag 1 group) (number 24 2 group))) (certificatesOf (recordsFrom certs at)) ≡ any (serves (part 4 20 group) (optional (flag 1 group) (number 24 2 group))) (certificatesOf (records certs)))
+Inv-loop key group rest at₀ at = (at ≤ length rest) × (any (serves key (optional (flag 1 group) (number 24 2 group))) (certificatesOf (recordsFrom rest at)) ≡ any (serves key (optional (flag 1 group) (number 24 2 group))) (certificatesOf (records rest)))
 
 abbrev μ-loop : tie.MeasureT-loop
-μ-loop group certs at₀ at = length certs - at
+μ-loop key group rest at₀ at = length rest - at
 
 loop-holds : tie.Need-loop-holds Inv-loop μ-loop
 unfolding recordsFrom

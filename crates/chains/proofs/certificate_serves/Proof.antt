@@ -1,7 +1,7 @@
-use Rattle.judging.proofs.Laws.{serves-not, serves-is}
+use Rattle.chains.proofs.Laws.{serves-not, serves-is}
 use borrow.Author.Needs.{needs}
-use Rattle.judging.proofs.certificate_serves.Statement.{statement}
-use Rattle.judging.proofs.certificate_serves.Tie as tie
+use Rattle.chains.proofs.certificate_serves.Statement.{statement}
+use Rattle.chains.proofs.certificate_serves.Tie as tie
 
 sub-same-bytes : tie.Need-sub-same-bytes
 sub-same-bytes c = search needs
@@ -11,15 +11,6 @@ part-same-bytes-start c = search needs
 
 part-same-bytes-end : tie.Need-part-same-bytes-end
 part-same-bytes-end c = search needs
-
-sub-same-bytes-2 : tie.Need-sub-same-bytes-2
-sub-same-bytes-2 c = search needs
-
-part-same-bytes-start-2 : tie.Need-part-same-bytes-start-2
-part-same-bytes-start-2 c = search needs
-
-part-same-bytes-end-2 : tie.Need-part-same-bytes-end-2
-part-same-bytes-end-2 c = search needs
 
 same-bytes-requires : tie.Need-same-bytes-requires
 same-bytes-requires c κs = search needs
@@ -49,9 +40,6 @@ certificate-serves-spec =
     sub-same-bytes
     part-same-bytes-start
     part-same-bytes-end
-    sub-same-bytes-2
-    part-same-bytes-start-2
-    part-same-bytes-end-2
     same-bytes-requires
     returns
     flag-of-requires

@@ -1,7 +1,7 @@
-use Rattle.judging.proofs.Laws.{number-absent, number-present}
+use Rattle.chains.proofs.Laws.{number-absent, number-present}
 use borrow.Author.Needs.{needs}
-use Rattle.judging.proofs.matches_number.Statement.{statement}
-use Rattle.judging.proofs.matches_number.Tie as tie
+use Rattle.chains.proofs.matches_number.Statement.{statement}
+use Rattle.chains.proofs.matches_number.Tie as tie
 
 returns : tie.Need-returns
 returns c = search (needs, number-absent)
