@@ -8,9 +8,12 @@ pub const TIME: u64 = 1_000;
 const GROUPS: u8 = 16;
 const ACTIONS: u8 = 8;
 const CERTIFICATES: u8 = 32;
+const LINKS: u8 = 4;
+const CHAINS: u8 = 4;
 const LISTED: u8 = 32;
 const NEVER_SPENT: u32 = u32::MAX;
 const MECHANISM: u8 = 7;
+const DELEGATING: u8 = 150;
 
 type Record = [u8; 64];
 
@@ -98,6 +101,17 @@ pub fn all_spent() -> Vec<u8> {
     file(&(0..GROUPS).flat_map(|g| full_group(g, 1 << SIGN, 0)).collect::<Vec<_>>())
 }
 
+/// Sixteen full groups that all permit Sign, by a key that is not presented; only the last names the mechanism of the certificates.
+pub fn by_delegation() -> Vec<u8> {
+    let rows = (0..GROUPS).flat_map(|g| {
+        let mechanism = if g == GROUPS - 1 { MECHANISM } else { MECHANISM + 1 };
+        let mut rows = full_group(g, 1 << SIGN, NEVER_SPENT);
+        rows[0] = record(1, 3, &[(4, &hash(DELEGATING)), (24, &[0, mechanism])]);
+        rows
+    });
+    file(&rows.collect::<Vec<_>>())
+}
+
 /// A use of a permission, without certificates.
 pub fn small_request(permission: u8) -> Vec<u8> {
     file(&[record(6, 0, &[(4, &[permission]), (56, &TIME.to_be_bytes())])])
@@ -108,6 +122,27 @@ pub fn full_request(permission: u8) -> Vec<u8> {
     let mut req = small_request(permission);
     for c in 0..CERTIFICATES {
         req.extend(record(9, 0, &[(4, &hash(100 + c)), (24, &[0, MECHANISM])]));
+    }
+    req
+}
+
+// The key that the first links of a chain lead to; the last link of the last chain leads to the last certificate.
+fn reached(chain: u8, links: u8) -> [u8; 20] {
+    hash(match (chain, links) {
+        (_, 0) => DELEGATING,
+        (chain, LINKS) if chain == CHAINS - 1 => 100 + CERTIFICATES - 1,
+        (chain, links) => DELEGATING + CHAINS * links + chain,
+    })
+}
+
+/// A use of a permission with 32 certificates and 16 delegations: four chains of four that start at the same key, the last link first.
+pub fn delegated_request(permission: u8) -> Vec<u8> {
+    let mask = (1u16 << permission).to_be_bytes();
+    let mut req = full_request(permission);
+    for links in (0..LINKS).rev() {
+        for chain in 0..CHAINS {
+            req.extend(record(14, 0, &[(4, &reached(chain, links)), (24, &reached(chain, links + 1)), (44, &mask)]));
+        }
     }
     req
 }

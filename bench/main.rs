@@ -115,6 +115,8 @@ fn request_cases() -> Vec<Case> {
         case("Sign, 1 group: permit", "Permit(0)", asked(inputs::small_acl(), inputs::small_request(SIGN))),
         case("Sign, 16 full groups, the last permits", "Permit(15)", asked(inputs::granted_last(), inputs::full_request(SIGN))),
         case("Sign, 16 full groups, all spent: 7", "Refuse(7, Some(0))", asked(inputs::all_spent(), inputs::full_request(SIGN))),
+        case("Sign, 16 full groups, none certified: 6", "Refuse(6, Some(0))", asked(inputs::by_delegation(), inputs::full_request(SIGN))),
+        case("Sign, 16 full groups, the last by four links", "Permit(15)", asked(inputs::by_delegation(), inputs::delegated_request(SIGN))),
     ]
 }
 
@@ -190,7 +192,8 @@ fn measure_stack() {
     print("fresh", stack::depth(|| proved::Ledger::fresh()));
     print("load", stack::depth(|| ledger.load(TIME)));
     print("clear", stack::depth(|| ledger.clear(95)));
-    print("request", stack::depth(|| ledger.request(&km0, &full, &inputs::full_request(SIGN))));
+    let (chained, delegated) = (inputs::by_delegation(), inputs::delegated_request(SIGN));
+    print("request", stack::depth(|| ledger.request(&km0, &chained, &delegated)));
     let (narrow, expand) = (inputs::full_request(REDUCE_ACL), inputs::full_request(EXPAND_ACL));
     print("narrow", stack::depth(|| ledger.narrow(&km0, &full, &narrow, &full, &inputs::full_hints())));
     let wide = inputs::expandable();

@@ -15,22 +15,25 @@ pub enum Refusal {
     OpenArchive,
 }
 
-/// Groups of an ACL; limits and actions of a group; listed module keys of a bundle.
+/// Groups of an ACL; limits and actions of a group; certificates and delegations of a request; listed module keys of a bundle.
 pub const GROUPS: usize = 16;
 const LIMITS: usize = 4;
 const ACTIONS: usize = 8;
+const CERTIFICATES: usize = 32;
+const DELEGATIONS: usize = 16;
 const LISTED: usize = 32;
 
 /// The greatest lengths of the files, in records.
 pub const ACL_RECORDS: usize = GROUPS * (1 + LIMITS + ACTIONS);
-pub const REQUEST_RECORDS: usize = 1 + 32;
+pub const REQUEST_RECORDS: usize = 1 + CERTIFICATES + DELEGATIONS;
 pub const BUNDLE_RECORDS: usize = 13 + LISTED + 6 + 1;
 pub const HINT_RECORDS: usize = GROUPS;
 
-/// A request record with the certificates that are presented beside it.
+/// A request record with the certificates and delegations that are presented beside it.
 pub struct Request<'a> {
     pub record: &'a Record,
     pub certificates: &'a [Record],
+    pub delegations: &'a [Record],
 }
 
 impl Request<'_> {
@@ -121,15 +124,27 @@ fn is_request(rec: &Record) -> bool {
     }
 }
 
-// The length of the file leaves room for 32 certificates and no more, so that they need not be counted.
-fn request_where(records: &[Record], wanted: impl Fn(&Record) -> bool) -> Result<Request<'_>, Refusal> {
-    let (record, certificates) = records.split_first().ok_or(Refusal::Malformed)?;
-    let sound = wanted(record) && certificates.iter().all(|c| c[0] == 9 && is_certificate(c));
-    unless(sound, Refusal::Malformed)?;
-    Ok(Request { record, certificates })
+// The first fault of records that are all of a sort, of which there may be so many.
+fn all_of(records: &[Record], sort: impl Fn(&Record) -> bool, most: usize) -> Result<(), Refusal> {
+    for (n, rec) in records.iter().enumerate() {
+        unless(sort(rec), Refusal::Malformed)?;
+        unless(n < most, Refusal::TooMany)?;
+    }
+    Ok(())
 }
 
-/// A request with its certificates, or the first fault.
+// The certificates come first; what follows the first record of another kind has to be delegations.
+fn request_where(records: &[Record], wanted: impl Fn(&Record) -> bool) -> Result<Request<'_>, Refusal> {
+    let (record, rest) = records.split_first().ok_or(Refusal::Malformed)?;
+    unless(wanted(record), Refusal::Malformed)?;
+    let shown = rest.iter().take_while(|rec| rec[0] == 9).count();
+    let (certificates, delegations) = rest.split_at(shown);
+    all_of(certificates, is_certificate, CERTIFICATES)?;
+    all_of(delegations, |rec| rec[0] == 14 && is_delegation(rec), DELEGATIONS)?;
+    Ok(Request { record, certificates, delegations })
+}
+
+/// A request with its certificates and delegations, or the first fault.
 pub fn request(records: &[Record]) -> Result<Request<'_>, Refusal> {
     request_where(records, is_request)
 }

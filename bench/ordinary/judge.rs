@@ -4,6 +4,9 @@ use super::files::Request;
 use super::record::*;
 use super::Ledger;
 
+// The most delegations of a chain.
+const LINKS: usize = 4;
+
 // The null module key.
 const NULL_KEY: Hash = [1, 0, 0, 0, 0, 0, 0, 0, 0, 0, 0, 0, 0, 0, 0, 0, 0, 0, 0, 0];
 
@@ -73,11 +76,38 @@ fn action_admits(km0: &Hash, rec: &Record, act: &Record) -> bool {
     }
 }
 
-// Whether a group has no certifier, or a presented certificate has its hash and, where named, its mechanism.
-fn is_certified(group: &Record, certificates: &[Record]) -> bool {
+// Whether a presented certificate has a hash and, where named, a mechanism.
+fn is_presented(certificates: &[Record], key: &Hash, mechanism: Option<u16>) -> bool {
+    certificates.iter().any(|c| hash(c, 4) == key && mechanism.is_none_or(|m| m == be16(c, 24)))
+}
+
+// The delegations of a set that pass a test, a bit for each.
+fn those(delegations: &[Record], set: u16, test: impl Fn(&Record) -> bool) -> u16 {
+    let passing = delegations.iter().enumerate().filter(|(i, d)| set >> i & 1 == 1 && test(d));
+    passing.fold(0, |found, (i, _)| found | 1 << i)
+}
+
+// Whether a chain of at most four delegations that hold the bit of a permission leads from a key to a presented certificate. Each step goes on from the
+// delegations that the step before it came to; each is come to once, so that loops and repeats end.
+fn is_delegated(req: &Request, key: &Hash, mechanism: Option<u16>) -> bool {
+    let delegations = req.delegations;
+    let mut left = those(delegations, u16::MAX, |d| be16(d, 44) >> req.record[4] & 1 == 1);
+    let mut ends = those(delegations, left, |d| hash(d, 4) == key);
+    for _ in 0..LINKS {
+        if those(delegations, ends, |d| is_presented(req.certificates, hash(d, 24), mechanism)) != 0 {
+            return true;
+        }
+        left &= !ends;
+        ends = those(delegations, left, |d| those(delegations, ends, |e| hash(e, 24) == hash(d, 4)) != 0);
+    }
+    false
+}
+
+// Whether a group has no certifier, or a presented certificate has its hash and, where named, its mechanism, or a use is delegated.
+fn is_certified(group: &Record, req: &Request) -> bool {
     let Some(certifier) = optional_hash(group, 0, 4) else { return true };
     let mechanism = optional_mechanism(group);
-    certificates.iter().any(|c| hash(c, 4) == certifier && mechanism.is_none_or(|m| m == be16(c, 24)))
+    is_presented(req.certificates, certifier, mechanism) || req.record[0] == 6 && is_delegated(req, certifier, mechanism)
 }
 
 // Whether a limit leaves room: of a group's own count, of a named counter that is not full, or of the seconds since load.
@@ -103,7 +133,7 @@ pub fn judge<'a>(ledger: &Ledger, km0: &Hash, acl: &'a [Record], req: &Request) 
         if !actions(body).any(|act| action_admits(km0, req.record, act)) {
             continue;
         }
-        if !is_certified(group, req.certificates) {
+        if !is_certified(group, req) {
             if nearest == Denial::Unadmitted {
                 nearest = Denial::Uncertified(place);
             }

@@ -1,4 +1,4 @@
-//! The bytes of a record: numbers, flags, hashes, token parameters, and the layout of each kind from 1 to 13.
+//! The bytes of a record: numbers, flags, hashes, token parameters, and the layout of each kind from 1 to 14.
 
 pub type Record = [u8; 64];
 pub type Hash = [u8; 20];
@@ -181,4 +181,9 @@ pub fn is_policy(rec: &Record) -> bool {
 /// Kind 13, a hint.
 pub fn is_hint(rec: &Record) -> bool {
     header(rec, 0) && zero::<3>(rec, 5) && zero::<48>(rec, 16)
+}
+
+/// Kind 14, a delegation.
+pub fn is_delegation(rec: &Record) -> bool {
+    header(rec, 0) && zero::<18>(rec, 46)
 }
