@@ -6,7 +6,8 @@ use std::io::{self, Read, Write};
 
 use crate::call::Call;
 use crate::desk::{attest, Verdict};
-use crate::gate::{self, Ledger};
+use crate::gate;
+use crate::ledger::Ledger;
 use crate::listing::write_listing;
 use crate::read_listing::read_listing;
 use crate::record::Refusal;
@@ -210,7 +211,7 @@ mod tests {
     use super::*;
     use crate::acl::{Acl, Action, Group, Limit, Sort};
     use crate::encode;
-    use crate::request::{Asked, Request};
+    use crate::request::{Asked, Presented, Request};
     use crate::script::{call_bytes, ALL_KINDS};
 
     fn answers(script: &[u8], kinds: &str) -> String {
@@ -234,7 +235,7 @@ mod tests {
                 asked: Asked::Use(4),
                 time,
             },
-            &[],
+            &Presented::default(),
         );
         Call::Request {
             km0: vec![0; 20],

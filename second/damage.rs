@@ -7,7 +7,7 @@ use crate::encode::{self, RecordBytes};
 use crate::make_acl::{stock, Maker};
 use crate::record::RECORD_LENGTH;
 use crate::replace::{Hint, MOST_HINTS};
-use crate::request::{Certificate, Request, MOST_REQUEST_RECORDS};
+use crate::request::{Certificate, Delegation, Request, MOST_REQUEST_RECORDS};
 use crate::script::LONGEST_BYTES;
 
 impl FileKind {
@@ -41,6 +41,7 @@ fn edges_of(kind: u8) -> (&'static [usize], &'static [u32]) {
         10 => (&[1, 5, 7, 28, 63], &[0]),
         11 => (&[1, 6, 8, 63], &[0]),
         12 => (&[1, 8, 63], &[0]),
+        14 => (&[1, 46, 55, 56, 63], &[0]),
         _ => (&[1, 5, 7, 16, 63], &[0]),
     }
 }
@@ -114,7 +115,7 @@ impl Maker {
             file.resize(length, 0);
             return;
         }
-        match self.random.weighted(&[32, 16, 8, 6, 38]) {
+        match self.random.weighted(&[24, 13, 7, 6, 50]) {
             0 => self.damage_part_end(file),
             1 => self.damage_record(file),
             2 => self.move_records(file),
@@ -188,7 +189,7 @@ impl Maker {
 
     /// A well-formed record of any kind.
     fn any_record(&mut self) -> RecordBytes {
-        match self.random.below(8) {
+        match self.random.below(9) {
             0 => encode::group_record(&self.group(0)),
             1 => encode::limit_record(&Limit {
                 sort: self.sort(),
@@ -203,7 +204,12 @@ impl Maker {
                 key: self.certifier(),
                 mechanism: self.mechanism(),
             }),
-            6 => {
+            6 => encode::delegation_record(&Delegation {
+                from: self.certifier(),
+                to: self.certifier(),
+                mask: 0xffff,
+            }),
+            7 => {
                 let field = self.random.between(1, 14) as u8;
                 encode::fact_record(field, &stock(b'f', field))
             }

@@ -3,10 +3,11 @@
 use std::fmt::Write as _;
 
 use crate::answer::Answer;
-use crate::gate::{check_km0_length, grant, Ledger};
+use crate::gate::{check_km0_length, grant};
+use crate::ledger::Ledger;
 use crate::read_acl::{check_acl_length, read_acl};
 use crate::record::{check_length, Refusal, RECORD_LENGTH};
-use crate::request::{read_request, Request};
+use crate::request::{read_request, Presented, Request};
 
 /// "0 to 1,000 request records without certificates".
 const MOST_REQUESTS: usize = 1000;
@@ -24,10 +25,11 @@ fn lines(km0: &[u8], acl: &[u8], requests: &[u8]) -> Result<String, Refusal> {
     check_length(requests, MOST_REQUESTS)?;
     let acl = read_acl(acl)?;
     let requests = read_requests(requests)?;
+    let nothing = Presented::default();
     let mut ledger = Ledger::fresh().loaded(0);
     let mut text = String::new();
     for (place, request) in requests.iter().enumerate() {
-        let answer = match grant(&ledger, km0, &acl, request, &[]) {
+        let answer = match grant(&ledger, km0, &acl, request, &nothing) {
             Ok((group, charged)) => {
                 ledger = charged;
                 Answer::Permit(group)
@@ -64,7 +66,7 @@ mod tests {
 
     fn signs(number: usize) -> Vec<u8> {
         let asked = Asked::Use(4);
-        encode::request(&Request { asked, time: 0 }, &[]).repeat(number)
+        encode::request(&Request { asked, time: 0 }, &Presented::default()).repeat(number)
     }
 
     #[test]

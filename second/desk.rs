@@ -2,7 +2,7 @@
 
 use crate::acl::{Acl, Action, MakeBlob, ALLOW_SOFT_SLOTS};
 use crate::read_acl::{check_acl_length, read_acl};
-use crate::record::{check_length, malformed_unless, records, Hash, Record, Refusal};
+use crate::record::{check_length, malformed_unless, push_up_to, records, Hash, Record, Refusal};
 use crate::subject::recovery_mechanism;
 
 /// "Greatest lengths: [...] bundle 52."
@@ -154,11 +154,7 @@ fn add_fact(
         facts[usize::from(field)] = Some(record.hash(8));
         return Ok(());
     }
-    if listed.len() == MOST_LISTED {
-        return Err(Refusal::TooMany);
-    }
-    listed.push(record.hash(8));
-    Ok(())
+    push_up_to(listed, record.hash(8), MOST_LISTED)
 }
 
 /// "11 signature outcome: byte 4 number 1-6, byte 5 one if good, else zero."

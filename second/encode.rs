@@ -5,7 +5,7 @@ use crate::acl::{Acl, Action, Group, Limit, MakeBlob, Sort, TokenParameters};
 use crate::desk::{Bundle, Policy, LISTED_FIELD};
 use crate::record::{Hash, RECORD_LENGTH};
 use crate::replace::Hint;
-use crate::request::{Asked, Certificate, Request};
+use crate::request::{Asked, Certificate, Delegation, Presented, Request};
 
 pub type RecordBytes = [u8; RECORD_LENGTH];
 
@@ -115,11 +115,10 @@ fn make_blob_record(blob: &MakeBlob) -> RecordBytes {
     bytes
 }
 
-pub fn request(request: &Request, certificates: &[Certificate]) -> Vec<u8> {
+pub fn request(request: &Request, presented: &Presented) -> Vec<u8> {
     let mut file = request_record(request).to_vec();
-    for certificate in certificates {
-        file.extend(certificate_record(certificate));
-    }
+    file.extend(presented.certificates.iter().flat_map(certificate_record));
+    file.extend(presented.delegations.iter().flat_map(delegation_record));
     file
 }
 
@@ -155,6 +154,14 @@ pub fn certificate_record(certificate: &Certificate) -> RecordBytes {
     let mut bytes = record(9);
     put(&mut bytes, 4, &certificate.key);
     put(&mut bytes, 24, &certificate.mechanism.to_be_bytes());
+    bytes
+}
+
+pub fn delegation_record(delegation: &Delegation) -> RecordBytes {
+    let mut bytes = record(14);
+    put(&mut bytes, 4, &delegation.from);
+    put(&mut bytes, 24, &delegation.to);
+    put(&mut bytes, 44, &delegation.mask.to_be_bytes());
     bytes
 }
 

@@ -349,7 +349,7 @@ impl Generator {
 }
 
 fn request_file(asking: &Asking) -> Bytes {
-    encode::request(&asking.request, &asking.certificates)
+    encode::request(&asking.request, &asking.presented)
 }
 
 #[cfg(test)]

@@ -5,7 +5,8 @@ use crate::acl::{
     Acl, Action, Group, Limit, MakeBlob, Sort, TokenParameters, LAST_COUNTER, MOST_ACTIONS,
     MOST_GROUPS, MOST_LIMITS,
 };
-use crate::gate::{Ledger, NULL_MODULE_KEY};
+use crate::gate::NULL_MODULE_KEY;
+use crate::ledger::Ledger;
 use crate::random::Random;
 use crate::record::Hash;
 

@@ -4,12 +4,12 @@ use crate::acl::{Acl, Action, Group, MakeBlob, Sort, TokenParameters};
 use crate::gate::NULL_MODULE_KEY;
 use crate::make_acl::{allows, Maker};
 use crate::record::Hash;
-use crate::request::{Asked, Certificate, Request, Token, MOST_CERTIFICATES};
+use crate::request::{Asked, Presented, Request, Token};
 
-/// A request with the certificates presented beside it.
+/// A request with what is presented beside it.
 pub struct Asking {
     pub request: Request,
-    pub certificates: Vec<Certificate>,
+    pub presented: Presented,
 }
 
 /// A time from which on the rest of a script should load again before it goes on.
@@ -25,24 +25,25 @@ impl Maker {
             .filter(|group| !group.actions.is_empty())
             .collect();
         if with_actions.is_empty() || self.random.chance(4) {
-            let certificates = self.other_certificates();
+            let presented = self.presented_to_nobody();
             return Asking {
                 request: Request {
                     asked: self.anything(),
                     time: self.time(acl),
                 },
-                certificates,
+                presented,
             };
         }
         let group = self.random.pick(&with_actions);
         let action = self.random.pick(&group.actions);
         let asked = self.aimed_at(&action);
+        let presented = self.presented_for(group, &asked);
         Asking {
             request: Request {
                 asked,
                 time: self.time(acl),
             },
-            certificates: self.certificates_for(group),
+            presented,
         }
     }
 
@@ -53,18 +54,19 @@ impl Maker {
             .iter()
             .filter(|group| allows(group, permission))
             .collect();
-        let certificates = if allowing.is_empty() {
-            self.other_certificates()
+        let asked = Asked::Use(permission);
+        let presented = if allowing.is_empty() {
+            self.presented_to_nobody()
         } else {
             let group = self.random.pick(&allowing);
-            self.certificates_for(group)
+            self.presented_for(group, &asked)
         };
         Asking {
             request: Request {
-                asked: Asked::Use(permission),
+                asked,
                 time: self.time(acl),
             },
-            certificates,
+            presented,
         }
     }
 
@@ -223,63 +225,6 @@ impl Maker {
             total,
             time_limit,
         }
-    }
-
-    /// The certificate that the group asks for, mostly; among others, at any place.
-    fn certificates_for(&mut self, group: &Group) -> Vec<Certificate> {
-        let mut list = self.other_certificates();
-        if let Some(certifier) = group.certifier {
-            let mechanism = group.mechanism.unwrap_or_else(|| self.mechanism());
-            let right = Certificate {
-                key: certifier,
-                mechanism,
-            };
-            match self.random.weighted(&[84, 6, 6, 4]) {
-                0 => self.present(&mut list, right),
-                1 => {
-                    let mechanism = self.other_mechanism(mechanism);
-                    self.present(&mut list, Certificate { mechanism, ..right });
-                }
-                2 => {
-                    let key = self.near(certifier);
-                    self.present(&mut list, Certificate { key, ..right });
-                }
-                _ => {}
-            }
-        }
-        list
-    }
-
-    /// Puts a certificate among the others, often last; in place of one where they are as many as
-    /// may be.
-    fn present(&mut self, list: &mut Vec<Certificate>, certificate: Certificate) {
-        let any = self.random.place(list.len() + 1);
-        let place = self.random.pick(&[any, list.len()]);
-        if list.len() < MOST_CERTIFICATES {
-            list.insert(place, certificate);
-        } else {
-            list[place.min(MOST_CERTIFICATES - 1)] = certificate;
-        }
-    }
-
-    fn other_certificates(&mut self) -> Vec<Certificate> {
-        let few = self.random.between(1, 3);
-        let many = self.random.between(4, 31);
-        let numbers = [
-            (665, 0),
-            (290, few),
-            (15, many),
-            (15, 31),
-            (7, 32),
-            (5, 33),
-            (3, 34),
-        ];
-        (0..self.random.pick_weighted(&numbers))
-            .map(|_| Certificate {
-                key: self.certifier(),
-                mechanism: self.mechanism(),
-            })
-            .collect()
     }
 
     /// A time for a request: mostly a little after the last one, else at an edge.

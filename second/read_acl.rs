@@ -4,7 +4,9 @@ use crate::acl::{
     Acl, Action, Group, Limit, MakeBlob, Sort, TokenParameters, LAST_COUNTER, MOST_ACL_RECORDS,
     MOST_ACTIONS, MOST_GROUPS, MOST_LIMITS,
 };
-use crate::record::{check_length, malformed_unless, part_if, records, Record, Refusal};
+use crate::record::{
+    check_length, malformed_unless, part_if, push_up_to, records, Record, Refusal,
+};
 
 /// Refusal 1 for an ACL file.
 pub fn check_acl_length(file: &[u8]) -> Result<(), Refusal> {
@@ -70,15 +72,6 @@ impl AclReader {
         }
         Ok(())
     }
-}
-
-/// Refusal 3: "one group, limit, action [...] too many". It comes after the record's own 2.
-fn push_up_to<T>(list: &mut Vec<T>, item: T, most: usize) -> Result<(), Refusal> {
-    if list.len() == most {
-        return Err(Refusal::TooMany);
-    }
-    list.push(item);
-    Ok(())
 }
 
 /// "1 group: flag 0 certifier (4-23), flag 1 mechanism (24-25, not zero; needs flag 0)."

@@ -152,6 +152,15 @@ pub fn malformed_unless(good: bool) -> Result<(), Refusal> {
     }
 }
 
+/// Refusal 3: "one group, limit, action, certificate or field 14 too many", or one delegation. It comes after the record's own 2.
+pub fn push_up_to<T>(list: &mut Vec<T>, item: T, most: usize) -> Result<(), Refusal> {
+    if list.len() == most {
+        return Err(Refusal::TooMany);
+    }
+    list.push(item);
+    Ok(())
+}
+
 /// Refusal 1: "a file not whole records or over its greatest length".
 pub fn check_length(file: &[u8], most_records: usize) -> Result<(), Refusal> {
     if file.len() % RECORD_LENGTH == 0 && file.len() <= most_records * RECORD_LENGTH {

@@ -1,7 +1,8 @@
 //! Replacing the ACL in force: narrowing, which hints must show to be one, and expansion.
 
 use crate::acl::{Acl, Action, Group, Limit, MakeBlob, MOST_ACTIONS, MOST_GROUPS};
-use crate::gate::{check_km0_length, grant, Ledger};
+use crate::gate::{check_km0_length, grant};
+use crate::ledger::Ledger;
 use crate::read_acl::{check_acl_length, read_acl};
 use crate::record::{check_length, malformed_unless, records, Hash, Record, Refusal};
 use crate::request::{check_request_length, read_request, EXPAND_ACL, REDUCE_ACL};
@@ -32,10 +33,10 @@ pub fn narrow(
     check_acl_length(new_acl)?;
     check_length(hints, MOST_HINTS)?;
     let acl = read_acl(acl)?;
-    let (request, certificates) = read_request(request, Some(REDUCE_ACL))?;
+    let (request, presented) = read_request(request, Some(REDUCE_ACL))?;
     let new_acl = read_acl(new_acl)?;
     let hints = read_hints(hints)?;
-    let (place, charged) = grant(ledger, km0, &acl, &request, &certificates)?;
+    let (place, charged) = grant(ledger, km0, &acl, &request, &presented)?;
     if !is_narrowing(&acl, &new_acl, &hints) {
         return Err(Refusal::NotNarrower);
     }
@@ -55,9 +56,9 @@ pub fn expand(
     check_request_length(request)?;
     check_acl_length(new_acl)?;
     let acl = read_acl(acl)?;
-    let (request, certificates) = read_request(request, Some(EXPAND_ACL))?;
+    let (request, presented) = read_request(request, Some(EXPAND_ACL))?;
     read_acl(new_acl)?;
-    let (place, mut charged) = grant(ledger, km0, &acl, &request, &certificates)?;
+    let (place, mut charged) = grant(ledger, km0, &acl, &request, &presented)?;
     charged.group_counts = [0; MOST_GROUPS];
     Ok((place, charged))
 }
@@ -178,7 +179,7 @@ mod tests {
     use super::*;
     use crate::acl::Sort;
     use crate::encode;
-    use crate::request::{Asked, Request};
+    use crate::request::{Asked, Presented, Request};
 
     const KM0: Hash = [0; 20];
 
@@ -202,7 +203,7 @@ mod tests {
                 asked: Asked::Use(permission),
                 time,
             },
-            &[],
+            &Presented::default(),
         )
     }
 

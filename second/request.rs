@@ -1,11 +1,14 @@
-//! Request files: one request record, then the presented certificates.
+//! Request files: one request record, then what is presented: certificates, then delegations.
 
 use crate::acl::TokenParameters;
-use crate::record::{check_length, malformed_unless, part_if, records, Hash, Record, Refusal};
+use crate::record::{
+    check_length, malformed_unless, part_if, push_up_to, records, Hash, Record, Refusal,
+};
 
-/// "Greatest lengths: request 33 records": the request itself and 32 certificates.
-pub const MOST_REQUEST_RECORDS: usize = 33;
+/// "A request is at most 49 records": the request itself, 32 certificates and 16 delegations.
+pub const MOST_REQUEST_RECORDS: usize = 49;
 pub const MOST_CERTIFICATES: usize = 32;
+pub const MOST_DELEGATIONS: usize = 16;
 const LAST_PERMISSION: u8 = 15;
 
 pub const REDUCE_ACL: u8 = 2;
@@ -42,26 +45,59 @@ pub struct Certificate {
     pub mechanism: u16,
 }
 
+/// From one key to another, for the permissions whose bits the mask holds.
+#[derive(Clone, Copy, Debug, PartialEq)]
+pub struct Delegation {
+    pub from: Hash,
+    pub to: Hash,
+    pub mask: u16,
+}
+
+/// What is presented with a request.
+#[derive(Clone, Debug, Default, PartialEq)]
+pub struct Presented {
+    pub certificates: Vec<Certificate>,
+    pub delegations: Vec<Delegation>,
+}
+
 /// Refusal 1 for a request file.
 pub fn check_request_length(file: &[u8]) -> Result<(), Refusal> {
     check_length(file, MOST_REQUEST_RECORDS)
 }
 
 /// Reads a request file. A replacement names the one use it takes ("each refusing any other request
-/// with 2"); any other request is out of place at that record, before the certificates are looked
+/// with 2"); any other request is out of place at that record, before what is presented is looked
 /// at.
-pub fn read_request(
-    file: &[u8],
-    only_use: Option<u8>,
-) -> Result<(Request, Vec<Certificate>), Refusal> {
+pub fn read_request(file: &[u8], only_use: Option<u8>) -> Result<(Request, Presented), Refusal> {
     let mut rest = records(file);
     // "A missing request record [...] gives 2."
     let request = read_request_record(rest.next().ok_or(Refusal::Malformed)?)?;
     if let Some(permission) = only_use {
         malformed_unless(request.asked == Asked::Use(permission))?;
     }
-    let certificates = rest.map(read_certificate).collect::<Result<Vec<_>, _>>()?;
-    Ok((request, certificates))
+    let mut presented = Presented::default();
+    for record in rest {
+        presented.add(record)?;
+    }
+    Ok((request, presented))
+}
+
+impl Presented {
+    /// Delegations stand "after the certificates"; "a seventeenth gives 3".
+    fn add(&mut self, record: Record) -> Result<(), Refusal> {
+        match record.kind() {
+            9 => {
+                let certificate = read_certificate(record)?;
+                malformed_unless(self.delegations.is_empty())?;
+                push_up_to(&mut self.certificates, certificate, MOST_CERTIFICATES)
+            }
+            14 => {
+                let delegation = read_delegation(record)?;
+                push_up_to(&mut self.delegations, delegation, MOST_DELEGATIONS)
+            }
+            _ => Err(Refusal::Malformed),
+        }
+    }
 }
 
 /// "Requests, each with its time in 56-63."
@@ -116,7 +152,6 @@ fn read_recovery(record: Record) -> Result<Asked, Refusal> {
 
 /// "9 presented certificate: 4-23 key hash, 24-25 mechanism, not zero."
 fn read_certificate(record: Record) -> Result<Certificate, Refusal> {
-    malformed_unless(record.kind() == 9)?;
     record.check_zeros(0, &[(4, 23), (24, 25)])?;
     let mechanism = record.number16(24);
     malformed_unless(mechanism != 0)?;
@@ -126,10 +161,72 @@ fn read_certificate(record: Record) -> Result<Certificate, Refusal> {
     })
 }
 
+/// "Kind 14: from-hash 4-23, to-hash 24-43, sixteen-bit permission mask 44-45".
+fn read_delegation(record: Record) -> Result<Delegation, Refusal> {
+    record.check_zeros(0, &[(4, 23), (24, 43), (44, 45)])?;
+    Ok(Delegation {
+        from: record.hash(4),
+        to: record.hash(24),
+        mask: record.number16(44),
+    })
+}
+
 #[cfg(test)]
 mod tests {
     use super::*;
     use crate::encode;
+
+    fn certificate() -> Certificate {
+        Certificate {
+            key: [1; 20],
+            mechanism: 65535,
+        }
+    }
+
+    fn delegation() -> Delegation {
+        Delegation {
+            from: [1; 20],
+            to: [2; 20],
+            mask: 0x8001,
+        }
+    }
+
+    #[test]
+    fn one_certificate_or_delegation_too_many() {
+        let reply = |certificates, delegations| {
+            let presented = Presented {
+                certificates: vec![certificate(); certificates],
+                delegations: vec![delegation(); delegations],
+            };
+            let request = Request {
+                asked: Asked::Use(4),
+                time: 0,
+            };
+            read_request(&encode::request(&request, &presented), None).map(|_| ())
+        };
+        assert_eq!(reply(32, 16), Ok(()));
+        assert_eq!(reply(33, 0), Err(Refusal::TooMany));
+        assert_eq!(reply(0, 17), Err(Refusal::TooMany));
+    }
+
+    #[test]
+    fn certificates_come_before_delegations() {
+        let certificate = encode::certificate_record(&certificate());
+        let delegation = encode::delegation_record(&delegation());
+        let mut sign = [0; 64];
+        sign[0] = 6;
+        sign[4] = 4;
+        let reply = |records: &[[u8; 64]]| read_request(&records.concat(), None).map(|_| ());
+        assert_eq!(reply(&[sign, certificate, delegation]), Ok(()));
+        let mixed = [sign, delegation, certificate];
+        assert_eq!(reply(&mixed), Err(Refusal::Malformed));
+        let mut flagged = delegation;
+        flagged[3] = 1;
+        assert_eq!(reply(&[sign, flagged]), Err(Refusal::Malformed));
+        let mut longer = delegation;
+        longer[46] = 1;
+        assert_eq!(reply(&[sign, longer]), Err(Refusal::Malformed));
+    }
 
     #[test]
     fn what_is_written_is_read_back() {
@@ -143,13 +240,10 @@ mod tests {
             hash: [5; 20],
             parameters,
         });
-        let certificates = vec![
-            Certificate {
-                key: [1; 20],
-                mechanism: 65535
-            };
-            32
-        ];
+        let presented = Presented {
+            certificates: vec![certificate(); 32],
+            delegations: vec![delegation(); 16],
+        };
         for asked in [
             Asked::Use(15),
             Asked::Blob {
@@ -169,12 +263,9 @@ mod tests {
                 asked,
                 time: u64::MAX - 1,
             };
-            let file = encode::request(&request, &certificates);
-            assert_eq!(file.len(), 33 * 64);
-            assert_eq!(
-                read_request(&file, None),
-                Ok((request, certificates.clone()))
-            );
+            let file = encode::request(&request, &presented);
+            assert_eq!(file.len(), 49 * 64);
+            assert_eq!(read_request(&file, None), Ok((request, presented.clone())));
         }
     }
 
@@ -185,7 +276,7 @@ mod tests {
                 asked: Asked::Use(REDUCE_ACL),
                 time: 0,
             },
-            &[],
+            &Presented::default(),
         );
         assert!(read_request(&file, Some(REDUCE_ACL)).is_ok());
         assert_eq!(

@@ -1,0 +1,78 @@
+//! The ledger: what the gate remembers from call to call.
+
+use crate::acl::{Group, Sort, LAST_COUNTER, MOST_GROUPS};
+use crate::record::Refusal;
+
+pub const COUNTERS: usize = 96;
+
+/// A refused call leaves the old ledger standing, since
+/// every step hands back a new one.
+#[derive(Clone, Debug, PartialEq)]
+pub struct Ledger {
+    pub group_counts: [u32; MOST_GROUPS],
+    pub counters: [u32; COUNTERS],
+    pub load_time: u64,
+    pub last_time: u64,
+}
+
+impl Ledger {
+    pub fn fresh() -> Ledger {
+        Ledger {
+            group_counts: [0; MOST_GROUPS],
+            counters: [0; COUNTERS],
+            load_time: 0,
+            last_time: 0,
+        }
+    }
+
+    /// "Load, at any time given: group counts zero, both times set to it."
+    pub fn loaded(&self, time: u64) -> Ledger {
+        Ledger {
+            group_counts: [0; MOST_GROUPS],
+            counters: self.counters,
+            load_time: time,
+            last_time: time,
+        }
+    }
+
+    /// "Clear: one named counter to zero." Refusal 10: "counter over 95".
+    pub fn cleared(&self, counter: u64) -> Result<Ledger, Refusal> {
+        if counter > u64::from(LAST_COUNTER) {
+            return Err(Refusal::NoSuchNumber);
+        }
+        let mut ledger = self.clone();
+        ledger.counters[counter as usize] = 0;
+        Ok(ledger)
+    }
+
+    /// "Charged: own count and each named counter plus 1, last time set to the request's."
+    pub fn charged(&self, group: &Group, place: usize, time: u64) -> Ledger {
+        let mut ledger = self.clone();
+        ledger.group_counts[place] += 1;
+        for limit in &group.limits {
+            if let Sort::Counter(counter) = limit.sort {
+                ledger.counters[usize::from(counter)] += 1;
+            }
+        }
+        ledger.last_time = time;
+        ledger
+    }
+}
+
+#[cfg(test)]
+mod tests {
+    use super::*;
+
+    #[test]
+    fn clear_and_load() {
+        let mut ledger = Ledger::fresh();
+        ledger.counters[95] = 4;
+        ledger.group_counts[15] = 4;
+        assert_eq!(ledger.cleared(96), Err(Refusal::NoSuchNumber));
+        assert_eq!(ledger.cleared(u64::MAX), Err(Refusal::NoSuchNumber));
+        assert_eq!(ledger.cleared(95).unwrap().counters[95], 0);
+        let loaded = ledger.loaded(u64::MAX);
+        assert_eq!((loaded.counters[95], loaded.group_counts[15]), (4, 0));
+        assert_eq!((loaded.load_time, loaded.last_time), (u64::MAX, u64::MAX));
+    }
+}
