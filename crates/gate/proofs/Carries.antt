@@ -4,7 +4,7 @@ use native.Mathlib.Omega.{arith}
 use native.Mathlib.Numerals.{add-one}
 use mathlib.Core.Path.{_≡_, sym, _∙_, ap}
 use mathlib.Core.List.{List, [], _∷_, _++_, map, append-assoc}
-use lib.ListN.{length, take, drop, getD, set, replicate, length-set, length-replicate, List·getD-eq-default, take-append-drop}
+use lib.ListN.{length, take, drop, getD, set, replicate, length-set, length-replicate, take-append-drop}
 use lib.Seq.{take-suc-set, drop-set-lt, set-out, getD-take, getD-drop}
 use Rattle.rules.specs.Sizes.{groupsMax}
 use Rattle.rules.specs.Basics.{Bytes, part, byte}
@@ -13,12 +13,12 @@ use Rattle.rules.specs.Ledger.{carried}
 use Rattle.rules.proofs.Rows.{recordsFrom, rows-start, rows-at, rows-end}
 use Rattle.gate.specs.Outcomes.{carriedFrom}
 
--- a count past a table
-pub past-counts : (t : List ℕ) (i n : ℕ) → length t ≡ n → n ≤ i → 0 ≡ getD t i 0
-past-counts t i n e h = sym (List·getD-eq-default t 0 {n = i} (omega arith))
-
+-- a place past the table changes nothing
 pub carry-past : (t : List ℕ) (i n v : ℕ) → length t ≡ n → n ≤ i → t ≡ set t i v
 carry-past t i n v e h = sym (set-out t i v (omega arith))
+
+pub carried-length : (t next : List ℕ) (i n v : ℕ) → length t ≡ n → next ≡ set t i v → length next ≡ n
+carried-length t next i n v l e = ap length e ∙ length-set t i v ∙ l
 
 -- the table when the hints are done
 snoc : (xs : List ℕ) (v : ℕ) (ys : List ℕ) → (xs ++ (v ∷ [])) ++ ys ≡ xs ++ (v ∷ ys)
@@ -58,16 +58,19 @@ carried-is counts hs h =
 unfoldable pub hintsLeft : Bytes → ℕ → List Hint
 hintsLeft s at = map hintOf (recordsFrom s at)
 
-pub hints-all : (s : Bytes) → hintsLeft s 0 ≡ hintsOf s
+hints-all : (s : Bytes) → hintsLeft s 0 ≡ hintsOf s
 unfolding hintsLeft
 hints-all s = ap (map hintOf) (rows-start s)
 
+pub carry-start : (counts : List ℕ) (s : Bytes) (table : List ℕ) → carriedFrom counts 0 (hintsLeft s 0) table ≡ carriedFrom counts 0 (hintsOf s) table
+carry-start counts s table = ap (λ (l : List Hint). carriedFrom counts 0 l table) (hints-all s)
+
 module _ (counts : List ℕ) (s : Bytes) (at i : ℕ) (table x : List ℕ) (inv : carriedFrom counts i (hintsLeft s at) table ≡ x) where
-  pub carry-next : (b next : List ℕ) → 64 ≤ length s - at → b ≡ counts → next ≡ set table i (getD counts (getD s (at + 4) 0) 0) → carriedFrom b (i + 1) (hintsLeft s (at + 64)) next ≡ x
+  pub carry-next : (next : List ℕ) → 64 ≤ length s - at → next ≡ set table i (getD counts (getD s (at + 4) 0) 0) → carriedFrom counts (i + 1) (hintsLeft s (at + 64)) next ≡ x
   unfolding carriedFrom hintsLeft
-  carry-next b next h c e =
+  carry-next next h e =
       let k : byte 4 (part at 64 s) ≡ getD s (at + 4) 0 = getD-take 64 (drop at s) 4 0 (omega arith) ∙ getD-drop at s 4 0 in
-      rw (c, e) (sym (ap (λ (l : List Bytes). carriedFrom counts i (map hintOf l) table) (rows-at s at h) ∙ rw k) ∙ inv)
+      rw e (sym (ap (λ (l : List Bytes). carriedFrom counts i (map hintOf l) table) (rows-at s at h) ∙ rw k) ∙ inv)
 
   pub carry-done : length s - at < 64 → table ≡ x
   unfolding carriedFrom hintsLeft

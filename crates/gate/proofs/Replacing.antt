@@ -1,22 +1,22 @@
 -- Narrowing and expansion: the first fault of their files, and what a permit comes to.
 use Prim.Native.Nat.{ℕ, _≤_}
-use mathlib.Core.Path.{_≡_, sym, _∙_, ap}
+use mathlib.Core.Path.{_≡_, refl, sym, _∙_, ap}
 use mathlib.Core.List.{List, _∷_}
 use mathlib.Core.Option.{Option, none}
 use mathlib.Core.Bool.{Bool, true, false, _&&_, not}
 use borrow.Author.Tests.{not-true, not-false}
-use lib.ListN.{length, replicate}
+use lib.ListN.{length}
 use Rattle.rules.specs.Sizes.{groupsMax, aclRecords, hintRecords}
 use Rattle.rules.specs.Numbers.{badLength, notNarrower}
-use Rattle.rules.specs.Basics.{Bytes, orNext, firstFault, fits}
-use Rattle.rules.specs.Acl.{Group}
-use Rattle.rules.specs.Request.{Hint, hintsOf, useOf, reduceAcl, expandAcl}
-use Rattle.rules.specs.Ledger.{Ledger, recounted, carried}
+use Rattle.rules.specs.Basics.{if_then_else_, Bytes, orNext, firstFault, fits, records}
+use Rattle.rules.specs.Acl.{Group, aclFault}
+use Rattle.rules.specs.Request.{Request, Hint, hintsOf, useOf, reduceAcl, expandAcl}
+use Rattle.rules.specs.Ledger.{Ledger, charge, recounted, carried}
 use Rattle.rules.specs.Narrow.{narrows}
-use Rattle.rules.specs.Gate.{Outcome, refused, permitted, narrowed, lengthsFit, narrowFiles, expandFiles}
+use Rattle.rules.specs.Gate.{Answer, Outcome, Judgement, granted, denied, judge, settle, refused, permitted, narrowed, expanded, lengthsFit, narrowFiles, expandFiles}
 use Rattle.rules.proofs.Laws.{and-left, unless-passed, fault-none-every}
 use Rattle.rules.proofs.Few.{narrow-few}
-use Rattle.gate.specs.Outcomes.{carriedFrom}
+use Rattle.gate.specs.Outcomes.{carriedOf, noCounts, permittedIf, isPermit, lastAfter, settledAs, countsAfter}
 use Rattle.gate.proofs.Settling.{sound-request, fitting-request}
 use Rattle.gate.proofs.Carries.{carried-is}
 
@@ -25,35 +25,76 @@ pub fault-next : {F : Type 0} (o x a b : Option F) (ts : List (Option F)) → x 
 unfolding firstFault
 fault-next o x a b ts e p q = e ∙ rw (p, q)
 
--- Narrowing.
-module _ (l : Ledger) (old new : List Group) (hs : List Hint) (k : ℕ) (charged : Ledger) (o : Outcome) (r : Bool) (e : r ≡ narrows old new hs) where
-  pub not-shown : not r ≡ true → o ≡ refused l notNarrower → o ≡ narrowed l old new hs k charged
-  not-shown h p = p ∙ rw (sym e ∙ not-true r h)
+-- The counts that a replacement leaves.
+module _ (f : List ℕ → List ℕ) (a : Answer) (counts : List ℕ) (b : Bool) (e : b ≡ isPermit a) where
+  pub counts-kept : not b ≡ true → counts ≡ countsAfter f a counts
+  unfolding countsAfter
+  counts-kept h = sym (rw (sym e ∙ not-true b h))
 
-  pub shown : (m : Ledger) → not r ≡ false → length hs ≤ groupsMax → m ≡ charged → o ≡ permitted k (recounted m (carriedFrom (m .counts) 0 hs (replicate groupsMax 0)))
-      → o ≡ narrowed l old new hs k charged
-  shown m h n c p =
-      p ∙ ap (λ (t : List ℕ). permitted k (recounted m t)) (carried-is (m .counts) hs n)
-      ∙ ap (λ (x : Ledger). permitted k (recounted x (carried (x .counts) hs))) c
-      ∙ rw (sym e ∙ not-false r h)
+  pub counts-replaced : (t : List ℕ) → not b ≡ false → t ≡ f counts → t ≡ countsAfter f a counts
+  unfolding countsAfter
+  counts-replaced t h d = d ∙ sym (rw (sym e ∙ not-false b h))
 
--- a permit's ledger
-pub permit-ledger : (o : Outcome) (k : ℕ) (m : Ledger) → o ≡ permitted k m → o .ledger ≡ m
-permit-ledger o k m e = ap (λ (x : Outcome). x .ledger) e
+-- what a replacement makes of an outcome: of a permit's group counts others, and nothing else
+abbrev replaced : (List ℕ → List ℕ) → Outcome → Outcome
+replaced f o = record { answer = o .answer; ledger = recounted (o .ledger) (countsAfter f (o .answer) (o .ledger .counts)) }
 
--- What sound files tell: the request has a record and is short, the hints are few.
-pub narrow-sound : (km0 acl req new hints : Bytes) → narrowFiles km0 acl req new hints ≡ none → ((64 ≤ length req) × (length req ≤ 4032)) × (length (hintsOf hints) ≤ groupsMax)
+-- A request is settled, then the counts are replaced.
+module _ (l : Ledger) (time : ℕ) where
+  settled-narrowed : (old new : List Group) (hs : List Hint) → length hs ≤ groupsMax → (j : Judgement)
+      → replaced (carriedOf hs) (settle l time (permittedIf l (narrows old new hs)) j) ≡ settle l time (narrowed l old new hs) j
+  unfolding countsAfter permittedIf
+  settled-narrowed old new hs few (granted k g) = pick (narrows old new hs)
+    where
+      m : Ledger
+      m = charge l k g time
+
+      pick : (b : Bool) → replaced (carriedOf hs) (permittedIf l b k m) ≡ (if b then permitted k (recounted m (carried (m .counts) hs)) else refused l notNarrower)
+      pick true = ap (λ (t : List ℕ). permitted k (recounted m t)) (carried-is (m .counts) hs few)
+      pick false = refl
+  settled-narrowed old new hs few (denied d) = refl
+
+  settled-expanded : (j : Judgement) → replaced noCounts (settle l time (permittedIf l true) j) ≡ settle l time expanded j
+  unfolding countsAfter permittedIf
+  settled-expanded (granted k g) = refl
+  settled-expanded (denied d) = refl
+
+-- From the tables as `settle` left them to the outcome: the group counts replaced, the last time by the answer.
+module _ (l : Ledger) (km0 : Bytes) (gs : List Group) (q : Request) (a : Answer) (counts counters : List ℕ) (loaded last when n : ℕ) (end : List ℕ)
+    (e : n ≡ lastAfter a last when) (w : when ≡ q .time) where
+  abbrev o : Outcome
+  o = record { answer = a; ledger = record { counts = end; counters = counters; loaded = loaded; last = n } }
+
+  replaced-is : (f : List ℕ → List ℕ) → end ≡ countsAfter f a counts → o ≡ replaced f (settledAs a counts counters loaded last (q .time))
+  replaced-is f d =
+      ap (λ (x : List ℕ). record { answer = a; ledger = record { counts = x; counters = counters; loaded = loaded; last = n } }) d
+      ∙ ap (λ (x : ℕ). record { answer = a; ledger = record { counts = countsAfter f a counts; counters = counters; loaded = loaded; last = x } }) (e ∙ ap (lastAfter a last) w)
+
+  pub narrow-settled : (new : List Group) (hs : List Hint) (shown : Bool) → length hs ≤ groupsMax → shown ≡ narrows gs new hs
+      → settledAs a counts counters loaded last (q .time) ≡ settle l (q .time) (permittedIf l shown) (judge l km0 gs q) → end ≡ countsAfter (carriedOf hs) a counts
+      → o ≡ settle l (q .time) (narrowed l gs new hs) (judge l km0 gs q)
+  narrow-settled new hs shown few s p d =
+      replaced-is (carriedOf hs) d
+      ∙ ap (replaced (carriedOf hs)) (p ∙ ap (λ (b : Bool). settle l (q .time) (permittedIf l b) (judge l km0 gs q)) s)
+      ∙ settled-narrowed l (q .time) gs new hs few (judge l km0 gs q)
+
+  pub expand-settled : settledAs a counts counters loaded last (q .time) ≡ settle l (q .time) (permittedIf l true) (judge l km0 gs q) → end ≡ countsAfter noCounts a counts
+      → o ≡ settle l (q .time) expanded (judge l km0 gs q)
+  expand-settled p d = replaced-is noCounts d ∙ ap (replaced noCounts) p ∙ settled-expanded l (q .time) (judge l km0 gs q)
+
+-- What sound files tell: the request has a record and is short, the ACL has no fault, the hints are few.
+pub narrow-sound : (km0 acl req new hints : Bytes) → narrowFiles km0 acl req new hints ≡ none → ((64 ≤ length req) × (length req ≤ 4032)) × (aclFault (records acl) ≡ none) × (length (hintsOf hints) ≤ groupsMax)
 narrow-sound km0 acl req new hints e =
     let h = fault-none-every _ e in
     let t = unless-passed (lengthsFit km0 acl req && fits aclRecords new && fits hintRecords hints) badLength (h .0) in
     let f = and-left (lengthsFit km0 acl req) (fits aclRecords new) (and-left (lengthsFit km0 acl req && fits aclRecords new) (fits hintRecords hints) t) in
-    ((sound-request (useOf reduceAcl) req (h .1 .1 .0), fitting-request km0 acl req f), narrow-few km0 acl req new hints e)
+    ((sound-request (useOf reduceAcl) req (h .1 .1 .0), fitting-request km0 acl req f), h .1 .0, narrow-few km0 acl req new hints e)
 
-pub expand-sound : (km0 acl req new : Bytes) → expandFiles km0 acl req new ≡ none → (64 ≤ length req) × (length req ≤ 4032)
+pub expand-sound : (km0 acl req new : Bytes) → expandFiles km0 acl req new ≡ none → ((64 ≤ length req) × (length req ≤ 4032)) × (aclFault (records acl) ≡ none)
 expand-sound km0 acl req new e =
     let h = fault-none-every _ e in
     let t = unless-passed (lengthsFit km0 acl req && fits aclRecords new) badLength (h .0) in
-    (sound-request (useOf expandAcl) req (h .1 .1 .0), fitting-request km0 acl req (and-left (lengthsFit km0 acl req) (fits aclRecords new) t))
+    ((sound-request (useOf expandAcl) req (h .1 .1 .0), fitting-request km0 acl req (and-left (lengthsFit km0 acl req) (fits aclRecords new) t)), h .1 .0)
 
 -- two tests that the code made, as one
 pub both-are : (a b x y : Bool) → a ≡ x → b ≡ y → (a && b) ≡ (x && y)

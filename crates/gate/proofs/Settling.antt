@@ -1,29 +1,39 @@
--- From a judgement to the outcome: the group that grants stands at its place, is not full, and is charged; a denial keeps the ledger.
-use Prim.Native.Nat.{ℕ, suc, _+_, _-_, _*_, _%_, _≤_, _<_}
+-- From a judgement to the outcome: the group that grants stands at its place, is not full, names no counter twice, and is charged; a
+-- denial keeps the ledger.
+use Prim.Native.Nat.{ℕ, zero, suc, _+_, _-_, _*_, _%_, _≤_, _<_}
 use native.Mathlib.Omega.{arith}
 use mathlib.Core.Path.{_≡_, refl, sym, _∙_, ap}
 use mathlib.Core.List.{List, [], _∷_}
 use mathlib.Core.Option.{Option, none, some}
-use mathlib.Core.Bool.{Bool, true, false, _&&_}
-use borrow.Author.Tests.{eqb-true, ltb-true, ltb-false, leb-true}
+use mathlib.Core.Bool.{Bool, true, false, not, _&&_}
+use borrow.Author.Tests.{eqb-true, ltb-true, ltb-false, leb-true, not-true, not-false}
 use lib.ListN.{length, drop, getD}
 use lib.Dec.{eqb, ltb, leb}
 use Rattle.rules.specs.Sizes.{recordBytes, hashBytes, fullCount, aclRecords, requestRecords}
-use Rattle.rules.specs.Numbers.{badLength, malformed}
-use Rattle.rules.specs.Basics.{Bytes, all, records, fits}
-use Rattle.rules.specs.Acl.{Limit, Group}
+use Rattle.rules.specs.Numbers.{badLength, malformed, notNarrower}
+use Rattle.rules.specs.Basics.{Bytes, Every, all, records, fits}
+use Rattle.rules.specs.Acl.{Limit, Group, aclOf, aclFault}
 use Rattle.rules.specs.Request.{Request, requestLaidOut, requestFault}
 use Rattle.rules.specs.Ledger.{Ledger, charge}
 use Rattle.rules.specs.Grant.{limitLeft, limitsLeft, groupAdmits, certified, unspent}
-use Rattle.rules.specs.Gate.{Outcome, Lowest, nobody, group, lowest, Denial, early, unadmitted, uncertified, exhausted, Judgement, granted, denied, grants, tooEarly, whyNot, judgedBy, judge, refusedNear, refused, settle, unlessFault, lengthsFit, requestFiles}
+use Rattle.rules.specs.Gate.{Answer, Outcome, Lowest, nobody, group, lowest, Denial, early, unadmitted, uncertified, exhausted, Judgement, granted, denied, grants, tooEarly, whyNot, judgedBy, judge, refusedNear, refused, permitted, settle, unlessFault, lengthsFit, requestFiles}
 use Rattle.rules.proofs.Laws.{never, and-left, and-right, and-both, implication, unless-passed, fault-none-every}
 use Rattle.rules.proofs.Rows.{no-rows}
+use Rattle.theorems.specs.Sizes.{Apart, GroupFits}
+use Rattle.theorems.proofs.AclSizes.{acl-fits}
 use Rattle.groups.specs.Parts.{firstLimits}
 use Rattle.refusals.specs.declared.Denial as code
 use Rattle.refusals.specs.Refusals.{denialNumber, denialGroup}
 use Rattle.judging.specs.declared.Judged.the-variants.{Granted, Denied}
 use Rattle.judging.specs.Standings.{denialAs, judgedAs}
-use Rattle.gate.specs.Outcomes.{limitHasRoom, chargedWith}
+use Rattle.gate.specs.Outcomes.{limitHasRoom, Chargeable, chargedWith, permittedIf, lastAfter, settledAs}
+
+-- of groups that fit, the limits of the one at a place name no counter twice
+first-apart : (k : ℕ) (gs : List Group) → Every GroupFits gs → Apart (firstLimits (drop k gs))
+first-apart zero [] f = λ i j m n l d e. absurd (never (cc))
+first-apart (suc k) [] f = λ i j m n l d e. absurd (never (cc))
+first-apart zero (g ∷ gs) f = f .0 .apart
+first-apart (suc k) (g ∷ gs) f = first-apart k gs (f .1)
 
 -- the lowest group stands at its place, counted from `place`, and passes
 lowest-at : (test : ℕ → Group → Bool) (place : ℕ) (gs : List Group) (k : ℕ) (g : Group) → lowest test place gs ≡ group k g
@@ -103,15 +113,39 @@ module _ (l : Ledger) (km0 : Bytes) (gs : List Group) (q : Request) where
           let f : (ltb n (m .maximum) && ltb n fullCount) ≡ true = rw q2 at d in
           and-right (ltb n (m .maximum)) (ltb n fullCount) f
 
-  pub charge-room : (k : ℕ) (ms : List Limit) → Granted k ≡ judgedAs (judge l km0 gs q) → ms ≡ firstLimits (drop k gs)
-      → (getD (l .counts) k 0 < fullCount) × (all (limitHasRoom (l .counters)) ms ≡ true)
-  charge-room k ms e m =
+  charge-able : (k : ℕ) (ms : List Limit) → Every GroupFits gs → Granted k ≡ judgedAs (judge l km0 gs q) → ms ≡ firstLimits (drop k gs)
+      → (getD (l .counts) k 0 < fullCount) × Chargeable (l .counters) ms
+  charge-able k ms f e m =
       let r = granted-limits k e in
       let g = r .0 in
       let own = getD (l .counts) k 0 in
       let u : unspent l k q g ≡ true = and-right (groupAdmits km0 q g && certified q g) (unspent l k q g) (r .3) in
-      let x = and-right (ltb own fullCount) (limitsLeft (l .counters) own (q .time - l .loaded) (g .limits)) u in
-      (count-room k g (r .3), rw (m ∙ r .2) (limits-room own (q .time - l .loaded) (g .limits) x))
+      let x = and-right (ltb own fullCount) (limitsLeft (l .counters) own (q .time - l .loaded) (g .limits)) u in (
+        count-room k g (r .3),
+        record { room = rw (m ∙ r .2) (limits-room own (q .time - l .loaded) (g .limits) x); apart = rw m (first-apart k gs f) },
+      )
+
+-- .. on an ACL without fault
+pub grant-able : (l : Ledger) (km0 acl : Bytes) (q : Request) (k : ℕ) (ms : List Limit) → aclFault (records acl) ≡ none → Granted k ≡ judgedAs (judge l km0 (aclOf acl) q)
+    → ms ≡ firstLimits (drop k (aclOf acl)) → (getD (l .counts) k 0 < fullCount) × Chargeable (l .counters) ms
+grant-able l km0 acl q k ms f = charge-able l km0 (aclOf acl) q k ms (acl-fits acl f .each)
+
+-- A grant is charged, but where hints do not show a narrowing.
+module _ (l : Ledger) (shown : Bool) (k : ℕ) (m : Ledger) (o : Outcome) where
+  pub grant-not : not shown ≡ true → o ≡ refused l notNarrower → o ≡ permittedIf l shown k m
+  unfolding permittedIf
+  grant-not h p = p ∙ sym (rw (not-true shown h))
+
+  pub grant-is : not shown ≡ false → o ≡ permitted k m → o ≡ permittedIf l shown k m
+  unfolding permittedIf
+  grant-is h p = p ∙ sym (rw (not-false shown h))
+
+-- the ledger's last time is that of the answer
+pub settled-is : (a : Answer) (counts counters : List ℕ) (loaded last time when n : ℕ) (s : Outcome) → n ≡ lastAfter a last when → when ≡ time
+    → settledAs a counts counters loaded last time ≡ s
+    → record { answer = a; ledger = record { counts = counts; counters = counters; loaded = loaded; last = n } } ≡ s
+settled-is a counts counters loaded last time when n s e w p =
+    ap (λ (x : ℕ). record { answer = a; ledger = record { counts = counts; counters = counters; loaded = loaded; last = x } }) (e ∙ ap (lastAfter a last) w) ∙ p
 
 -- A denial keeps the ledger, and is refused with its number and the group that it carries.
 module _ (l : Ledger) (time : ℕ) (onPermit : ℕ → Ledger → Outcome) where
@@ -157,8 +191,8 @@ fitting-request km0 acl req e =
     let a = leb-true (length req) (requestRecords * recordBytes) (and-right (eqb (length req % recordBytes) 0) (leb (length req) (requestRecords * recordBytes)) f) in
     omega arith
 
--- a request's files without fault: its record is there, and the file is short
-pub files-sound : (km0 acl req : Bytes) → requestFiles km0 acl req ≡ none → (64 ≤ length req) × (length req ≤ 4032)
+-- What a request's sound files tell: the request has a record and is short, the ACL has no fault.
+pub files-sound : (km0 acl req : Bytes) → requestFiles km0 acl req ≡ none → ((64 ≤ length req) × (length req ≤ 4032)) × (aclFault (records acl) ≡ none)
 files-sound km0 acl req e =
     let h = fault-none-every _ e in
-    (sound-request requestLaidOut req (h .1 .1 .0), fitting-request km0 acl req (unless-passed (lengthsFit km0 acl req) badLength (h .0)))
+    ((sound-request requestLaidOut req (h .1 .1 .0), fitting-request km0 acl req (unless-passed (lengthsFit km0 acl req) badLength (h .0))), h .1 .0)

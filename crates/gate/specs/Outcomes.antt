@@ -1,16 +1,19 @@
 -- The gate's types, as the definitions have them: the ledger, replies by document 01's numbers, outcomes; and a charge by the limits alone.
 use Prim.Native.Nat.{ℕ, _+_}
 use mathlib.Core.List.{List, [], _∷_}
+use mathlib.Core.Path.{_≡_}
 use mathlib.Core.Option.{none}
-use mathlib.Core.Bool.{Bool}
-use lib.ListN.{getD, set}
+use mathlib.Core.Bool.{Bool, true, false}
+use lib.ListN.{getD, set, replicate}
 use lib.Dec.{eqb, ltb}
-use Rattle.rules.specs.Sizes.{fullCount}
-use Rattle.rules.specs.Basics.{if_then_else_, implies}
+use Rattle.rules.specs.Sizes.{fullCount, groupsMax}
+use Rattle.rules.specs.Numbers.{notNarrower}
+use Rattle.rules.specs.Basics.{if_then_else_, implies, all}
 use Rattle.rules.specs.Acl.{Limit}
 use Rattle.rules.specs.Request.{Hint}
 use Rattle.rules.specs.Ledger as rules
 use Rattle.rules.specs.Gate as rulesGate
+use Rattle.theorems.specs.Sizes.{Apart}
 use Rattle.refusals.specs.Refusals.{refusalNumber, denialNumber, denialGroup}
 use Rattle.gate.specs.declared.Ledger.{Ledger}
 use Rattle.gate.specs.declared.Reply.{Reply}
@@ -40,9 +43,14 @@ hasRoom before sort counter = implies (eqb sort 2) (ltb (getD before counter 0) 
 unfoldable pub limitHasRoom : List ℕ → Limit → Bool
 limitHasRoom before m = hasRoom before (m .sort) (m .counter)
 
+-- limits that a charge can raise counters for where they stand: none is full, and no two limits name the same one
+pub record Chargeable (counters : List ℕ) (ms : List Limit) : Type 0 where
+  pub room : all (limitHasRoom counters) ms ≡ true
+  pub apart : Apart ms
+
 -- "each named counter plus 1", for one limit
-abbrev pub raisedOnce : List ℕ → List ℕ → ℕ → ℕ → List ℕ
-raisedOnce before table sort counter = if eqb sort 2 then rules.raised before counter table else table
+abbrev pub raisedOnce : List ℕ → ℕ → ℕ → List ℕ
+raisedOnce table sort counter = if eqb sort 2 then rules.raised table counter table else table
 
 -- "charged: own count and each named counter plus 1, last time set to the request's", by the group's limits
 abbrev pub chargedWith : rules.Ledger → ℕ → List Limit → ℕ → rules.Ledger
@@ -58,3 +66,37 @@ chargedWith l place ms time =
 unfoldable pub carriedFrom : List ℕ → ℕ → List Hint → List ℕ → List ℕ
 carriedFrom counts i [] table = table
 carriedFrom counts i (h ∷ hs) table = carriedFrom counts (i + 1) hs (set table i (getD counts (h .source) 0))
+
+-- .. over a table of zeros
+abbrev pub carriedOf : List Hint → List ℕ → List ℕ
+carriedOf hs counts = carriedFrom counts 0 hs (replicate groupsMax 0)
+
+-- "zeroes all group counts"
+abbrev pub noCounts : List ℕ → List ℕ
+noCounts counts = replicate groupsMax 0
+
+-- what a permit comes to where hints may have to show a narrowing: "Any breach .. gives 8", and the ledger stands
+unfoldable pub permittedIf : rules.Ledger → Bool → ℕ → rules.Ledger → rulesGate.Outcome
+permittedIf l shown place charged = if shown then rulesGate.permitted place charged else rulesGate.refused l notNarrower
+
+-- a reply that permits
+abbrev pub isPermit : rulesGate.Answer → Bool
+isPermit rulesGate.done = false
+isPermit (rulesGate.permit place) = true
+isPermit (rulesGate.refuse n near) = false
+
+-- "last time set to the request's": the last time after an answer
+abbrev pub lastAfter : rulesGate.Answer → ℕ → ℕ → ℕ
+lastAfter a last time = if isPermit a then time else last
+
+-- an outcome by its answer and the ledger's tables
+abbrev pub settledAs : rulesGate.Answer → List ℕ → List ℕ → ℕ → ℕ → ℕ → rulesGate.Outcome
+settledAs a counts counters loaded last time =
+    record {
+      answer = a;
+      ledger = record { counts = counts; counters = counters; loaded = loaded; last = lastAfter a last time };
+    }
+
+-- the group counts that a replacement leaves: others where it is permitted, else those that were
+unfoldable pub countsAfter : (List ℕ → List ℕ) → rulesGate.Answer → List ℕ → List ℕ
+countsAfter f a counts = if isPermit a then f counts else counts

@@ -1,17 +1,19 @@
 // The gate: the ledger, and the steps that take it whole and hand it back.
 ghost use mathlib.Core.Path.{_≡_};
 ghost use mathlib.Core.Bool.{true};
-ghost use Prim.Native.Nat.{_≤_, _<_};
-ghost use lib.ListN.{length, getD, set, replicate};
+ghost use mathlib.Core.Option.{none};
+ghost use Prim.Native.Nat.{ℕ, _≤_, _<_};
+ghost use lib.ListN.{length, getD, set};
 ghost use Rattle.rules.specs.Sizes.{recordBytes, groupsMax, countersMax, fullCount};
-ghost use Rattle.rules.specs.Basics.{all, records};
-ghost use Rattle.rules.specs.Acl.{limitsOf, aclOf};
+ghost use Rattle.rules.specs.Basics.{records};
+ghost use Rattle.rules.specs.Acl.{limitsOf, aclOf, aclFault};
 ghost use Rattle.rules.specs.Request.{requestOf, hintsOf};
-ghost use Rattle.rules.specs.Ledger.{freshLedger, raised, raisedBy, recounted};
-ghost use Rattle.rules.specs.Gate.{load, clear, request, lengthsFit, requestFiles, refusedNear, refused, permitted, settle, judge, narrowFiles, narrowed, narrow, expandFiles, expanded, expand};
-ghost use Rattle.refusals.specs.Refusals.{refusalNumber, denialNumber, denialGroup};
+ghost use Rattle.rules.specs.Ledger.{freshLedger, raised, raisedBy};
+ghost use Rattle.rules.specs.Gate.{load, clear, request, lengthsFit, requestFiles, refused, permitted, settle, judge, narrowFiles, narrowed, narrow, expandFiles, expanded, expand};
+ghost use Rattle.refusals.specs.Refusals.{refusalNumber};
 ghost use Rattle.files.specs.Faults.{faultOf};
-ghost use Rattle.gate.specs.Outcomes.{ledgerOf, outcomeOf, hasRoom, limitHasRoom, raisedOnce, chargedWith, carriedFrom};
+ghost use Rattle.judging.specs.Standings.{tablesOf};
+ghost use Rattle.gate.specs.Outcomes.{settledAs, lastAfter, ledgerOf, answerOf, outcomeOf, hasRoom, raisedOnce, Chargeable, chargedWith, permittedIf, isPermit, countsAfter, carriedFrom, carriedOf, noCounts};
 use files::Checked;
 use judging::Judged;
 use refusals::Denial;
@@ -41,15 +43,10 @@ pub struct Outcome {
     pub reply: Reply,
 }
 
-// A limit of sort 2 raises its counter to 1 more than it was before the charge. Another limit, or a number past the table, raises nothing.
-fn raise_one(
-    table: &mut [u32; Ledger::COUNTERS],
-    before: &[u32; Ledger::COUNTERS],
-    sort: u8,
-    counter: u8,
-)
-    requires { ⌜ (length (now table) ≡ countersMax) × (hasRoom (now before) sort counter ≡ true) ⌝ }
-    ensures { λ _. ⌜ now (table .exit) ≡ raisedOnce (now (before .entry)) (now (table .entry)) sort counter ⌝ }
+// A limit of sort 2 raises its counter by 1. Another limit, or a number past the table, raises nothing.
+fn raise_one(table: &mut [u32; Ledger::COUNTERS], sort: u8, counter: u8)
+    requires { ⌜ (length (now table) ≡ countersMax) × (hasRoom (now table) sort counter ≡ true) ⌝ }
+    ensures { λ _. ⌜ now (table .exit) ≡ raisedOnce (now (table .entry)) sort counter ⌝ }
 {
     if sort != 2 {
         return;
@@ -58,20 +55,21 @@ fn raise_one(
     if Ledger::COUNTERS <= i {
         return;
     }
-    table[i] = before[i] + 1;
+    table[i] = table[i] + 1;
 }
 
-// Each counter that the limits of a group name, of the records that follow the group's first one, is raised.
-fn raise_named(table: &mut [u32; Ledger::COUNTERS], before: &[u32; Ledger::COUNTERS], body: &[u8])
-    requires { ⌜ (length (now table) ≡ countersMax) × (all (limitHasRoom (now before)) (limitsOf (records (now body))) ≡ true) ⌝ }
-    ensures { λ _. ⌜ now (table .exit) ≡ raisedBy (now (before .entry)) (limitsOf (records (now (body .entry)))) (now (table .entry)) ⌝ }
+// Each counter that the limits of a group name, of the records that follow the group's first one, is raised where it stands: no two of them name the
+// same one.
+fn raise_named(table: &mut [u32; Ledger::COUNTERS], body: &[u8])
+    requires { ⌜ (length (now table) ≡ countersMax) × Chargeable (now table) (limitsOf (records (now body))) ⌝ }
+    ensures { λ _. ⌜ now (table .exit) ≡ raisedBy (now (table .entry)) (limitsOf (records (now (body .entry)))) (now (table .entry)) ⌝ }
 {
     let mut at = 0;
     while Ledger::RECORD <= body.len() - at {
         if body[at] != 2 {
             return;
         }
-        raise_one(table, before, body[at + 4], body[at + 5]);
+        raise_one(table, body[at + 4], body[at + 5]);
         at += Ledger::RECORD;
     }
 }
@@ -143,37 +141,26 @@ impl Ledger {
             reply: Reply::Refuse(why),
         }
     }
+}
 
-    // A denial, as judging found it: the ledger stands.
-    fn deny(self, why: Denial) -> Outcome
-        ensures { λ r. ⌜ outcomeOf r ≡ refusedNear (ledgerOf self) (denialNumber why) (denialGroup why) ⌝ }
-    {
-        Outcome {
-            ledger: self,
-            reply: Reply::Deny(why),
-        }
+// What the group that grants comes to, on lent tables: own count and each named counter plus 1 where they stand, but 8 where hints are to show a
+// narrowing and do not. The group is unspent, so that no count is full.
+fn grant(
+    counts: &mut [u32; Ledger::GROUPS],
+    counters: &mut [u32; Ledger::COUNTERS],
+    shown: bool,
+    place: usize,
+    body: &[u8],
+) -> Reply
+    requires { ⌜ (length (now counts) ≡ groupsMax) × (length (now counters) ≡ countersMax) × (getD (now counts) place 0 < fullCount) × Chargeable (now counters) (limitsOf (records (now body))) ⌝ }
+    ensures { λ r. ⌜ (length (now (counts .exit)) ≡ groupsMax) × ((loaded last time : ℕ) → settledAs (answerOf r) (now (counts .exit)) (now (counters .exit)) loaded last time ≡ permittedIf (tablesOf (now (counts .entry)) (now (counters .entry)) loaded last) shown place (chargedWith (tablesOf (now (counts .entry)) (now (counters .entry)) loaded last) place (limitsOf (records (now (body .entry)))) time)) ⌝ }
+{
+    if !shown {
+        return Reply::Refuse(Refusal::NotNarrower);
     }
-
-    // A charge of the group at a place, whose limits are in `body`: own count and each named counter plus 1, last time set. The group is unspent, so
-    // that neither is full. `before` is the table of counters before the charge, lent, so that the ledger is copied once.
-    fn charge(
-        mut self,
-        before: &[u32; Ledger::COUNTERS],
-        place: usize,
-        when: u64,
-        body: &[u8],
-    ) -> Outcome
-        requires { ⌜ (now before ≡ self .counters) × (getD (self .counts) place 0 < fullCount) × (all (limitHasRoom (self .counters)) (limitsOf (records (now body))) ≡ true) ⌝ }
-        ensures { λ r. ⌜ outcomeOf r ≡ permitted place (chargedWith (ledgerOf self) place (limitsOf (records (now (body .entry)))) when) ⌝ }
-    {
-        raise_named(&mut self.counters, before, body);
-        raise_count(&mut self.counts, place);
-        self.last = when;
-        Outcome {
-            ledger: self,
-            reply: Reply::Permit(place),
-        }
-    }
+    raise_named(counters, body);
+    raise_count(counts, place);
+    Reply::Permit(place)
 }
 
 // Whether KM0, the ACL and the request file have lengths that they may have.
@@ -199,31 +186,74 @@ fn request_files(km0: &[u8], acl: &[u8], req: &[u8]) -> Checked
     }
 }
 
+// What becomes of a request whose files are sound, on lent tables: the lowest group that grants is charged, or the denial says how far the groups came.
+// `shown` is whether the hints show a narrowing, true where there are none.
+fn settle(
+    counts: &mut [u32; Ledger::GROUPS],
+    counters: &mut [u32; Ledger::COUNTERS],
+    loaded: u64,
+    last: u64,
+    shown: bool,
+    km0: &[u8],
+    acl: &[u8],
+    req: &[u8],
+) -> Reply
+    requires { ⌜ (length (now counts) ≡ groupsMax) × (length (now counters) ≡ countersMax) × ((recordBytes ≤ length (now req)) × (length (now req) ≤ 4032)) × (aclFault (records (now acl)) ≡ none) ⌝ }
+    ensures { λ r. ⌜ (length (now (counts .exit)) ≡ groupsMax) × (settledAs (answerOf r) (now (counts .exit)) (now (counters .exit)) loaded last (requestOf (now (req .entry)) .time) ≡ settle (tablesOf (now (counts .entry)) (now (counters .entry)) loaded last) (requestOf (now (req .entry)) .time) (permittedIf (tablesOf (now (counts .entry)) (now (counters .entry)) loaded last) shown) (judge (tablesOf (now (counts .entry)) (now (counters .entry)) loaded last) (now (km0 .entry)) (aclOf (now (acl .entry))) (requestOf (now (req .entry))))) ⌝ }
+{
+    let judged = judging::judge_request(counts, counters, loaded, last, km0, acl, req);
+    match judged {
+        Judged::Granted(k) => grant(counts, counters, shown, k, groups::group_body(acl, k)),
+        Judged::Denied(d) => Reply::Deny(d),
+    }
+}
+
+// Whether a reply permits.
+fn permits(reply: Reply) -> bool
+    ensures { λ r. ⌜ r ≡ isPermit (answerOf reply) ⌝ }
+{
+    match reply {
+        Reply::Done => false,
+        Reply::Permit(_) => true,
+        Reply::Refuse(_) => false,
+        Reply::Deny(_) => false,
+    }
+}
+
+// The last time after a reply: the request's where it permits.
+fn last_after(reply: Reply, last: u64, when: u64) -> u64
+    ensures { λ r. ⌜ r ≡ lastAfter (answerOf reply) last when ⌝ }
+{
+    if permits(reply) {
+        return when;
+    }
+    last
+}
+
 impl Ledger {
-    // What becomes of a request whose files are sound: the lowest group that grants is charged, or the refusal says how far the groups came.
-    fn settle(self, km0: &[u8], acl: &[u8], req: &[u8]) -> Outcome
-        requires { ⌜ (recordBytes ≤ length (now req)) × (length (now req) ≤ 4032) ⌝ }
+    // What becomes of a use or a blob whose files are sound. The tables are copied once, and lent.
+    fn used(mut self, km0: &[u8], acl: &[u8], req: &[u8]) -> Outcome
+        requires { ⌜ ((recordBytes ≤ length (now req)) × (length (now req) ≤ 4032)) × (aclFault (records (now acl)) ≡ none) ⌝ }
         ensures { λ r. ⌜ outcomeOf r ≡ settle (ledgerOf self) (requestOf (now (req .entry)) .time) permitted (judge (ledgerOf self) (now (km0 .entry)) (aclOf (now (acl .entry))) (requestOf (now (req .entry)))) ⌝ }
     {
+        let mut counts = self.counts;
         let loaded = self.loaded;
         let last = self.last;
-        let judged = judging::judge_request(
-            &self.counts,
-            &self.counters,
+        let reply = settle(
+            &mut counts,
+            &mut self.counters,
             loaded,
             last,
+            true,
             km0,
             acl,
             req,
         );
-        match judged {
-            Judged::Granted(k) => self.charge(
-                &self.counters,
-                k,
-                request::time(req),
-                groups::group_body(acl, k),
-            ),
-            Judged::Denied(d) => self.deny(d),
+        self.counts = counts;
+        self.last = last_after(reply, last, request::time(req));
+        Outcome {
+            ledger: self,
+            reply,
         }
     }
 
@@ -234,7 +264,7 @@ impl Ledger {
         let fault = request_files(km0, acl, req);
         match fault {
             Checked::Refused(r) => self.refuse(r),
-            Checked::Sound => self.settle(km0, acl, req),
+            Checked::Sound => self.used(km0, acl, req),
         }
     }
 }
@@ -244,87 +274,64 @@ const REDUCE_ACL: u8 = 2;
 
 const EXPAND_ACL: u8 = 12;
 
-// The group counts of the old groups, and those of the new groups as they take them over.
-struct Carrying {
-    from: [u32; Ledger::GROUPS],
-    table: [u32; Ledger::GROUPS],
-}
-
 // The count of a source group; 0 past the table.
-fn source_count(counts: [u32; Ledger::GROUPS], source: u8) -> u32
-    ensures { λ r. ⌜ r ≡ getD counts source 0 ⌝ }
+fn source_count(counts: &[u32], source: u8) -> u32
+    ensures { λ r. ⌜ r ≡ getD (now (counts .entry)) source 0 ⌝ }
 {
     let i = source as usize;
-    if Ledger::GROUPS <= i {
+    if counts.len() <= i {
         return 0;
     }
     counts[i]
 }
 
-impl Carrying {
-    fn start(counts: [u32; Ledger::GROUPS]) -> Self
-        ensures { λ r. ⌜ (r .from ≡ counts) × (r .table ≡ replicate groupsMax 0) ⌝ }
-    {
-        Self {
-            from: counts,
-            table: [0u32; Ledger::GROUPS],
-        }
+// New group i takes the count of its source.
+fn carry(table: &mut [u32; Ledger::GROUPS], from: &[u32], i: usize, source: u8)
+    requires { ⌜ length (now table) ≡ groupsMax ⌝ }
+    ensures { λ _. ⌜ now (table .exit) ≡ set (now (table .entry)) i (getD (now (from .entry)) source 0) ⌝ }
+{
+    if Ledger::GROUPS <= i {
+        return;
     }
+    table[i] = source_count(from, source);
+}
 
-    // New group i takes the count of its source.
-    fn carry(mut self, i: usize, source: u8) -> Self
-        ensures { λ r. ⌜ (r .from ≡ self .from) × (r .table ≡ set (self .table) i (getD (self .from) source 0)) ⌝ }
-    {
-        let counts = self.from;
-        let n = source_count(counts, source);
-        if Ledger::GROUPS <= i {
-            return self;
-        }
-        self.table[i] = n;
-        self
-    }
-
-    // Each new group takes the count of the source that its hint names.
-    fn carry_all(self, hints: &[u8]) -> Self
-        ensures { λ r. ⌜ r .table ≡ carriedFrom (self .from) 0 (hintsOf (now (hints .entry))) (self .table) ⌝ }
-    {
-        let mut now = self;
-        let mut i = 0;
-        let mut at = 0;
-        while Ledger::RECORD <= hints.len() - at {
-            let source = hints[at + 4];
-            now = now.carry(i, source);
-            i += 1;
-            at += Ledger::RECORD;
-        }
-        now
+// Each new group takes the count of the source that its hint names.
+fn carry_all(table: &mut [u32; Ledger::GROUPS], from: &[u32], hints: &[u8])
+    requires { ⌜ length (now table) ≡ groupsMax ⌝ }
+    ensures { λ _. ⌜ now (table .exit) ≡ carriedFrom (now (from .entry)) 0 (hintsOf (now (hints .entry))) (now (table .entry)) ⌝ }
+{
+    let mut i = 0;
+    let mut at = 0;
+    while Ledger::RECORD <= hints.len() - at {
+        carry(table, from, i, hints[at + 4]);
+        i += 1;
+        at += Ledger::RECORD;
     }
 }
 
-impl Ledger {
-    // A charged ledger with the counts that a narrowing leaves: each new group takes its source's, of `counts`.
-    fn carried(mut self, counts: [u32; Ledger::GROUPS], place: usize, hints: &[u8]) -> Outcome
-        ensures { λ r. ⌜ outcomeOf r ≡ permitted place (recounted (ledgerOf self) (carriedFrom counts 0 (hintsOf (now (hints .entry))) (replicate groupsMax 0))) ⌝ }
-    {
-        let table = Carrying::start(counts).carry_all(hints).table;
-        self.counts = table;
-        Outcome {
-            ledger: self,
-            reply: Reply::Permit(place),
-        }
+// The counts that a narrowing leaves, where the reply permits: each new group takes its source's.
+fn carry_counts(counts: &mut [u32; Ledger::GROUPS], reply: Reply, hints: &[u8])
+    requires { ⌜ length (now counts) ≡ groupsMax ⌝ }
+    ensures { λ _. ⌜ now (counts .exit) ≡ countsAfter (carriedOf (hintsOf (now (hints .entry)))) (answerOf reply) (now (counts .entry)) ⌝ }
+{
+    if !permits(reply) {
+        return;
     }
+    let from = *counts;
+    *counts = [0u32; Ledger::GROUPS];
+    carry_all(counts, &from, hints);
+}
 
-    // A charged ledger with the counts that an expansion leaves: all zero.
-    fn emptied(mut self, place: usize) -> Outcome
-        ensures { λ r. ⌜ outcomeOf r ≡ expanded place (ledgerOf self) ⌝ }
-    {
-        let zero = [0u32; Ledger::GROUPS];
-        self.counts = zero;
-        Outcome {
-            ledger: self,
-            reply: Reply::Permit(place),
-        }
+// The counts that an expansion leaves, where the reply permits: all zero.
+fn zero_counts(counts: &mut [u32; Ledger::GROUPS], reply: Reply)
+    ensures { λ _. ⌜ now (counts .exit) ≡ countsAfter noCounts (answerOf reply) (now (counts .entry)) ⌝ }
+{
+    if !permits(reply) {
+        return;
     }
+    let zero = [0u32; Ledger::GROUPS];
+    *counts = zero;
 }
 
 // The first fault of a narrowing's files.
@@ -355,88 +362,58 @@ fn expand_files(km0: &[u8], acl: &[u8], req: &[u8], new: &[u8]) -> Checked
 }
 
 impl Ledger {
-    // A narrowing that the group at a place grants: refused unless the hints show it; else charged, and each new group takes its source's count.
-    fn narrow_granted(
-        self,
-        place: usize,
-        time: u64,
-        body: &[u8],
-        acl: &[u8],
-        new: &[u8],
-        hints: &[u8],
-    ) -> Outcome
-        requires { ⌜ ((getD (self .counts) place 0 < fullCount) × (all (limitHasRoom (self .counters)) (limitsOf (records (now body))) ≡ true)) × (length (hintsOf (now hints)) ≤ groupsMax) ⌝ }
-        ensures { λ r. ⌜ outcomeOf r ≡ narrowed (ledgerOf self) (aclOf (now (acl .entry))) (aclOf (now (new .entry))) (hintsOf (now (hints .entry))) place (chargedWith (ledgerOf self) place (limitsOf (records (now (body .entry)))) time) ⌝ }
-    {
-        let charged = self.charge(&self.counters, place, time, body).ledger;
-        if !narrowing::shows_narrowing(acl, new, hints) {
-            return self.refuse(Refusal::NotNarrower);
-        }
-        let counts = charged.counts;
-        charged.carried(counts, place, hints)
-    }
-
-    // An expansion that the group at a place grants: charged, and every group count is zero.
-    fn expand_granted(self, place: usize, time: u64, body: &[u8]) -> Outcome
-        requires { ⌜ (getD (self .counts) place 0 < fullCount) × (all (limitHasRoom (self .counters)) (limitsOf (records (now body))) ≡ true) ⌝ }
-        ensures { λ r. ⌜ outcomeOf r ≡ expanded place (chargedWith (ledgerOf self) place (limitsOf (records (now (body .entry)))) time) ⌝ }
-    {
-        let charged = self.charge(&self.counters, place, time, body).ledger;
-        charged.emptied(place)
-    }
-
-    // What becomes of a narrowing whose files are sound.
-    fn settle_narrow(self, km0: &[u8], acl: &[u8], req: &[u8], new: &[u8], hints: &[u8]) -> Outcome
-        requires { ⌜ ((recordBytes ≤ length (now req)) × (length (now req) ≤ 4032)) × (length (hintsOf (now hints)) ≤ groupsMax) ⌝ }
+    // What becomes of a narrowing whose files are sound. The hints are tested before anything is charged.
+    fn narrowed(mut self, km0: &[u8], acl: &[u8], req: &[u8], new: &[u8], hints: &[u8]) -> Outcome
+        requires { ⌜ ((recordBytes ≤ length (now req)) × (length (now req) ≤ 4032)) × (aclFault (records (now acl)) ≡ none) × (length (hintsOf (now hints)) ≤ groupsMax) ⌝ }
         ensures { λ r. ⌜ outcomeOf r ≡ settle (ledgerOf self) (requestOf (now (req .entry)) .time) (narrowed (ledgerOf self) (aclOf (now (acl .entry))) (aclOf (now (new .entry))) (hintsOf (now (hints .entry)))) (judge (ledgerOf self) (now (km0 .entry)) (aclOf (now (acl .entry))) (requestOf (now (req .entry)))) ⌝ }
     {
+        let mut counts = self.counts;
         let loaded = self.loaded;
         let last = self.last;
-        let judged = judging::judge_request(
-            &self.counts,
-            &self.counters,
+        let shown = narrowing::shows_narrowing(acl, new, hints);
+        let reply = settle(
+            &mut counts,
+            &mut self.counters,
             loaded,
             last,
+            shown,
             km0,
             acl,
             req,
         );
-        match judged {
-            Judged::Granted(k) => self.narrow_granted(
-                k,
-                request::time(req),
-                groups::group_body(acl, k),
-                acl,
-                new,
-                hints,
-            ),
-            Judged::Denied(d) => self.deny(d),
+        carry_counts(&mut counts, reply, hints);
+        self.counts = counts;
+        self.last = last_after(reply, last, request::time(req));
+        Outcome {
+            ledger: self,
+            reply,
         }
     }
 
     // What becomes of an expansion whose files are sound.
-    fn settle_expand(self, km0: &[u8], acl: &[u8], req: &[u8]) -> Outcome
-        requires { ⌜ (recordBytes ≤ length (now req)) × (length (now req) ≤ 4032) ⌝ }
+    fn expanded(mut self, km0: &[u8], acl: &[u8], req: &[u8]) -> Outcome
+        requires { ⌜ ((recordBytes ≤ length (now req)) × (length (now req) ≤ 4032)) × (aclFault (records (now acl)) ≡ none) ⌝ }
         ensures { λ r. ⌜ outcomeOf r ≡ settle (ledgerOf self) (requestOf (now (req .entry)) .time) expanded (judge (ledgerOf self) (now (km0 .entry)) (aclOf (now (acl .entry))) (requestOf (now (req .entry)))) ⌝ }
     {
+        let mut counts = self.counts;
         let loaded = self.loaded;
         let last = self.last;
-        let judged = judging::judge_request(
-            &self.counts,
-            &self.counters,
+        let reply = settle(
+            &mut counts,
+            &mut self.counters,
             loaded,
             last,
+            true,
             km0,
             acl,
             req,
         );
-        match judged {
-            Judged::Granted(k) => self.expand_granted(
-                k,
-                request::time(req),
-                groups::group_body(acl, k),
-            ),
-            Judged::Denied(d) => self.deny(d),
+        zero_counts(&mut counts, reply);
+        self.counts = counts;
+        self.last = last_after(reply, last, request::time(req));
+        Outcome {
+            ledger: self,
+            reply,
         }
     }
 
@@ -448,7 +425,7 @@ impl Ledger {
         let fault = narrow_files(km0, acl, req, new, hints);
         match fault {
             Checked::Refused(r) => self.refuse(r),
-            Checked::Sound => self.settle_narrow(km0, acl, req, new, hints),
+            Checked::Sound => self.narrowed(km0, acl, req, new, hints),
         }
     }
 
@@ -459,7 +436,7 @@ impl Ledger {
         let fault = expand_files(km0, acl, req, new);
         match fault {
             Checked::Refused(r) => self.refuse(r),
-            Checked::Sound => self.settle_expand(km0, acl, req),
+            Checked::Sound => self.expanded(km0, acl, req),
         }
     }
 }

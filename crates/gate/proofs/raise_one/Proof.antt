@@ -18,7 +18,7 @@ element-copy-out-table c = search needs
 add-table : tie.Need-add-table
 add-table c =
     let s = c .before .before .before in
-    let h = room-left (s .args .before .now) _ _ (s .pre .1) (c .before .before .if1 .left) in
+    let h = room-left (s .args .table .now) _ _ (s .pre .1) (c .before .before .if1 .left) in
     search needs
 
 mul-table-2 : tie.Need-mul-table-2

@@ -19,8 +19,8 @@ refuse-requires c κs = search needs
 enum-told : tie.Need-enum-told
 enum-told c = search needs
 
-settle-expand-requires : tie.Need-settle-expand-requires
-settle-expand-requires c κs =
+expanded-requires : tie.Need-expanded-requires
+expanded-requires c κs =
     let a = c .before .before .before .before .before .before .before .args in
     expand-sound (a .km0 .now) (a .acl .now) (a .req .now) (a .new .now) (sym (c .before .before .expand-files .ensures) ∙ ap faultOf (c .enum-told .given .1))
 
@@ -34,7 +34,7 @@ returns-2 : tie.Need-returns-2
 unfolding expand
 returns-2 c =
     let t = c .before in
-    not-refused _ _ _ _ (sym (t .before .before .expand-files .ensures) ∙ ap faultOf (t .enum-told .given .1)) (c .settle-expand .ensures)
+    not-refused _ _ _ _ (sym (t .before .before .expand-files .ensures) ∙ ap faultOf (t .enum-told .given .1)) (c .expanded .ensures)
 
 pub expand-spec : {M : Type 1} → statement M
 expand-spec =
@@ -44,6 +44,6 @@ expand-spec =
     enum-known-fault
     refuse-requires
     enum-told
-    settle-expand-requires
+    expanded-requires
     returns
     returns-2)

@@ -19,8 +19,8 @@ refuse-requires c κs = search needs
 enum-told : tie.Need-enum-told
 enum-told c = search needs
 
-settle-narrow-requires : tie.Need-settle-narrow-requires
-settle-narrow-requires c κs =
+narrowed-requires : tie.Need-narrowed-requires
+narrowed-requires c κs =
     let a = c .before .before .before .before .before .before .before .before .args in
     narrow-sound (a .km0 .now) (a .acl .now) (a .req .now) (a .new .now) (a .hints .now) (sym (c .before .before .narrow-files .ensures) ∙ ap faultOf (c .enum-told .given .1))
 
@@ -34,7 +34,7 @@ returns-2 : tie.Need-returns-2
 unfolding narrow
 returns-2 c =
     let t = c .before in
-    not-refused _ _ _ _ (sym (t .before .before .narrow-files .ensures) ∙ ap faultOf (t .enum-told .given .1)) (c .settle-narrow .ensures)
+    not-refused _ _ _ _ (sym (t .before .before .narrow-files .ensures) ∙ ap faultOf (t .enum-told .given .1)) (c .narrowed .ensures)
 
 pub narrow-spec : {M : Type 1} → statement M
 narrow-spec =
@@ -44,6 +44,6 @@ narrow-spec =
     enum-known-fault
     refuse-requires
     enum-told
-    settle-narrow-requires
+    narrowed-requires
     returns
     returns-2)

@@ -18,8 +18,8 @@ refuse-requires c κs = search needs
 enum-told : tie.Need-enum-told
 enum-told c = search needs
 
-settle-requires : tie.Need-settle-requires
-settle-requires c κs =
+used-requires : tie.Need-used-requires
+used-requires c κs =
     let a = c .before .before .before .before .before .before .args in
     files-sound (a .km0 .now) (a .acl .now) (a .req .now) (sym (c .before .before .request-files .ensures) ∙ ap faultOf (c .enum-told .given .1))
 
@@ -33,7 +33,7 @@ returns-2 : tie.Need-returns-2
 unfolding request
 returns-2 c =
     let t = c .before in
-    not-refused _ _ _ _ (sym (t .before .before .request-files .ensures) ∙ ap faultOf (t .enum-told .given .1)) (c .settle .ensures)
+    not-refused _ _ _ _ (sym (t .before .before .request-files .ensures) ∙ ap faultOf (t .enum-told .given .1)) (c .used .ensures)
 
 pub request-spec : {M : Type 1} → statement M
 request-spec =
@@ -43,6 +43,6 @@ request-spec =
     enum-known-fault
     refuse-requires
     enum-told
-    settle-requires
+    used-requires
     returns
     returns-2)
