@@ -14,12 +14,13 @@
 /* Sizes in bytes and records. */
 #define AKUBOLINFE_RECORD 64
 #define AKUBOLINFE_HASH 20
-#define AKUBOLINFE_GROUPS 16
-#define AKUBOLINFE_COUNTERS 96
-#define AKUBOLINFE_ACL_BYTES 13312
-#define AKUBOLINFE_LISTING_BYTES 29904
+#define AKUBOLINFE_GROUPS 64
+#define AKUBOLINFE_COUNTERS 256
+#define AKUBOLINFE_ACL_BYTES 53248
+#define AKUBOLINFE_LISTING_BYTES 119872
 
-/* What was used: a count for each group, the named counters, the load time and the last time, in seconds. */
+/* What was used: a count for each group, the named counters, the load time and the last time, in seconds. A ledger kept with the
+ * smaller tables (16 counts, 96 counters) is carried over by copying its counts and counters to the front of these, zero past them. */
 typedef struct {
     uint32_t counts[AKUBOLINFE_GROUPS];
     uint32_t counters[AKUBOLINFE_COUNTERS];
@@ -65,7 +66,7 @@ akubolinfe_ledger akubolinfe_fresh(void);
 /* A load, at any time: group counts zero, both times set. */
 akubolinfe_outcome akubolinfe_load(akubolinfe_ledger ledger, uint64_t time);
 
-/* A clear of one named counter, 0 to 95. */
+/* A clear of one named counter, 0 to 255. */
 akubolinfe_outcome akubolinfe_clear(akubolinfe_ledger ledger, size_t counter);
 
 /* A request for a use or a blob: the KM0 hash, the ACL in force, the request record with up to 32 certificates (kind 9),

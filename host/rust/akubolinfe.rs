@@ -6,8 +6,8 @@
 #[repr(C)]
 #[derive(Clone, Copy, PartialEq, Eq, Debug)]
 pub struct Ledger {
-    pub counts: [u32; 16],
-    pub counters: [u32; 96],
+    pub counts: [u32; 64],
+    pub counters: [u32; 256],
     pub loaded: u64,
     pub last: u64,
 }

@@ -111,14 +111,14 @@ fullAction = rec (4 ∷ 0 ∷ 0 ∷ 63 ∷ [] ++ hash 0xff ++ hash 0xff ++ (0 �
 
 abbrev fullest : Bytes
 fullest =
-    fullGroup ++ fullLimit 92 ++ fullLimit 93 ++ fullLimit 94 ++ fullLimit 95
+    fullGroup ++ fullLimit 252 ++ fullLimit 253 ++ fullLimit 254 ++ fullLimit 255
     ++ fullAction ++ fullAction ++ fullAction ++ fullAction ++ fullAction ++ fullAction ++ fullAction ++ fullAction
 
--- they are as long as they may be, and so is the listing of sixteen such groups
+-- they are as long as they may be, and so is the listing of 64 such groups
 abbrev Reached : Type 0
 Reached =
     (length (lineOf fullGroup) ≡ groupLineMax)
-    × (length (lineOf (fullLimit 95)) ≡ limitLineMax)
+    × (length (lineOf (fullLimit 255)) ≡ limitLineMax)
     × (length (lineOf fullAction) ≡ lineMax)
     × (aclFileFault fullest ≡ none)
     × (groupsMax * length (listingOf fullest) ≡ listingMax)

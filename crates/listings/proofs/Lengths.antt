@@ -85,7 +85,7 @@ module _ (r : Bytes) (h : IsRecord r) where
           let x : ltb (byte 5 r) countersMax ≡ true = rw s at k in
           let y = ltb-true (byte 5 r) countersMax x in
           let m = text-length (numbered true "uses" (number 8 4 r)) [] 11 1 (four-text 8 (omega arith)) end-length in
-          let c = text-length (numbered true "counter" (byte 5 r)) (numbered true "uses" (number 8 4 r) ∷ []) 3 17 (number-text 1 (byte 5 r) (omega arith)) m in
+          let c = text-length (numbered true "counter" (byte 5 r)) (numbered true "uses" (number 8 4 r) ∷ []) 4 17 (number-text 2 (byte 5 r) (omega arith)) m in
           rw s (omega arith)
       pick false p true q =
           let m = text-length (numbered true "seconds" (number 8 4 r)) [] 11 1 (four-text 8 (omega arith)) end-length in

@@ -1,4 +1,4 @@
--- How much an ACL can hold: "at most 16 groups, 4 limits and 8 actions per group", for any weight of a group, a limit and an action.
+-- How much an ACL can hold: "Raise groups to 64", "4 limits and 8 actions per group", for any weight of a group, a limit and an action.
 use Prim.Native.Nat.{ℕ, suc, _+_, _-_, _*_, _≤_, _<_}
 use native.Mathlib.Omega.{arith}
 use mathlib.Core.Path.{_≡_, refl}
@@ -83,7 +83,7 @@ module _ (g l a : ℕ) where
       let i = total-room (afterRecord s r) rs (orNext-next (aclRecordFault s r) (scan aclRecordFault afterRecord aclEnd (afterRecord s r) rs) e) in
       omega arith
 
-  -- The records of an ACL without fault weigh no more than 16 full groups.
+  -- The records of an ACL without fault weigh no more than 64 full groups.
   pub acl-weight : (rs : List Bytes) → aclFault rs ≡ none → total weight rs ≤ groupsMax * full
   unfolding aclFault
   acl-weight rs e = let t = total-room aclStart rs e in omega arith
@@ -102,6 +102,6 @@ unfolding total
 total-one [] = refl
 total-one (r ∷ rs) = let i = total-one rs in rw (weight-one r) (omega arith)
 
--- "longest file 13,312 bytes": an ACL's records without fault are never too many for a file.
+-- "the longest ACL is 53,248 bytes": an ACL's records without fault are never too many for a file.
 pub acl-few : (rs : List Bytes) → aclFault rs ≡ none → length rs ≤ aclRecords
 acl-few rs e = let t = acl-weight 1 1 1 rs e in let c = total-one rs in omega arith

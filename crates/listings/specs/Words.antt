@@ -118,7 +118,7 @@ abbrev pub groupLineMax : ℕ
 groupLineMax = 73
 
 abbrev pub limitLineMax : ℕ
-limitLineMax = 33
+limitLineMax = 34
 
 abbrev pub lineMax : ℕ
 lineMax = 208

@@ -116,7 +116,7 @@ guards =
     ∷ handed (narrow freshLedger (hash 0) reducible (sign 6) signGroup (hint 0)) is refuses 2 0
     ∷ handed (expand freshLedger (hash 0) expandable (enlarge 6) signGroup) is answered (permit 0) (ledgerOf [] [] 0 6)
     ∷ handed (clear (ledgerOf [] (0 ∷ 7 ∷ 7 ∷ []) 0 0) 1) is answered done (ledgerOf [] (0 ∷ 0 ∷ 7 ∷ []) 0 0)
-    ∷ handed (clear freshLedger 96) is refuses 10 0
+    ∷ handed (clear freshLedger 256) is refuses 10 0
     ∷ gate 0 (openGroup ++ certifiedGroup ++ certifiedGroup) (sign 5) is refusesNear 6 1 0
     ∷ gate 0 (certifiedGroup ++ limited 1 0 ++ limited 1 0) (sign 5) is refusesNear 7 1 0
     ∷ attest (openGroup ++ blob 28 (hash 20) cardset) is accepts 3 false

@@ -14,7 +14,7 @@ use Rattle.rules.specs.Request.{hintOf, hintsOf}
 use Rattle.rules.specs.Gate.{lengthsFit, narrowFiles}
 use Rattle.rules.proofs.Laws.{and-right, unless-passed, fault-none-every, chunks-length}
 
--- a hints file of at most 16 records has as many hints
+-- a hints file has at most as many hints as records
 hints-few : (hints : Bytes) → fits hintRecords hints ≡ true → length (hintsOf hints) ≤ groupsMax
 unfolding records fits
 hints-few hints e =

@@ -39,11 +39,12 @@ certificate = rec (9 ∷ 0 ∷ 0 ∷ 0 ∷ [] ++ hash 9 ++ (0 ∷ 1 ∷ []))
 abbrev stray : Bytes
 stray = rec []
 
--- "at most 16 groups, 4 limits and 8 actions per group"; "then at most 32 certificates"; delegations "at most 16 .., after the certificates"; "within
--- one record 2 before 3".
+-- "Raise groups to 64", "4 limits and 8 actions per group"; "then at most 32 certificates"; delegations "at most 16 .., after the certificates";
+-- "within one record 2 before 3".
 pub record ManyRows : Type 0 where
   pub groups-at-most : asks (repeated (groupsMax - 1) openGroup ++ signGroup) (sign 5) ≡ permitted (groupsMax - 1) (ledgerOf (replicate (groupsMax - 1) 0 ++ (1 ∷ [])) [] 0 5)
   pub group-too-many : asks (repeated (groupsMax + 1) openGroup) (sign 5) ≡ refuses 3
+  pub forty-one-groups : asks (repeated 40 openGroup ++ counting 255 9) (sign 5) ≡ permitted 40 (ledgerOf (replicate 40 0 ++ (1 ∷ [])) (replicate 255 0 ++ (1 ∷ [])) 0 5)
   pub limits-at-most : asks (signUnder (limit 1 0 ++ limit 3 0 ++ limit 2 0 ++ limit 2 1)) (sign 5) ≡ permitted 0 (ledgerOf (1 ∷ []) (1 ∷ 1 ∷ []) 0 5)
   pub limit-too-many : asks (signUnder (limit 1 0 ++ limit 3 0 ++ limit 2 0 ++ limit 2 1 ++ limit 2 2)) (sign 5) ≡ refuses 3
   pub limits-of-two-groups : asks (signUnder (limit 1 0 ++ limit 3 0 ++ limit 2 7) ++ signUnder (limit 1 0 ++ limit 3 0 ++ limit 2 7)) (decrypt 5) ≡ refuses 5
@@ -63,6 +64,7 @@ many-rows =
     record {
       groups-at-most = refl;
       group-too-many = refl;
+      forty-one-groups = refl;
       limits-at-most = refl;
       limit-too-many = refl;
       limits-of-two-groups = refl;

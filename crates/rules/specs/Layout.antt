@@ -39,7 +39,7 @@ certifierMechanism r = if flag 1 r then flag 0 r && mechanismAt 24 r else blank 
 unfoldable pub groupLaidOut : Bytes → Bool
 groupLaidOut r = header 3 r && zeroUnless 0 4 hashBytes r && certifierMechanism r && blank 26 38 r
 
--- "byte 5 counter 0-95 (sort 2 only, else zero)"
+-- "byte 5 counter .. (sort 2 only, else zero)", "numbers 0 to 255"
 unfoldable pub counterOfSort : ℕ → ℕ → Bool
 counterOfSort sort counter = if eqb sort 2 then ltb counter countersMax else eqb counter 0
 

@@ -7,14 +7,14 @@ pub const RECORD: usize = 64;
 pub const HASH: usize = 20;
 
 // Groups of an ACL, limits and actions of a group.
-pub const GROUPS: usize = 16;
+pub const GROUPS: usize = 64;
 
 pub const LIMITS: usize = 4;
 
 pub const ACTIONS: usize = 8;
 
 // Named counters.
-pub const COUNTERS: usize = 96;
+pub const COUNTERS: usize = 256;
 
 // Certificates of a request, and listed module keys of a bundle.
 pub const CERTIFICATES: usize = 32;

@@ -1,5 +1,5 @@
--- An ACL that is read without fault fits the tables: at most 16 groups, 4 limits and 8 actions each, counters 0 to 95, at most one limit of sort 1
--- and one of sort 3, no counter twice. Two wrong products that this rules out: a reader that takes a 17th group, and one that takes counter 96.
+-- An ACL that is read without fault fits the tables: at most 64 groups, 4 limits and 8 actions each, counters 0 to 255, at most one limit of sort 1
+-- and one of sort 3, no counter twice. Two wrong products that this rules out: a reader that takes a 65th group, and one that takes counter 256.
 use Prim.Native.Nat.{ℕ, zero, suc, _+_, _*_, _≤_, _<_}
 use native.Mathlib.Omega.{arith}
 use native.Mathlib.Nat.{zero-add}

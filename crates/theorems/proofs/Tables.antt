@@ -1,4 +1,4 @@
--- Every call keeps the lengths of the ledger's tables, 16 and 96. Two wrong products that this rules out: one whose narrowing hands back as many counts
+-- Every call keeps the lengths of the ledger's tables. Two wrong products that this rules out: one whose narrowing hands back as many counts
 -- as there are new groups, and one whose expansion drops the counts.
 use Prim.Native.Nat.{ℕ, _+_, _-_, _≤_}
 use native.Mathlib.Omega.{arith}
@@ -20,7 +20,7 @@ use Rattle.theorems.specs.Demands.{Call, requesting, loading, clearing, 
 use Rattle.theorems.proofs.Permit.{called}
 use Rattle.theorems.proofs.Counters.{raisedBy-length}
 
--- "sixteen group counts, ninety-six named counters"
+-- as many counts as an ACL may have groups, and as many counters as there are named ones
 pub record Sized (l : Ledger) : Type 0 where
   pub groups : length (l .counts) ≡ groupsMax
   pub named : length (l .counters) ≡ countersMax

@@ -9,7 +9,7 @@ use Rattle.rules.specs.Sizes.{groupsMax, limitsMax, actionsMax, countersMax}
 use Rattle.rules.specs.Basics.{Every}
 use Rattle.rules.specs.Acl.{Limit, Group}
 
--- "byte 4 sort (1 uses per load, 2 named counter, 3 seconds since load), byte 5 counter 0-95 (sort 2 only, else zero)"
+-- "byte 4 sort (1 uses per load, 2 named counter, 3 seconds since load), byte 5 counter .. (sort 2 only, else zero)", "numbers 0 to 255"
 pub record LimitFits (m : Limit) : Type 0 where
   pub lowestSort : 1 ≤ m .sort
   pub highestSort : m .sort ≤ 3
@@ -27,7 +27,7 @@ pub record GroupFits (g : Group) : Type 0 where
   pub each : Every LimitFits (g .limits)
   pub apart : Apart (g .limits)
 
--- "at most 16 groups"
+-- "Raise groups to 64"
 pub record AclFits (gs : List Group) : Type 0 where
   pub groups : length gs ≤ groupsMax
   pub each : Every GroupFits gs
