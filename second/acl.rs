@@ -2,12 +2,11 @@
 
 use crate::record::{malformed_unless, Hash, Record, Refusal};
 
-pub const MOST_GROUPS: usize = 16;
+pub const MOST_GROUPS: usize = 64;
 pub const MOST_LIMITS: usize = 4;
 pub const MOST_ACTIONS: usize = 8;
-/// "Longest file 13,312 bytes."
-pub const MOST_ACL_RECORDS: usize = 208;
-pub const LAST_COUNTER: u8 = 95;
+/// "The longest ACL is 53,248 bytes."
+pub const MOST_ACL_RECORDS: usize = MOST_GROUPS * (1 + MOST_LIMITS + MOST_ACTIONS);
 
 #[derive(Clone, Debug, Default, PartialEq)]
 pub struct Acl {

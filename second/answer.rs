@@ -327,7 +327,7 @@ mod tests {
 
     #[test]
     fn a_refused_clear_shows_the_ledger() {
-        let script = call_bytes(&Call::Clear { counter: 96 });
+        let script = call_bytes(&Call::Clear { counter: 256 });
         assert_eq!(
             answers(&script, ALL_KINDS),
             "1 refuse 10 load 0 last 0 counts counters\n"

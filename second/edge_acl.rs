@@ -68,7 +68,7 @@ impl Maker {
         });
     }
 
-    /// A 17th group, a ninth action or a fifth limit.
+    /// A 65th group, a ninth action or a fifth limit.
     pub fn overfill(&mut self, acl: &mut Acl) {
         match self.random.below(3) {
             0 => self.groups_up_to(acl, MOST_GROUPS + 1),
@@ -98,8 +98,8 @@ impl Maker {
             Sort::UsesPerLoad,
             Sort::SecondsSinceLoad,
             Sort::Counter(0),
-            Sort::Counter(94),
-            Sort::Counter(95),
+            Sort::Counter(96),
+            Sort::Counter(255),
         ];
         self.random.shuffle(&mut sorts);
         if self.random.chance(35) {
@@ -132,9 +132,9 @@ impl Maker {
             .pick(&[None, Some(0), Some(1), Some(256), Some(65535)]);
     }
 
-    /// A limit barely good or barely bad.
+    /// A limit of a counter at an edge.
     fn edge_limit(&mut self) -> Limit {
-        let counter = self.random.pick(&[0, 94, 95, 96, 97, 127, 128, 255]);
+        let counter = self.random.pick(&[0, 95, 96, 127, 128, 254, 255]);
         Limit {
             sort: Sort::Counter(counter),
             maximum: self.random.pick(&[0, 1, 5, u32::MAX]),
@@ -147,7 +147,7 @@ impl Maker {
         let mut records = encode::acl_records(acl);
         if let Some(limit) = records.iter_mut().find(|record| record[0] == 2) {
             limit[4] = self.random.pick(&[0, 1, 1, 3, 3, 4, 255]);
-            limit[5] = self.random.pick(&[0, 1, 95]);
+            limit[5] = self.random.pick(&[0, 1, 255]);
         }
         records.concat()
     }
@@ -219,7 +219,7 @@ impl Maker {
         self.overfill(&mut acl);
         let mut records = encode::acl_records(&acl);
         let place = match self.random.below(3) {
-            // The last group of all, which may be the 17th.
+            // The last group of all, which may be the 65th.
             0 => {
                 while records.len() > 1 && records.last().is_some_and(|record| record[0] != 1) {
                     records.pop();

@@ -45,9 +45,9 @@ impl Maker {
 
     fn edge_hints(&mut self, file: &mut Bytes) {
         let mut records = split(file);
-        match self.random.below(5) {
+        match self.random.below(6) {
             0 => records.clear(),
-            1 => {
+            1 | 2 => {
                 while records.len() < MOST_HINTS + 1 {
                     let source = records.len() as u8;
                     records.push(encode::hint_record(&Hint {
@@ -55,7 +55,11 @@ impl Maker {
                         ..Hint::default()
                     }));
                 }
-                records.truncate(self.random.pick(&[15, 16, 16, 17]));
+                let most = MOST_HINTS;
+                records.truncate(
+                    self.random
+                        .pick(&[17, most - 1, most, most, most + 1, most + 1]),
+                );
             }
             _ if !records.is_empty() => {
                 let place = self.random.place(records.len());

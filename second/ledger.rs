@@ -1,9 +1,10 @@
 //! The ledger: what the gate remembers from call to call.
 
-use crate::acl::{Group, Sort, LAST_COUNTER, MOST_GROUPS};
+use crate::acl::{Group, Sort, MOST_GROUPS};
 use crate::record::Refusal;
 
-pub const COUNTERS: usize = 96;
+/// "Numbers 0 to 255": every byte is a counter's number.
+pub const COUNTERS: usize = 256;
 
 /// A refused call leaves the old ledger standing, since
 /// every step hands back a new one.
@@ -35,9 +36,9 @@ impl Ledger {
         }
     }
 
-    /// "Clear: one named counter to zero." Refusal 10: "counter over 95".
+    /// "Clear: one named counter to zero." Refusal 10: a counter over 255.
     pub fn cleared(&self, counter: u64) -> Result<Ledger, Refusal> {
-        if counter > u64::from(LAST_COUNTER) {
+        if counter >= COUNTERS as u64 {
             return Err(Refusal::NoSuchNumber);
         }
         let mut ledger = self.clone();
@@ -66,13 +67,13 @@ mod tests {
     #[test]
     fn clear_and_load() {
         let mut ledger = Ledger::fresh();
-        ledger.counters[95] = 4;
-        ledger.group_counts[15] = 4;
-        assert_eq!(ledger.cleared(96), Err(Refusal::NoSuchNumber));
+        ledger.counters[255] = 4;
+        ledger.group_counts[63] = 4;
+        assert_eq!(ledger.cleared(256), Err(Refusal::NoSuchNumber));
         assert_eq!(ledger.cleared(u64::MAX), Err(Refusal::NoSuchNumber));
-        assert_eq!(ledger.cleared(95).unwrap().counters[95], 0);
+        assert_eq!(ledger.cleared(255).unwrap().counters[255], 0);
         let loaded = ledger.loaded(u64::MAX);
-        assert_eq!((loaded.counters[95], loaded.group_counts[15]), (4, 0));
+        assert_eq!((loaded.counters[255], loaded.group_counts[63]), (4, 0));
         assert_eq!((loaded.load_time, loaded.last_time), (u64::MAX, u64::MAX));
     }
 }

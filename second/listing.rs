@@ -220,11 +220,11 @@ mod tests {
         let group = encode::acl(&Acl {
             groups: vec![Group::default()],
         });
-        let seventeen = group.repeat(17);
+        let too_many = group.repeat(65);
         for (file, refusal) in [
             (&group[..63], Refusal::Length),
             (&[0; 64], Refusal::Malformed),
-            (&seventeen, Refusal::TooMany),
+            (&too_many, Refusal::TooMany),
             (&group, Refusal::ShortBuffer),
         ] {
             assert_eq!(write_listing(file, &mut buffer), Err(refusal));

@@ -2,8 +2,8 @@
 //! match.
 
 use crate::acl::{
-    Acl, Action, Group, Limit, MakeBlob, Sort, TokenParameters, LAST_COUNTER, MOST_ACTIONS,
-    MOST_GROUPS, MOST_LIMITS,
+    Acl, Action, Group, Limit, MakeBlob, Sort, TokenParameters, MOST_ACTIONS, MOST_GROUPS,
+    MOST_LIMITS,
 };
 use crate::gate::NULL_MODULE_KEY;
 use crate::ledger::Ledger;
@@ -210,10 +210,10 @@ impl Maker {
     /// A few counters are named far more often than the rest, so that they fill up.
     pub fn counter(&mut self) -> u8 {
         match self.random.below(8) {
-            0 => LAST_COUNTER,
-            1 => LAST_COUNTER - 1,
+            0 => self.random.pick(&[255, 255, 254, 128]),
+            1 => self.random.pick(&[95, 96, 96, 97]),
             2 => 0,
-            3 => self.random.between(0, u64::from(LAST_COUNTER)) as u8,
+            3 => self.random.next() as u8,
             _ => self.random.between(1, 5) as u8,
         }
     }
@@ -276,27 +276,29 @@ impl Maker {
             return self.tall_acl();
         }
         let few = self.random.between(2, 4) as usize;
-        let many = self.random.between(5, 16) as usize;
+        let some = self.random.between(5, 17) as usize;
+        let many = self.random.between(18, MOST_GROUPS as u64) as usize;
         let groups = self
             .random
-            .pick_weighted(&[(3, 0), (32, 1), (55, few), (10, many)]);
+            .pick_weighted(&[(3, 0), (32, 1), (54, few), (8, some), (3, many)]);
         Acl {
             groups: (0..groups).map(|place| self.group(place)).collect(),
         }
     }
 
-    /// Sixteen groups with one permission each, so that the last ones are reached too.
+    /// Sixty-four groups with one permission each, so that the last ones are reached too.
     fn tall_acl(&mut self) -> Acl {
         let mut acl = Acl::default();
+        let skew = self.random.place(16);
         for place in 0..MOST_GROUPS {
             let mut group = self.group(place);
-            group.actions = vec![Action::OpPermissions(1 << place)];
+            group.actions = vec![Action::OpPermissions(1 << ((place + skew) % 16))];
             acl.groups.push(group);
         }
         acl
     }
 
-    /// Sixteen groups of four limits and eight actions: the longest file.
+    /// Sixty-four groups of four limits and eight actions: the longest file.
     pub fn full_acl(&mut self) -> Acl {
         Acl {
             groups: (0..MOST_GROUPS)
@@ -384,7 +386,7 @@ mod tests {
             assert_eq!(read_acl(&encode::acl(&acl)), Ok(acl));
         }
         let full = maker.full_acl();
-        assert_eq!(encode::acl(&full).len(), 13_312);
+        assert_eq!(encode::acl(&full).len(), 53_248);
         assert_eq!(read_acl(&encode::acl(&full)), Ok(full));
     }
 }

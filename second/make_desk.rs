@@ -73,9 +73,14 @@ impl Maker {
             bundle,
             acl: Acl::default(),
         };
-        let groups =
-            self.random
-                .pick_weighted(&[(6, 0), (30, 1), (34, 2), (20, 3), (9, 5), (1, 16)]);
+        let groups = self.random.pick_weighted(&[
+            (6, 0),
+            (30, 1),
+            (34, 2),
+            (20, 3),
+            (9, 5),
+            (1, MOST_GROUPS),
+        ]);
         for place in 0..groups {
             let group = self.desk_group(&case, place);
             case.acl.groups.push(group);

@@ -1,6 +1,6 @@
 //! Makes narrowings that the hints show to be sound, and breaks them in exactly one way.
 
-use crate::acl::{Acl, Action, Group, MakeBlob, Sort, LAST_COUNTER, MOST_ACTIONS, MOST_GROUPS};
+use crate::acl::{Acl, Action, Group, MakeBlob, Sort, MOST_ACTIONS, MOST_GROUPS};
 use crate::make_acl::Maker;
 use crate::replace::{Hint, MOST_HINTS};
 
@@ -289,7 +289,7 @@ impl Maker {
             }
             Breach::SourceNamesNothing if number >= 1 => {
                 let past = old.groups.len() as u8;
-                hints[number - 1].source = self.random.pick(&[past, past, 16, 255]).max(past);
+                hints[number - 1].source = self.random.pick(&[past, past, 64, 255]).max(past);
             }
             _ => return false,
         }
@@ -393,12 +393,8 @@ impl Maker {
                     .pick(&[Sort::UsesPerLoad, Sort::SecondsSinceLoad]),
             },
             (Breach::CounterChanged, Sort::Counter(counter)) => {
-                let next = if counter < LAST_COUNTER {
-                    counter + 1
-                } else {
-                    0
-                };
-                Sort::Counter(self.random.pick(&[next, counter ^ 1]))
+                let next = counter.wrapping_add(1);
+                Sort::Counter(self.random.pick(&[next, counter ^ 1, counter ^ 0x80]))
             }
             _ => return false,
         };

@@ -1,7 +1,8 @@
 //! Makes calls of the subject writer and the numbers of clears.
 
-use crate::acl::{Acl, Sort, LAST_COUNTER};
+use crate::acl::{Acl, Sort};
 use crate::call::Call;
+use crate::ledger::COUNTERS;
 use crate::make_acl::Maker;
 use crate::script::LONGEST_BYTES;
 use crate::subject::{hashes_length, write_subject, LAST_SUITE};
@@ -75,24 +76,24 @@ impl Maker {
                 _ => None,
             })
             .collect();
-        let running: Vec<u64> = (0..=u64::from(LAST_COUNTER))
+        let running: Vec<u64> = (0..COUNTERS as u64)
             .filter(|&c| self.ledger.counters[c as usize] != 0)
             .collect();
         match self.random.weighted(&[35, 25, 25, 15]) {
             0 if !named.is_empty() => self.random.pick(&named),
             1 if !running.is_empty() => self.random.pick(&running),
-            2 => self.random.pick(&[0, 1, 94, 95, 96, 97]),
+            2 => self.random.pick(&[0, 95, 96, 254, 255, 256, 257]),
             3 => self.huge_number(),
-            _ => self.random.below(96),
+            _ => self.random.below(COUNTERS as u64),
         }
     }
 
-    /// Numbers over 95, many of which are below 96 in their low bits.
+    /// Numbers over 255, whose low bits are a counter's number.
     fn huge_number(&mut self) -> u64 {
-        let low = self.random.below(96);
+        let low = self.random.below(COUNTERS as u64);
         self.random.pick(&[
-            low + 128,
             low + 256,
+            low + 512,
             low + (1 << 16),
             low + (1 << 32),
             low + (1 << 63),

@@ -1,8 +1,8 @@
 //! Reading ACLs: groups, each followed by its limits, then its actions.
 
 use crate::acl::{
-    Acl, Action, Group, Limit, MakeBlob, Sort, TokenParameters, LAST_COUNTER, MOST_ACL_RECORDS,
-    MOST_ACTIONS, MOST_GROUPS, MOST_LIMITS,
+    Acl, Action, Group, Limit, MakeBlob, Sort, TokenParameters, MOST_ACL_RECORDS, MOST_ACTIONS,
+    MOST_GROUPS, MOST_LIMITS,
 };
 use crate::record::{
     check_length, malformed_unless, part_if, push_up_to, records, Record, Refusal,
@@ -97,12 +97,12 @@ fn read_group(record: Record) -> Result<Group, Refusal> {
 }
 
 /// "2 limit: byte 4 sort (1 uses per load, 2 named counter, 3 seconds since load), byte 5 counter
-/// 0-95 (sort 2 only, else zero), 8-11 maximum."
+/// 0-255 (sort 2 only, else zero), 8-11 maximum."
 fn read_limit(record: Record) -> Result<Limit, Refusal> {
     record.check_zeros(0, &[(4, 5), (8, 11)])?;
     let sort = match (record.byte(4), record.byte(5)) {
         (1, 0) => Sort::UsesPerLoad,
-        (2, counter) if counter <= LAST_COUNTER => Sort::Counter(counter),
+        (2, counter) => Sort::Counter(counter),
         (3, 0) => Sort::SecondsSinceLoad,
         _ => return Err(Refusal::Malformed),
     };
@@ -192,7 +192,7 @@ mod tests {
                     maximum: 0,
                 },
                 Limit {
-                    sort: Sort::Counter(95),
+                    sort: Sort::Counter(255),
                     maximum: u32::MAX,
                 },
             ],
@@ -246,8 +246,10 @@ mod tests {
         assert!(read_acl(&acl_of(&five[..4], 8)).is_ok());
         assert_eq!(read_acl(&acl_of(&[], 9)), Err(Refusal::TooMany));
         let groups = Acl {
-            groups: vec![Group::default(); 17],
+            groups: vec![Group::default(); 65],
         };
+        let allowed = &encode::acl(&groups)[64..];
+        assert_eq!(read_acl(allowed).map(|acl| acl.groups.len()), Ok(64));
         assert_eq!(read_acl(&encode::acl(&groups)), Err(Refusal::TooMany));
     }
 

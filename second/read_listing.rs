@@ -237,7 +237,7 @@ mod tests {
     #[test]
     fn every_listing_reads_back() {
         let mut maker = Maker::new(11, true);
-        let mut buffer = vec![0; 20_000];
+        let mut buffer = vec![0; 53_248];
         for _ in 0..300 {
             let acl = maker.acl();
             let file = encode::acl(&acl);
@@ -259,10 +259,10 @@ mod tests {
         assert_eq!(bad_line("group"), 1);
         assert_eq!(bad_line("group\ngroup\nlimit uses 01\nxyz\n"), 3);
         assert_eq!(bad_line("limit uses 1\n"), 1);
-        assert_eq!(bad_line(&"group\n".repeat(17)), 17);
+        assert_eq!(bad_line(&"group\n".repeat(65)), 65);
         assert_eq!(bad_line("group\nOpPermissions Sign\nlimit uses 1\n"), 3);
         assert_eq!(bad_line("group\nlimit uses 1\nlimit uses 2\n"), 3);
-        assert_eq!(bad_line("group\nlimit counter 96 uses 1\n"), 2);
+        assert_eq!(bad_line("group\nlimit counter 256 uses 1\n"), 2);
         assert_eq!(bad_line("group\nMakeArchiveBlob mechanism 1\n"), 2);
     }
 

@@ -7,8 +7,8 @@ use crate::read_acl::{check_acl_length, read_acl};
 use crate::record::{check_length, malformed_unless, records, Hash, Record, Refusal};
 use crate::request::{check_request_length, read_request, EXPAND_ACL, REDUCE_ACL};
 
-/// "Greatest lengths: [...] hints 16."
-pub const MOST_HINTS: usize = 16;
+/// "Hints grow to 64 records": one for each new group.
+pub const MOST_HINTS: usize = MOST_GROUPS;
 
 /// "13 hint: byte 4 source group, 8-15 a source action for each action of the new group, all from
 /// 0."
@@ -287,9 +287,9 @@ mod tests {
             groups: vec![counted],
         });
         let mut ledger = Ledger::fresh();
-        ledger.group_counts = [3; 16];
+        ledger.group_counts = [3; MOST_GROUPS];
         let (place, after) = expand(&ledger, &KM0, &old, &use_at(EXPAND_ACL, 4), &old).unwrap();
-        assert_eq!((place, after.group_counts), (0, [0; 16]));
+        assert_eq!((place, after.group_counts), (0, [0; MOST_GROUPS]));
         assert_eq!((after.counters[0], after.last_time), (1, 4));
         let other = expand(&ledger, &KM0, &old, &use_at(REDUCE_ACL, 4), &old);
         assert_eq!(other, Err(Refusal::Malformed));
