@@ -5,7 +5,10 @@ pub const REDUCE_ACL: u8 = 2;
 pub const EXPAND_ACL: u8 = 12;
 pub const TIME: u64 = 1_000;
 
-const GROUPS: u8 = 16;
+/// As many groups as there were at first, and as many as there may be.
+pub const SOME: u8 = 16;
+pub const ALL: u8 = 64;
+
 const ACTIONS: u8 = 8;
 const CERTIFICATES: u8 = 32;
 const LINKS: u8 = 4;
@@ -62,7 +65,7 @@ fn full_group(g: u8, last: u16, maximum: u32) -> Vec<Record> {
     let mut rows = vec![record(1, 3, &[(4, &certifier), (24, &[0, MECHANISM])])];
     rows.push(limit(1, 0, NEVER_SPENT));
     rows.push(limit(2, g, NEVER_SPENT));
-    rows.push(limit(2, 95 - g, NEVER_SPENT));
+    rows.push(limit(2, 255 - g, NEVER_SPENT));
     rows.push(limit(3, 0, maximum));
     for a in 0..ACTIONS - 1 {
         rows.push(if a % 2 == 0 { token_blob(6, 40 + a) } else { recovery_blob(7, 3) });
@@ -80,31 +83,31 @@ pub fn small_acl() -> Vec<u8> {
     file(&[record(1, 0, &[]), permissions(1 << SIGN | 1 << REDUCE_ACL)])
 }
 
-/// Sixteen full groups; only the last action of the last group has these permissions.
-fn last_of_all(bits: u16) -> Vec<u8> {
-    let last = |g| if g == GROUPS - 1 { bits } else { 1 };
-    file(&(0..GROUPS).flat_map(|g| full_group(g, last(g), NEVER_SPENT)).collect::<Vec<_>>())
+/// Full groups; only the last action of the last group has these permissions.
+fn last_of_all(groups: u8, bits: u16) -> Vec<u8> {
+    let last = |g| if g == groups - 1 { bits } else { 1 };
+    file(&(0..groups).flat_map(|g| full_group(g, last(g), NEVER_SPENT)).collect::<Vec<_>>())
 }
 
-/// Sixteen full groups; only the last one permits Sign and ReduceACL.
-pub fn granted_last() -> Vec<u8> {
-    last_of_all(1 << SIGN | 1 << REDUCE_ACL)
+/// Full groups; only the last one permits Sign and ReduceACL.
+pub fn granted_last(groups: u8) -> Vec<u8> {
+    last_of_all(groups, 1 << SIGN | 1 << REDUCE_ACL)
 }
 
-/// Sixteen full groups; only the last one permits ExpandACL.
-pub fn expandable() -> Vec<u8> {
-    last_of_all(1 << EXPAND_ACL)
+/// Full groups; only the last one permits ExpandACL.
+pub fn expandable(groups: u8) -> Vec<u8> {
+    last_of_all(groups, 1 << EXPAND_ACL)
 }
 
-/// Sixteen full groups, each of which permits Sign by its last action and is spent by its last limit.
-pub fn all_spent() -> Vec<u8> {
-    file(&(0..GROUPS).flat_map(|g| full_group(g, 1 << SIGN, 0)).collect::<Vec<_>>())
+/// Full groups, each of which permits Sign by its last action and is spent by its last limit.
+pub fn all_spent(groups: u8) -> Vec<u8> {
+    file(&(0..groups).flat_map(|g| full_group(g, 1 << SIGN, 0)).collect::<Vec<_>>())
 }
 
-/// Sixteen full groups that all permit Sign, by a key that is not presented; only the last names the mechanism of the certificates.
-pub fn by_delegation() -> Vec<u8> {
-    let rows = (0..GROUPS).flat_map(|g| {
-        let mechanism = if g == GROUPS - 1 { MECHANISM } else { MECHANISM + 1 };
+/// Full groups that all permit Sign, by a key that is not presented; only the last names the mechanism of the certificates.
+pub fn by_delegation(groups: u8) -> Vec<u8> {
+    let rows = (0..groups).flat_map(|g| {
+        let mechanism = if g == groups - 1 { MECHANISM } else { MECHANISM + 1 };
         let mut rows = full_group(g, 1 << SIGN, NEVER_SPENT);
         rows[0] = record(1, 3, &[(4, &hash(DELEGATING)), (24, &[0, mechanism])]);
         rows
@@ -153,8 +156,8 @@ pub fn same_places(groups: u8, actions: u8) -> Vec<u8> {
     file(&(0..groups).map(|g| record(13, 0, &[(4, &[g]), (8, &taken)])).collect::<Vec<_>>())
 }
 
-pub fn full_hints() -> Vec<u8> {
-    same_places(GROUPS, ACTIONS)
+pub fn full_hints(groups: u8) -> Vec<u8> {
+    same_places(groups, ACTIONS)
 }
 
 /// The ACL with one bit of its last action added: what makes the last test of a narrowing fail.
@@ -190,9 +193,9 @@ pub fn small_key() -> Vec<u8> {
     file(&[officer, permissions(1 << 10), record(1, 0, &[]), permissions(1 << SIGN), token_blob(6, 40), recovery_blob(7, 3)])
 }
 
-/// Sixteen full groups that the desk accepts: the officer's first, so that recovery blobs may be made.
-pub fn full_key() -> Vec<u8> {
-    let mut acl = granted_last();
+/// Full groups that the desk accepts: the officer's first, so that recovery blobs may be made.
+pub fn full_key(groups: u8) -> Vec<u8> {
+    let mut acl = granted_last(groups);
     acl[4..24].copy_from_slice(&hash(4));
     acl
 }

@@ -9,12 +9,12 @@ use std::time::Instant;
 const ROUNDS: usize = 200;
 const MEGABYTE: usize = 1 << 20;
 
-/// Sixteen full groups, each line as long as it can be, but for the eight actions, which are all this one.
+/// 64 full groups, each line as long as it can be, but for the eight actions, which are all this one.
 fn longest(action: &str) -> String {
     let hash = "5a".repeat(20);
-    let limits: String = (92..96).map(|c| format!("limit counter {c} uses 4294967295\n")).collect();
+    let limits: String = (252..=255).map(|c| format!("limit counter {c} uses 4294967295\n")).collect();
     let group = format!("group certifier {hash} mechanism 65535\n{limits}{}", format!("{action}\n").repeat(8));
-    group.repeat(16)
+    group.repeat(64)
 }
 
 fn longest_blob() -> String {
@@ -42,18 +42,18 @@ fn measure(name: &str, mut call: impl FnMut() -> Result<u64, NotListed>) {
 }
 
 fn both_ways(name: &str, text: &str) {
-    let mut acl = vec![0u8; 13_312];
+    let mut acl = vec![0u8; 53_248];
     let length = read_listing(text.as_bytes(), &mut acl).expect("a listing") as usize;
     acl.truncate(length);
-    let mut again = vec![0u8; 29_904];
+    let mut again = vec![0u8; 119_872];
     measure(&format!("{name}, {} bytes: written", text.len()), || write_listing(black_box(&acl), black_box(&mut again)));
     assert_eq!(&again[..text.len()], text.as_bytes());
-    let mut buffer = vec![0u8; 13_312];
+    let mut buffer = vec![0u8; 53_248];
     measure(&format!("{name}, {} bytes: read", text.len()), || read_listing(black_box(text.as_bytes()), black_box(&mut buffer)));
 }
 
 fn damaged(name: &str, text: &[u8]) {
-    let mut buffer = vec![0u8; 13_312];
+    let mut buffer = vec![0u8; 53_248];
     measure(name, || read_listing(black_box(text), black_box(&mut buffer)));
 }
 

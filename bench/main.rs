@@ -8,7 +8,7 @@ mod ordinary;
 mod proved;
 mod stack;
 
-use inputs::{EXPAND_ACL, REDUCE_ACL, SIGN, TIME};
+use inputs::{ALL, EXPAND_ACL, REDUCE_ACL, SIGN, SOME, TIME};
 use std::hint::black_box;
 use std::time::Instant;
 
@@ -113,23 +113,27 @@ fn request_cases() -> Vec<Case> {
     let case = |name, expected, files| Case { name, calls: 1_000_000, expected, call, files };
     vec![
         case("Sign, 1 group: permit", "Permit(0)", asked(inputs::small_acl(), inputs::small_request(SIGN))),
-        case("Sign, 16 full groups, the last permits", "Permit(15)", asked(inputs::granted_last(), inputs::full_request(SIGN))),
-        case("Sign, 16 full groups, all spent: 7", "Refuse(7, Some(0))", asked(inputs::all_spent(), inputs::full_request(SIGN))),
-        case("Sign, 16 full groups, none certified: 6", "Refuse(6, Some(0))", asked(inputs::by_delegation(), inputs::full_request(SIGN))),
-        case("Sign, 16 full groups, the last by four links", "Permit(15)", asked(inputs::by_delegation(), inputs::delegated_request(SIGN))),
+        case("Sign, 16 full groups, the last permits", "Permit(15)", asked(inputs::granted_last(SOME), inputs::full_request(SIGN))),
+        case("Sign, 64 full groups, the last permits", "Permit(63)", asked(inputs::granted_last(ALL), inputs::full_request(SIGN))),
+        case("Sign, 16 full groups, all spent: 7", "Refuse(7, Some(0))", asked(inputs::all_spent(SOME), inputs::full_request(SIGN))),
+        case("Sign, 64 full groups, all spent: 7", "Refuse(7, Some(0))", asked(inputs::all_spent(ALL), inputs::full_request(SIGN))),
+        case("Sign, 16 full groups, none certified: 6", "Refuse(6, Some(0))", asked(inputs::by_delegation(SOME), inputs::full_request(SIGN))),
+        case("Sign, 16 full groups, the last by four links", "Permit(15)", asked(inputs::by_delegation(SOME), inputs::delegated_request(SIGN))),
     ]
 }
 
 fn narrowing_cases() -> Vec<Case> {
     let call: Call = |s, f, n| s.narrowings(f, n);
     let case = |name, calls, expected, files| Case { name, calls, expected, call, files };
-    let (small, full) = (inputs::small_acl(), inputs::granted_last());
+    let (small, full, all) = (inputs::small_acl(), inputs::granted_last(SOME), inputs::granted_last(ALL));
     let (small_req, full_req) = (inputs::small_request(REDUCE_ACL), inputs::full_request(REDUCE_ACL));
-    let shown = replaced(full.clone(), full_req.clone(), full.clone(), inputs::full_hints());
-    let wider = replaced(full.clone(), full_req, inputs::widened(&full), inputs::full_hints());
+    let shown = replaced(full.clone(), full_req.clone(), full.clone(), inputs::full_hints(SOME));
+    let all_shown = replaced(all.clone(), full_req.clone(), all, inputs::full_hints(ALL));
+    let wider = replaced(full.clone(), full_req, inputs::widened(&full), inputs::full_hints(SOME));
     vec![
         case("narrowing, 1 group", 1_000_000, "Permit(0)", replaced(small.clone(), small_req, small, inputs::same_places(1, 1))),
         case("narrowing, 16 full groups", 400_000, "Permit(15)", shown),
+        case("narrowing, 64 full groups", 100_000, "Permit(63)", all_shown),
         case("narrowing, 16 full groups, wider at the end: 8", 400_000, "Refuse(8, None)", wider),
     ]
 }
@@ -139,7 +143,8 @@ fn desk_cases() -> Vec<Case> {
     let case = |name, expected, files| Case { name, calls: 1_000_000, expected, call, files };
     vec![
         case("verdict, 2 groups", "Policy { protection: 2", judged(inputs::bundle(1), inputs::small_key())),
-        case("verdict, full bundle, 16 full groups", "Policy { protection: 2", judged(inputs::full_bundle(), inputs::full_key())),
+        case("verdict, full bundle, 16 full groups", "Policy { protection: 2", judged(inputs::full_bundle(), inputs::full_key(SOME))),
+        case("verdict, full bundle, 64 full groups", "Policy { protection: 2", judged(inputs::full_bundle(), inputs::full_key(ALL))),
     ]
 }
 
@@ -185,20 +190,20 @@ fn load() -> String {
 
 // The stack of one call on the longest files, of every function of the library.
 fn measure_stack() {
-    let (km0, full) = (inputs::km0(), inputs::granted_last());
+    let (km0, full) = (inputs::km0(), inputs::granted_last(ALL));
     let ledger = proved::Ledger::fresh();
     let print = |name: &str, depth: usize| println!("{name:<48} {depth:>9}");
     println!("\nstack of a call of the library, in bytes (below 4,096: shown as 4,096)");
     print("fresh", stack::depth(|| proved::Ledger::fresh()));
     print("load", stack::depth(|| ledger.load(TIME)));
-    print("clear", stack::depth(|| ledger.clear(95)));
-    let (chained, delegated) = (inputs::by_delegation(), inputs::delegated_request(SIGN));
+    print("clear", stack::depth(|| ledger.clear(255)));
+    let (chained, delegated) = (inputs::by_delegation(ALL), inputs::delegated_request(SIGN));
     print("request", stack::depth(|| ledger.request(&km0, &chained, &delegated)));
     let (narrow, expand) = (inputs::full_request(REDUCE_ACL), inputs::full_request(EXPAND_ACL));
-    print("narrow", stack::depth(|| ledger.narrow(&km0, &full, &narrow, &full, &inputs::full_hints())));
-    let wide = inputs::expandable();
+    print("narrow", stack::depth(|| ledger.narrow(&km0, &full, &narrow, &full, &inputs::full_hints(ALL))));
+    let wide = inputs::expandable(ALL);
     print("expand", stack::depth(|| ledger.expand(&km0, &wide, &expand, &full)));
-    print("desk", stack::depth(|| proved::assess(&inputs::full_bundle(), &inputs::full_key())));
+    print("desk", stack::depth(|| proved::assess(&inputs::full_bundle(), &inputs::full_key(ALL))));
     let mut buffer = [0; 137];
     print("subject", stack::depth(|| proved::write_subject(4, 4, &inputs::four_hashes(), &mut buffer)));
 }

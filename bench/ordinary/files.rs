@@ -16,7 +16,7 @@ pub enum Refusal {
 }
 
 /// Groups of an ACL; limits and actions of a group; certificates and delegations of a request; listed module keys of a bundle.
-pub const GROUPS: usize = 16;
+pub const GROUPS: usize = 64;
 const LIMITS: usize = 4;
 const ACTIONS: usize = 8;
 const CERTIFICATES: usize = 32;

@@ -4,7 +4,7 @@ pub type Record = [u8; 64];
 pub type Hash = [u8; 20];
 
 /// Named counters.
-pub const COUNTERS: usize = 96;
+pub const COUNTERS: usize = 256;
 
 /// The N bytes from an offset on.
 pub fn part<const N: usize>(rec: &Record, at: usize) -> &[u8; N] {

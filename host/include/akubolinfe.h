@@ -19,8 +19,9 @@
 #define AKUBOLINFE_ACL_BYTES 53248
 #define AKUBOLINFE_LISTING_BYTES 119872
 
-/* What was used: a count for each group, the named counters, the load time and the last time, in seconds. A ledger kept with the
- * smaller tables (16 counts, 96 counters) is carried over by copying its counts and counters to the front of these, zero past them. */
+/* What was used: a count for each group, the named counters, the load time and the last time, in seconds. A ledger that was kept
+ * with 16 counts and 96 counters (464 bytes) is carried over into a fresh one: its counts and its counters, each to the front of
+ * theirs, and both times. What lies past them is zero. */
 typedef struct {
     uint32_t counts[AKUBOLINFE_GROUPS];
     uint32_t counters[AKUBOLINFE_COUNTERS];

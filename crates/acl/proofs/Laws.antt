@@ -13,7 +13,7 @@ use borrow.Author.Tests.{eq-eqb, ne-eqb, lt-ltb, le-ltb, ltb-true, ltb-false, no
 use Rattle.rules.specs.Sizes.{groupsMax, limitsMax, actionsMax}
 use Rattle.rules.specs.Basics.{Bytes, any, kind, flag, firstFault}
 use Rattle.rules.specs.Numbers.{malformed, tooMany, openArchive}
-use Rattle.rules.specs.Acl.{AclPlace, among, limitKey, limitInPlace, inPlace, hasRoom, keyed, aclRecordFault, limitAdded, afterRecord}
+use Rattle.rules.specs.Acl.{AclPlace, among, limitKey, limitInPlace, inPlace, hasRoomUnder, hasRoom, keyed, recordFaultUnder, aclRecordFault, limitAdded, afterRecord}
 use Rattle.acl.specs.declared.Place.{Place}
 use Rattle.acl.specs.Places.{placeOf}
 
@@ -52,21 +52,21 @@ place-added p key h = ap (λ (l : List ℕ). record { groups = p .groups; isOpen
 -- the fault of a record by its three tests, `if !f(..)`
 module _ (s : AclPlace) (r : Bytes) (a : Bool) (p : a ≡ inPlace s r) where
   pub bad-record : not a ≡ true → aclRecordFault s r ≡ some malformed
-  unfolding aclRecordFault firstFault
+  unfolding recordFaultUnder firstFault
   bad-record h = rw (sym p ∙ not-true a h)
 
   module _ (h : not a ≡ false) (b : Bool) (q : b ≡ hasRoom s r) where
     pub full-record : not b ≡ true → aclRecordFault s r ≡ some tooMany
-    unfolding aclRecordFault firstFault
+    unfolding recordFaultUnder firstFault
     full-record k = rw (sym p ∙ not-false a h, sym q ∙ not-true b k)
 
     module _ (k : not b ≡ false) (c : Bool) (t : c ≡ keyed (s .isOpen) r) where
       pub open-record : not c ≡ true → aclRecordFault s r ≡ some openArchive
-      unfolding aclRecordFault firstFault
+      unfolding recordFaultUnder firstFault
       open-record l = rw (sym p ∙ not-false a h, sym q ∙ not-false b k, sym t ∙ not-true c l)
 
       pub sound-record : not c ≡ false → aclRecordFault s r ≡ none
-      unfolding aclRecordFault firstFault
+      unfolding recordFaultUnder firstFault
       sound-record l = rw (sym p ∙ not-false a h, sym q ∙ not-false b k, sym t ∙ not-false c l)
 
 -- after a group's record: open if it has no certifier
@@ -77,16 +77,16 @@ group-next s r f k e = rw (eq-eqb (kind r) 1 k, e)
 -- what room says of each kind
 module _ (p : Place) (r : Bytes) (h : hasRoom (placeOf p) r ≡ true) where
   pub group-fits : kind r ≡ 1 → p .groups + 1 < groupsMax + 1
-  unfolding hasRoom
+  unfolding hasRoomUnder
   group-fits e = let d = ltb-true (p .groups) groupsMax (rw (eq-eqb (kind r) 1 e) at h) in omega arith
 
   pub limit-fits : (kind r ≡ 1 → ⊥) → kind r ≡ 2 → length (p .keys) ≡ limitsMax → p .limits < limitsMax
-  unfolding hasRoom
+  unfolding hasRoomUnder
   limit-fits n e l =
       ltb-true (p .limits) limitsMax (room-left (p .limits) limitsMax (p .keys) l ∙ rw (ne-eqb (kind r) 1 n, eq-eqb (kind r) 2 e) at h)
 
   pub action-fits : (kind r ≡ 1 → ⊥) → (kind r ≡ 2 → ⊥) → p .actions + 1 < actionsMax + 1
-  unfolding hasRoom
+  unfolding hasRoomUnder
   action-fits n m = let d = ltb-true (p .actions) actionsMax (rw (ne-eqb (kind r) 1 n, ne-eqb (kind r) 2 m) at h) in omega arith
 
 -- the part of a group's keys that stands for limits

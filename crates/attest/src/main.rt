@@ -14,7 +14,7 @@ fn print_verdict(bundle: &[u8], acl: &[u8]) {
 // The bundle with the ACL that the second argument names. No file that fits its greatest length fills the buffer, so that a longer one is cut and
 // still too long.
 fn judge_acl(bundle: &[u8]) {
-    let mut acl = io::large_buffer();
+    let mut acl = [0u8; (sizes::ACL_RECORDS + 1) * sizes::RECORD];
     let input = arguments::read(2, b"ACL", &mut acl);
     let Input::Read(n) = input else {
         return;

@@ -7,7 +7,7 @@ use listing::Reply;
 
 // The listing of an ACL. No listing is longer than the buffer, and no line is bad where none is read.
 fn print_listing(acl: &[u8]) {
-    let mut text = io::large_buffer();
+    let mut text = [0u8; listing::LONGEST];
     let reply = listing::write_listing(acl, &mut text);
     match reply {
         Reply::Produced(n) => {
@@ -24,7 +24,7 @@ fn main() {
         io::write_all(STDERR_FILENO, b"list: one file name is due: ACL\n");
         return;
     }
-    let mut acl = io::large_buffer();
+    let mut acl = [0u8; (sizes::ACL_RECORDS + 1) * sizes::RECORD];
     let input = arguments::read(1, b"ACL", &mut acl);
     let Input::Read(n) = input else {
         return;

@@ -16,6 +16,9 @@ use acl::Place;
 use files::Checked;
 use refusals::Refusal;
 
+// Bytes of the longest listing: of each group its line, four limits and eight actions (`listingMax`, crates/listings/specs/Words.antt).
+pub const LONGEST: usize = sizes::GROUPS * (73 + sizes::LIMITS * 34 + sizes::ACTIONS * 208);
+
 // What the entry points answer: the result's length, a refusal, or the number of the first bad line of a listing, from 1.
 pub enum Reply {
     Produced(usize),

@@ -12,9 +12,9 @@ use lib.Dec.{eqb, leb, ltb}
 use borrow.Author.Tests.{eqb-true, leb-true, ltb-true}
 use Rattle.rules.specs.Sizes.{recordBytes, hashBytes, countersMax}
 use Rattle.rules.specs.Basics.{Bytes, Every, ascii, bit, part, number, byte, blank, kind, flag, scan, records}
-use Rattle.rules.specs.Layout.{tokenParametersAt, tokenParametersIf, counterOfSort, limitLaidOut, blobActionLaidOut}
+use Rattle.rules.specs.Layout.{tokenParametersAt, tokenParametersIf, counterUnder, counterOfSort, limitUnder, limitLaidOut, blobActionLaidOut}
 use Rattle.rules.specs.Day.{decimal}
-use Rattle.rules.specs.Acl.{AclPlace, aclStart, limitKey, limitInPlace, actionInPlace, actionLaidOut, inPlace, afterRecord, aclRecordFault, aclEnd, aclFault, aclFileFault}
+use Rattle.rules.specs.Acl.{AclPlace, aclStart, limitKey, limitInPlace, actionInPlace, actionLaidOut, inPlaceUnder, inPlace, afterRecord, aclRecordFault, aclEnd, aclFaultUnder, aclFileFault}
 use Rattle.rules.proofs.Laws.{and-left, and-right, and-both, orNext-first, orNext-next}
 use Rattle.listings.specs.Words.{space, hex, Word, bare, numbered, hashed, spaced, wordsText, groupWords, limitWords, permissionNames, permissionWords, blobWords, archiveWords, lineOf, listingOf, groupLineMax, limitLineMax, lineMax, listingMax}
 use Rattle.listings.specs.Listing.{Octet, IsRecord}
@@ -75,7 +75,7 @@ module _ (r : Bytes) (h : IsRecord r) where
       omega arith
 
   limit-length : limitLaidOut r ≡ true → length (ascii "limit" ++ wordsText (limitWords r)) ≤ limitLineMax
-  unfolding limitLaidOut counterOfSort ascii
+  unfolding limitUnder counterUnder ascii
   limit-length e = pick (eqb (byte 4 r) 2) refl (eqb (byte 4 r) 3) refl
     where
       pick : (a : Bool) → eqb (byte 4 r) 2 ≡ a → (b : Bool) → eqb (byte 4 r) 3 ≡ b → length (ascii "limit" ++ wordsText (limitWords r)) ≤ limitLineMax
@@ -146,7 +146,7 @@ module _ (r : Bytes) (h : IsRecord r) where
 
   -- A record that may stand in an ACL has a line no longer than its kind's longest.
   line-length : (s : AclPlace) → inPlace s r ≡ true → length (lineOf r) ≤ weight groupLineMax limitLineMax lineMax r
-  unfolding inPlace actionLaidOut lineOf weight
+  unfolding inPlaceUnder actionLaidOut lineOf weight
   line-length s e = pick (eqb (kind r) 1) refl (eqb (kind r) 2) refl (eqb (kind r) 3) refl (eqb (kind r) 4) refl
     where
       pick : (a : Bool) → eqb (kind r) 1 ≡ a → (b : Bool) → eqb (kind r) 2 ≡ b → (c : Bool) → eqb (kind r) 3 ≡ c → (d : Bool) → eqb (kind r) 4 ≡ d → length (lineOf r) ≤ weight groupLineMax limitLineMax lineMax r
@@ -182,7 +182,7 @@ lines-length s (r ∷ rs) h e =
 
 -- The longest listing of an ACL.
 pub listing-bound : (file : Bytes) → Every Octet file → aclFileFault file ≡ none → length (listingOf file) ≤ listingMax
-unfolding listingOf aclFault
+unfolding listingOf aclFaultUnder
 listing-bound file o e =
     let w = whole-file file e in
     let l = lines-length aclStart (records file) (records-all file (w .0) o) (w .1) in

@@ -12,7 +12,7 @@ use borrow.Author.Tests.{eqb-true, eq-eqb, le-leb}
 use Rattle.rules.specs.Sizes.{recordBytes, aclRecords}
 use Rattle.rules.specs.Numbers.{badLength}
 use Rattle.rules.specs.Basics.{Bytes, Every, present, records, fits, unless, firstFault, scan, fileFault}
-use Rattle.rules.specs.Acl.{AclPlace, aclStart, afterRecord, aclRecordFault, aclEnd, aclFault, aclFileFault}
+use Rattle.rules.specs.Acl.{AclPlace, aclStart, afterRecord, aclRecordFault, aclEnd, aclFaultUnder, aclFault, aclFileFault}
 use Rattle.rules.proofs.Laws.{never, and-left, and-right, not-both, same-eq, same-refl, unless-passed, orNext-first, orNext-next, fault-none-every}
 use Rattle.listings.specs.Words.{lineOf, listingOf}
 use Rattle.listings.specs.Decoding.{decoded}
@@ -64,7 +64,7 @@ whole-file file e =
 
 -- "Every ACL's listing reads back to the same bytes."
 pub listing-read-back : (file : Bytes) → Every Octet file → aclFileFault file ≡ none → readListing (listingOf file) ≡ acl file
-unfolding readListing listingFault listedBytes listingOf aclFault
+unfolding readListing listingFault listedBytes listingOf aclFaultUnder
 listing-read-back file o e =
     let w = whole-file file e in
     let g = lines-good aclStart (listingStart .line) (records file) (records-all file (w .0) o) (w .1) in
@@ -115,7 +115,7 @@ read-as bytes file (some n) e = absurd (never (cc))
 
 -- "Every listing accepted is the one that would be written for its ACL."
 pub accepted-is-written : (text file : Bytes) → readListing text ≡ acl file → (aclFileFault file ≡ none) × (listingOf file ≡ text) × Every Octet file
-unfolding readListing listingFault listedBytes listingOf aclFault
+unfolding readListing listingFault listedBytes listingOf aclFaultUnder
 accepted-is-written text file e =
     let ls = linesOf text in
     let p = read-as (listedBytes text) file (listingFault text) e in
@@ -176,7 +176,7 @@ read-bad bytes n (some m) e = cc
 
 -- "A line that is not the written form of a record valid there gives .. the first such line's number, from 1."
 pub first-bad-line : (text : Bytes) (n : ℕ) → readListing text ≡ badLine n → FirstBad text n
-unfolding readListing listingFault aclFault
+unfolding readListing listingFault aclFaultUnder
 first-bad-line text n e =
     let f = bad-from aclStart 1 (linesOf text) n (read-bad (listedBytes text) n (listingFault text) e) in
     record {

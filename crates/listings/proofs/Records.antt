@@ -11,8 +11,8 @@ use lib.Dec.{eqb, leb, ltb}
 use borrow.Author.Tests.{eqb-true, eqb-false, leb-true}
 use Rattle.rules.specs.Sizes.{recordBytes, hashBytes, countersMax}
 use Rattle.rules.specs.Basics.{if_then_else_, Bytes, Every, all, ascii, bit, part, number, byte, blank, kind, flag}
-use Rattle.rules.specs.Layout.{header, zeroUnless, mechanismAt, between, tokenParametersAt, tokenParametersIf, certifierMechanism, counterOfSort, groupLaidOut, limitLaidOut, permissionsLaidOut, blobActionLaidOut, archiveActionLaidOut}
-use Rattle.rules.specs.Acl.{AclPlace, limitKey, limitInPlace, actionInPlace, actionLaidOut, inPlace}
+use Rattle.rules.specs.Layout.{header, zeroUnless, mechanismAt, between, tokenParametersAt, tokenParametersIf, certifierMechanism, counterUnder, counterOfSort, groupLaidOut, limitUnder, limitLaidOut, permissionsLaidOut, blobActionLaidOut, archiveActionLaidOut}
+use Rattle.rules.specs.Acl.{AclPlace, limitKey, limitInPlace, actionInPlace, actionLaidOut, inPlaceUnder, inPlace}
 use Rattle.rules.proofs.Laws.{and-left, and-right, and-both}
 use Rattle.listings.specs.Words.{Word, spaced, numbered, hashed, wordsText, groupWords, counted, limitWords, permissionNames, permissionWords, blobWords, archiveWords, lineOf}
 use Rattle.listings.specs.Decoding.{stands, has, afterHash, afterNumber, hashAfter, bytesOf, ofBits, headed, groupFrom, sortOf, limitFrom, permissionsFrom, blobFrom, archiveFrom, begins, past, decoded}
@@ -150,7 +150,7 @@ module _ (r : Bytes) (h : IsRecord r) where
 
   -- the parts of a limit, whatever its sort
   limit-parts : kind r ≡ 2 → limitLaidOut r ≡ true → flatten (headed 2 [] ∷ (byte 4 r ∷ []) ∷ bytesOf 1 (byte 5 r) ∷ replicate 2 0 ∷ bytesOf 4 (number 8 4 r) ∷ replicate 52 0 ∷ []) ≡ r
-  unfolding limitLaidOut
+  unfolding limitUnder
   limit-parts k e =
       let w = h .whole in
       let d : header 0 r ≡ true = search conj in
@@ -167,7 +167,7 @@ module _ (r : Bytes) (h : IsRecord r) where
       (cut-whole (4 ∷ 1 ∷ 1 ∷ 2 ∷ 4 ∷ 52 ∷ []) 0 r (omega arith))
 
   limit-back : kind r ≡ 2 → limitLaidOut r ≡ true → limitFrom (wordsText (limitWords r)) ≡ r
-  unfolding limitLaidOut counterOfSort
+  unfolding limitUnder counterUnder
   limit-back k e =
       let s : between 1 3 (byte 4 r) ≡ true = search conj in
       let c : counterOfSort (byte 4 r) (byte 5 r) ≡ true = search conj in
@@ -258,7 +258,7 @@ module _ (ws : List Word) where
 
 -- A record that may stand in an ACL, at whatever place, is read back from its line.
 pub decoded-line : (s : AclPlace) (r : Bytes) → IsRecord r → inPlace s r ≡ true → decoded (lineOf r) ≡ r
-unfolding inPlace actionLaidOut lineOf
+unfolding inPlaceUnder actionLaidOut lineOf
 decoded-line s r h e = pick (eqb (kind r) 1) refl (eqb (kind r) 2) refl (eqb (kind r) 3) refl (eqb (kind r) 4) refl (eqb (kind r) 5) refl
   where
     pick : (a : Bool) → eqb (kind r) 1 ≡ a → (b : Bool) → eqb (kind r) 2 ≡ b → (c : Bool) → eqb (kind r) 3 ≡ c → (d : Bool) → eqb (kind r) 4 ≡ d → (f : Bool) → eqb (kind r) 5 ≡ f → decoded (lineOf r) ≡ r

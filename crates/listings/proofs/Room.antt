@@ -12,14 +12,14 @@ use Rattle.rules.specs.Sizes.{groupsMax, limitsMax, actionsMax, aclRecords}
 use Rattle.rules.specs.Numbers.{malformed, tooMany}
 use Rattle.rules.specs.Basics.{if_then_else_, Bytes, kind, recordFault, scan}
 use Rattle.rules.specs.Layout.{limitLaidOut}
-use Rattle.rules.specs.Acl.{AclPlace, aclStart, limitKey, limitInPlace, actionInPlace, actionLaidOut, inPlace, hasRoom, afterRecord, aclRecordFault, aclEnd, aclFault}
+use Rattle.rules.specs.Acl.{AclPlace, aclStart, limitKey, limitInPlace, actionInPlace, actionLaidOut, inPlaceUnder, inPlace, hasRoomUnder, hasRoom, afterRecord, recordFaultUnder, aclRecordFault, aclEnd, aclFaultUnder, aclFault}
 use Rattle.rules.proofs.Laws.{and-left, and-right, and-both, unless-passed, orNext-first, orNext-next, fault-none-every}
 
 ruleset conj = (and-left, and-right, and-both)
 
 -- a record without fault is in place, and there is room for it
 pub record-passed : (s : AclPlace) (r : Bytes) → aclRecordFault s r ≡ none → (inPlace s r ≡ true) × (hasRoom s r ≡ true)
-unfolding aclRecordFault recordFault
+unfolding recordFaultUnder recordFault
 record-passed s r e =
     let h = fault-none-every _ e in
     (unless-passed (inPlace s r) malformed (h .0), unless-passed (hasRoom s r) tooMany (h .1 .0))
@@ -52,7 +52,7 @@ module _ (g l a : ℕ) where
   one-less m n x h = let e : m - n ≡ suc (m - (n + 1)) = omega arith in rw e (omega arith)
 
   room-after : (s : AclPlace) (r : Bytes) → aclRecordFault s r ≡ none → weight r + room (afterRecord s r) ≤ room s
-  unfolding inPlace hasRoom afterRecord weight limitInPlace
+  unfolding inPlaceUnder hasRoomUnder afterRecord weight limitInPlace
   room-after s r e = pick (eqb (kind r) 1) refl (eqb (kind r) 2) refl
     where
       pick : (b : Bool) → eqb (kind r) 1 ≡ b → (c : Bool) → eqb (kind r) 2 ≡ c → weight r + room (afterRecord s r) ≤ room s
@@ -85,7 +85,7 @@ module _ (g l a : ℕ) where
 
   -- The records of an ACL without fault weigh no more than 64 full groups.
   pub acl-weight : (rs : List Bytes) → aclFault rs ≡ none → total weight rs ≤ groupsMax * full
-  unfolding aclFault
+  unfolding aclFaultUnder
   acl-weight rs e = let t = total-room aclStart rs e in omega arith
 
 weight-one : (r : Bytes) → weight 1 1 1 r ≡ 1

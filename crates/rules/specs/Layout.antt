@@ -3,7 +3,7 @@
 use Prim.Native.Nat.{ℕ, _+_}
 use mathlib.Core.Bool.{Bool, not, _&&_, _||_}
 use lib.Dec.{eqb, leb, ltb}
-use Rattle.rules.specs.Sizes.{hashBytes, countersMax}
+use Rattle.rules.specs.Sizes.{hashBytes, Capacity, today}
 use Rattle.rules.specs.Basics.{if_then_else_, Bytes, within, number, byte, blank, flag}
 
 -- "Byte 0 is the kind, byte 1 zero, bytes 2-3 flags."; of the flags none but those listed is set
@@ -39,13 +39,20 @@ certifierMechanism r = if flag 1 r then flag 0 r && mechanismAt 24 r else blank 
 unfoldable pub groupLaidOut : Bytes → Bool
 groupLaidOut r = header 3 r && zeroUnless 0 4 hashBytes r && certifierMechanism r && blank 26 38 r
 
--- "byte 5 counter .. (sort 2 only, else zero)", "numbers 0 to 255"
-unfoldable pub counterOfSort : ℕ → ℕ → Bool
-counterOfSort sort counter = if eqb sort 2 then ltb counter countersMax else eqb counter 0
+-- "byte 5 counter .. (sort 2 only, else zero)", of so many counters
+unfoldable pub counterUnder : Capacity → ℕ → ℕ → Bool
+counterUnder c sort counter = if eqb sort 2 then ltb counter (c .counters) else eqb counter 0
+
+-- "numbers 0 to 255"
+abbrev pub counterOfSort : ℕ → ℕ → Bool
+counterOfSort = counterUnder today
 
 -- 2 limit: byte 4 sort (1 uses per load, 2 named counter, 3 seconds since load), byte 5 counter, 8-11 maximum.
-unfoldable pub limitLaidOut : Bytes → Bool
-limitLaidOut r = header 0 r && between 1 3 (byte 4 r) && counterOfSort (byte 4 r) (byte 5 r) && blank 6 2 r && blank 12 52 r
+unfoldable pub limitUnder : Capacity → Bytes → Bool
+limitUnder c r = header 0 r && between 1 3 (byte 4 r) && counterUnder c (byte 4 r) (byte 5 r) && blank 6 2 r && blank 12 52 r
+
+abbrev pub limitLaidOut : Bytes → Bool
+limitLaidOut = limitUnder today
 
 -- 3 OpPermissions: 4-5, sixteen bits.
 unfoldable pub permissionsLaidOut : Bytes → Bool

@@ -15,8 +15,8 @@ use borrow.Author.Tests.{eqb-true, eqb-false, eq-eqb, ne-eqb, leb-true, ltb-true
 use Rattle.rules.specs.Sizes.{groupsMax, limitsMax, actionsMax, countersMax}
 use Rattle.rules.specs.Numbers.{malformed, tooMany}
 use Rattle.rules.specs.Basics.{Bytes, any, Every, numberFrom, part, byte, kind, recordFault, scan, records}
-use Rattle.rules.specs.Layout.{counterOfSort, limitLaidOut}
-use Rattle.rules.specs.Acl.{Limit, limitOf, limitsOf, actionsOf, groupOf, groupsOf, aclOf, AclPlace, limitKey, among, limitInPlace, inPlace, hasRoom, afterRecord, aclRecordFault, aclEnd, aclStart, aclFault}
+use Rattle.rules.specs.Layout.{counterUnder, counterOfSort, limitUnder, limitLaidOut}
+use Rattle.rules.specs.Acl.{Limit, limitOf, limitsOf, actionsOf, groupOf, groupsOf, aclOf, AclPlace, limitKey, among, limitInPlace, inPlaceUnder, inPlace, hasRoomUnder, hasRoom, afterRecord, recordFaultUnder, aclRecordFault, aclEnd, aclStart, aclFaultUnder, aclFault}
 use Rattle.rules.proofs.Laws.{never, and-left, and-right, and-both, not-both, or-right, every-at, unless-passed, orNext-first, orNext-next, fault-none-every}
 use Rattle.rules.proofs.Rows.{records-sized}
 use Rattle.theorems.specs.Sizes.{LimitFits, Apart, GroupFits, AclFits}
@@ -32,7 +32,7 @@ Whole rs = Every (λ r. length r ≡ 64) rs
 
 -- a record without fault is in place, and there is room for it
 good-record : (s : AclPlace) (r : Bytes) → aclRecordFault s r ≡ none → (inPlace s r ≡ true) × (hasRoom s r ≡ true)
-unfolding aclRecordFault recordFault
+unfolding recordFaultUnder recordFault
 good-record s r e =
     let w = fault-none-every _ e in
     (unless-passed (inPlace s r) malformed (w .0), unless-passed (hasRoom s r) tooMany (w .1 .0))
@@ -56,7 +56,7 @@ key-is r h =
 
 -- what the layout of a limit says
 limit-fits : (r : Bytes) → limitLaidOut r ≡ true → LimitFits (limitOf r)
-unfolding limitLaidOut counterOfSort
+unfolding limitUnder counterUnder
 limit-fits r e =
     record {
       lowestSort = leb-true 1 (byte 4 r) (search conj);
@@ -73,7 +73,7 @@ Fresh keys (m ∷ ms) = (among (keyOf m) keys ≡ false) × Fresh (keys ++ (keyO
 -- what a limit record in its place says
 limit-record : (s : AclPlace) (r : Bytes) → kind r ≡ 2 → inPlace s r ≡ true → hasRoom s r ≡ true
     → LimitFits (limitOf r) × (among (limitKey r) (s .limits) ≡ false) × (length (s .limits) < limitsMax)
-unfolding inPlace hasRoom limitInPlace
+unfolding inPlaceUnder hasRoomUnder limitInPlace
 limit-record s r q e d =
     let a : (limitLaidOut r && limitInPlace s (limitKey r)) ≡ true = rw q at e in
     let b : limitInPlace s (limitKey r) ≡ true = and-right (limitLaidOut r) _ a in
@@ -114,7 +114,7 @@ unfolding afterRecord
 after-action s r p q = rw (p, q)
 
 action-room : (s : AclPlace) (r : Bytes) → eqb (kind r) 1 ≡ false → eqb (kind r) 2 ≡ false → hasRoom s r ≡ true → s .actions < actionsMax
-unfolding hasRoom
+unfolding hasRoomUnder
 action-room s r p q e = ltb-true (s .actions) actionsMax (rw (p, q) at e)
 
 actions-fit : (s : AclPlace) (rs : List Bytes) → Reads s rs → s .actions ≤ actionsMax → s .actions + length (actionsOf rs) ≤ actionsMax
@@ -191,7 +191,7 @@ unfolding afterRecord
 after-group s r q = rw q (refl, refl, refl)
 
 group-room : (s : AclPlace) (r : Bytes) → eqb (kind r) 1 ≡ true → hasRoom s r ≡ true → s .groups < groupsMax
-unfolding hasRoom
+unfolding hasRoomUnder
 group-room s r q e = ltb-true (s .groups) groupsMax (rw q at e)
 
 same-groups : (s : AclPlace) (r : Bytes) → eqb (kind r) 1 ≡ false → afterRecord s r .groups ≡ s .groups
@@ -235,7 +235,7 @@ groups-fit s (r ∷ rs) w e h = pick (eqb (kind r) 1) refl (first-record s r rs 
 
 -- The ACL of a file without fault fits.
 pub acl-fits : (file : Bytes) → aclFault (records file) ≡ none → AclFits (aclOf file)
-unfolding aclFault
+unfolding aclFaultUnder
 acl-fits file e =
     let r = groups-fit aclStart (records file) (records-sized file) e (omega arith) in
     record { groups = omega (arith, r .0); each = r .1 }

@@ -9,7 +9,7 @@ use mathlib.Core.Bool.{Bool, true, false, _&&_, false≢true}
 use lib.Dec.{eqb}
 use Rattle.rules.specs.Numbers.{malformed, openArchive}
 use Rattle.rules.specs.Basics.{Bytes, Every, kind, flag, optional, present, scan, records}
-use Rattle.rules.specs.Acl.{Action, permissions, makeBlob, makeArchive, actionOf, actionsOf, Group, groupOf, groupsOf, aclOf, AclPlace, aclStart, actionLaidOut, actionInPlace, inPlace, keyed, afterRecord, aclRecordFault, aclEnd, aclFault}
+use Rattle.rules.specs.Acl.{Action, permissions, makeBlob, makeArchive, actionOf, actionsOf, Group, groupOf, groupsOf, aclOf, AclPlace, aclStart, actionLaidOut, actionInPlace, inPlaceUnder, inPlace, keyed, afterRecord, recordFaultUnder, aclRecordFault, aclEnd, aclFaultUnder, aclFault}
 use Rattle.rules.proofs.Laws.{never, and-left, implied, unless-passed, orNext-first, orNext-next, fault-none-every}
 
 -- a MakeArchiveBlob action that has kahash; an action of another kind needs none
@@ -48,7 +48,7 @@ read s rs = scan aclRecordFault afterRecord aclEnd s rs
 
 -- its groups are closed; and, where the group begun is open, so are the actions left of that
 read-closed : (s : AclPlace) (rs : List Bytes) → read s rs ≡ none → Every Closed (groupsOf rs) × (s .isOpen ≡ true → Every HasKey (actionsOf rs))
-unfolding scan aclRecordFault afterRecord inPlace groupsOf actionsOf
+unfolding scan recordFaultUnder afterRecord inPlaceUnder groupsOf actionsOf
 read-closed s [] e = (tt, λ o. tt)
 read-closed s (r ∷ rs) e =
     let later = orNext-next (aclRecordFault s r) (read (afterRecord s r) rs) e in
@@ -70,5 +70,5 @@ read-closed s (r ∷ rs) e =
 
 -- Every group of an ACL that has no fault is closed.
 pub acl-closed : (acl : Bytes) → aclFault (records acl) ≡ none → Every Closed (aclOf acl)
-unfolding aclFault
+unfolding aclFaultUnder
 acl-closed acl e = read-closed aclStart (records acl) e .0

@@ -10,21 +10,16 @@ use mathlib.Core.Bool.{Bool, true, false, _&&_}
 use lib.ListN.{length}
 use lib.Dec.{eqb, leb, ltb}
 use borrow.Author.Tests.{leb-true, le-leb, ltb-true, lt-ltb}
-use Rattle.rules.specs.Sizes.{recordBytes}
+use Rattle.rules.specs.Sizes.{recordBytes, Capacity, today, aclRecordsUnder}
 use Rattle.rules.specs.Numbers.{badLength, malformed, tooMany, openArchive}
 use Rattle.rules.specs.Basics.{Bytes, kind, byte, fits, unless, orNext, firstFault, scan, fileFault, records}
-use Rattle.rules.specs.Layout.{counterOfSort, limitLaidOut}
-use Rattle.rules.specs.Acl.{AclPlace, aclStart, limitKey, limitInPlace, inPlace, hasRoom, keyed, afterRecord, aclRecordFault, aclEnd, aclFault, aclFileFault}
+use Rattle.rules.specs.Layout.{counterUnder, limitUnder}
+use Rattle.rules.specs.Acl.{AclPlace, aclStart, limitKey, limitInPlace, inPlaceUnder, hasRoomUnder, keyed, afterRecord, recordFaultUnder, aclEnd, aclFaultUnder, aclFileFaultUnder, aclFileFault}
 use Rattle.rules.specs.Request.{hintsFault, hintsFileFault}
 use Rattle.rules.proofs.Laws.{and-left, and-right, and-both, unless-passed, orNext-first, orNext-next, fault-none-every}
-use Rattle.theorems.specs.Capacity.{Capacity, base, today, counterUnder, limitUnder, inPlaceUnder, hasRoomUnder, recordFaultUnder, aclFaultUnder, aclRecordsUnder, aclFileFaultUnder}
+use Rattle.theorems.specs.Capacity.{base}
 
 ruleset conj = (and-left, and-right, and-both)
-
--- The reader at today's sizes is the reader in force.
-pub reader-now : (file : Bytes) → aclFileFaultUnder today file ≡ aclFileFault file
-unfolding aclFaultUnder recordFaultUnder inPlaceUnder hasRoomUnder limitUnder counterUnder aclFault aclRecordFault inPlace hasRoom limitLaidOut counterOfSort
-reader-now file = refl
 
 -- a list of tests, each passed
 passed : {F : Type 0} (b : Bool) (f : F) (t : Option F) → b ≡ true → t ≡ none → orNext (unless b f) t ≡ none
@@ -104,9 +99,9 @@ module _ (small large : Capacity) (more-groups : small .groups ≤ large .groups
       file-more (aclRecordsUnder small) (aclRecordsUnder large) (aclFaultUnder small) (aclFaultUnder large) file
       (omega arith) (scan-more aclStart (records file)) e
 
--- An ACL file that has no fault under document 01's sizes has none now, and so has a hints file, of at most 16 records then.
+-- An ACL file that has no fault under document 01's sizes has none now, and so has a hints file, one hint for each group.
 pub accepted-before : (file : Bytes) → aclFileFaultUnder base file ≡ none → aclFileFault file ≡ none
-accepted-before file e = rw (← (reader-now file)) (reader-grows base today (omega arith) (omega arith) file e)
+accepted-before file e = reader-grows base today (omega arith) (omega arith) file e
 
-pub hints-before : (file : Bytes) → fileFault 16 hintsFault file ≡ none → hintsFileFault file ≡ none
-hints-before file e = file-more 16 _ hintsFault hintsFault file (omega arith) (λ h. h) e
+pub hints-before : (file : Bytes) → fileFault (base .groups) hintsFault file ≡ none → hintsFileFault file ≡ none
+hints-before file e = file-more (base .groups) _ hintsFault hintsFault file (omega arith) (λ h. h) e

@@ -14,7 +14,7 @@ fn bad_line(line: u64) {
 
 // The ACL of a text. No ACL is longer than the buffer.
 fn write_acl(text: &[u8]) {
-    let mut acl = io::large_buffer();
+    let mut acl = [0u8; sizes::ACL_RECORDS * sizes::RECORD];
     let reply = listing::read_listing(text, &mut acl);
     match reply {
         Reply::Produced(n) => arguments::overwrite(2, b"FILE", arguments::prefix(&acl, n)),
@@ -23,7 +23,7 @@ fn write_acl(text: &[u8]) {
     }
 }
 
-// No listing fills half the buffer. So a longer text, of which only the beginning is read, has its first bad line there.
+// No listing fills the buffer. So a text that does, of which only the beginning is read, has its first bad line there.
 fn main() {
     if os::arg_count() != 3 {
         io::write_all(
@@ -32,7 +32,7 @@ fn main() {
         );
         return;
     }
-    let mut text = io::large_buffer();
+    let mut text = [0u8; listing::LONGEST + 1];
     let input = arguments::read(1, b"TEXT", &mut text);
     let Input::Read(n) = input else {
         return;

@@ -3,7 +3,7 @@ use mathlib.Core.Path.{_≡_}
 use lib.ListN.{length}
 use Rattle.rules.specs.Sizes.{limitsMax}
 use Rattle.rules.specs.Basics.{records, scan}
-use Rattle.rules.specs.Acl.{aclRecordFault, afterRecord, aclEnd, aclFault}
+use Rattle.rules.specs.Acl.{aclRecordFault, afterRecord, aclEnd, aclFaultUnder, aclFault}
 use Rattle.rules.proofs.Rows.{recordsFrom, scan-stop, scan-next, scan-done}
 use Rattle.acl.specs.Places.{placeOf}
 use Rattle.acl.proofs.Laws.{was-true, bad-record, full-record, open-record, sound-record}
@@ -21,7 +21,7 @@ start-requires : tie.Need-start-requires Inv-loop μ-loop
 start-requires c κs = search needs
 
 loop-holds : tie.Need-loop-holds Inv-loop μ-loop
-unfolding aclFault recordsFrom
+unfolding aclFaultUnder recordsFrom
 loop-holds c = (search needs, (search needs, cc))
 
 sub-loop : tie.Need-sub-loop Inv-loop μ-loop

@@ -1,15 +1,15 @@
 use Rattle.rules.proofs.Choices.{picks}
-use Rattle.rules.specs.Layout.{counterOfSort}
+use Rattle.rules.specs.Layout.{counterUnder}
 use borrow.Author.Needs.{needs}
 use Rattle.layout.proofs.counter_of_sort.Statement.{statement}
 use Rattle.layout.proofs.counter_of_sort.Tie as tie
 
 returns : tie.Need-returns
-unfolding counterOfSort
+unfolding counterUnder
 returns c = search (needs, picks)
 
 returns-2 : tie.Need-returns-2
-unfolding counterOfSort
+unfolding counterUnder
 returns-2 c = search (needs, picks)
 
 pub counter-of-sort-spec : {M : Type 1} → statement M

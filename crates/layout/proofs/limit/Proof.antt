@@ -1,4 +1,4 @@
-use Rattle.rules.specs.Layout.{limitLaidOut}
+use Rattle.rules.specs.Layout.{limitUnder}
 use Rattle.layout.proofs.Chain.{chain}
 use borrow.Author.Needs.{needs}
 use Rattle.layout.proofs.limit.Statement.{statement}
@@ -14,32 +14,32 @@ plain-header-requires : tie.Need-plain-header-requires
 plain-header-requires c κs = search needs
 
 returns : tie.Need-returns
-unfolding limitLaidOut
+unfolding limitUnder
 returns c = search (needs, chain)
 
 returns-2 : tie.Need-returns-2
-unfolding limitLaidOut
+unfolding limitUnder
 returns-2 c = search (needs, chain)
 
 counter-of-sort-requires : tie.Need-counter-of-sort-requires
 counter-of-sort-requires c κs = search needs
 
 returns-3 : tie.Need-returns-3
-unfolding limitLaidOut
+unfolding limitUnder
 returns-3 c = search (needs, chain)
 
 zero-part-requires : tie.Need-zero-part-requires
 zero-part-requires c κs = search needs
 
 returns-4 : tie.Need-returns-4
-unfolding limitLaidOut
+unfolding limitUnder
 returns-4 c = search (needs, chain)
 
 zero-part-requires-2 : tie.Need-zero-part-requires-2
 zero-part-requires-2 c κs = search needs
 
 returns-5 : tie.Need-returns-5
-unfolding limitLaidOut
+unfolding limitUnder
 returns-5 c = search (needs, chain)
 
 pub limit-spec : {M : Type 1} → statement M

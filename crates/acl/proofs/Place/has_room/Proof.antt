@@ -1,5 +1,5 @@
 use Rattle.rules.proofs.Choices.{picks}
-use Rattle.rules.specs.Acl.{hasRoom}
+use Rattle.rules.specs.Acl.{hasRoomUnder}
 use Rattle.acl.proofs.Laws.{room-left}
 use borrow.Author.Needs.{needs}
 use Rattle.acl.proofs.Place.has_room.Statement.{statement}
@@ -9,15 +9,15 @@ shared-slice-read-kind : tie.Need-shared-slice-read-kind
 shared-slice-read-kind c = search needs
 
 returns : tie.Need-returns
-unfolding hasRoom
+unfolding hasRoomUnder
 returns c = search (needs, picks)
 
 returns-2 : tie.Need-returns-2
-unfolding hasRoom
+unfolding hasRoomUnder
 returns-2 c = search (needs, picks, room-left)
 
 returns-3 : tie.Need-returns-3
-unfolding hasRoom
+unfolding hasRoomUnder
 returns-3 c = search (needs, picks)
 
 pub has-room-spec : {M : Type 1} → statement M

@@ -1,4 +1,4 @@
-use Rattle.rules.specs.Acl.{inPlace}
+use Rattle.rules.specs.Acl.{inPlaceUnder}
 use Rattle.acl.proofs.Laws.{limit-placed, action-placed}
 use Rattle.rules.proofs.Choices.{picks}
 use Rattle.layout.proofs.Chain.{chain}
@@ -13,14 +13,14 @@ group-requires : tie.Need-group-requires
 group-requires c κs = search needs
 
 returns : tie.Need-returns
-unfolding inPlace
+unfolding inPlaceUnder
 returns c = search (needs, picks)
 
 limit-requires : tie.Need-limit-requires
 limit-requires c κs = search needs
 
 returns-2 : tie.Need-returns-2
-unfolding inPlace
+unfolding inPlaceUnder
 returns-2 c = search (needs, picks, chain)
 
 be16-requires : tie.Need-be16-requires
@@ -30,18 +30,18 @@ takes-limit-requires : tie.Need-takes-limit-requires
 takes-limit-requires c κs = search needs
 
 returns-3 : tie.Need-returns-3
-unfolding inPlace
+unfolding inPlaceUnder
 returns-3 c = search (needs, picks, chain, limit-placed)
 
 action-requires : tie.Need-action-requires
 action-requires c κs = search needs
 
 returns-4 : tie.Need-returns-4
-unfolding inPlace
+unfolding inPlaceUnder
 returns-4 c = search (needs, picks, chain)
 
 returns-5 : tie.Need-returns-5
-unfolding inPlace
+unfolding inPlaceUnder
 returns-5 c = search (needs, picks, action-placed)
 
 pub in-place-spec : {M : Type 1} → statement M
