@@ -16,7 +16,7 @@ use Rattle.rules.specs.Acl.{Limit, Group, aclOf, aclFault}
 use Rattle.rules.specs.Request.{Request, requestLaidOut, requestFault}
 use Rattle.rules.specs.Ledger.{Ledger, charge}
 use Rattle.rules.specs.Grant.{limitLeft, limitsLeft, groupAdmits, certified, unspent}
-use Rattle.rules.specs.Gate.{Answer, Outcome, Lowest, nobody, group, lowest, Denial, early, unadmitted, uncertified, exhausted, Judgement, granted, denied, grants, tooEarly, whyNot, judgedBy, judge, refusedNear, refused, permitted, settle, unlessFault, lengthsFit, requestFiles}
+use Rattle.rules.specs.Gate.{Answer, permit, refuse, Outcome, Lowest, nobody, group, lowest, Denial, early, unadmitted, uncertified, exhausted, Judgement, granted, denied, grants, tooEarly, whyNot, judgedBy, judge, refusedNear, refused, permitted, settle, unlessFault, lengthsFit, requestFiles}
 use Rattle.rules.proofs.Laws.{never, and-left, and-right, and-both, implication, unless-passed, fault-none-every}
 use Rattle.rules.proofs.Rows.{no-rows}
 use Rattle.theorems.specs.Sizes.{Apart, GroupFits}
@@ -24,9 +24,10 @@ use Rattle.theorems.proofs.AclSizes.{acl-fits}
 use Rattle.groups.specs.Parts.{firstLimits}
 use Rattle.refusals.specs.declared.Denial as code
 use Rattle.refusals.specs.Refusals.{denialNumber, denialGroup}
+use Rattle.judging.specs.declared.Judged.{Judged}
 use Rattle.judging.specs.declared.Judged.the-variants.{Granted, Denied}
 use Rattle.judging.specs.Standings.{denialAs, judgedAs}
-use Rattle.gate.specs.Outcomes.{limitHasRoom, Chargeable, chargedWith, permittedIf, lastAfter, settledAs}
+use Rattle.gate.specs.Outcomes.{limitHasRoom, Chargeable, chargedWith, permitIf, decided, permittedIf, CountersRoom, CountRoom, countersCharged, countsCharged, lastAfter, settledAs}
 
 -- of groups that fit, the limits of the one at a place name no counter twice
 first-apart : (k : ℕ) (gs : List Group) → Every GroupFits gs → Apart (firstLimits (drop k gs))
@@ -130,15 +131,36 @@ pub grant-able : (l : Ledger) (km0 acl : Bytes) (q : Request) (k : ℕ) (ms : Li
     → ms ≡ firstLimits (drop k (aclOf acl)) → (getD (l .counts) k 0 < fullCount) × Chargeable (l .counters) ms
 grant-able l km0 acl q k ms f = charge-able l km0 (aclOf acl) q k ms (acl-fits acl f .each)
 
--- A grant is charged, but where hints do not show a narrowing.
-module _ (l : Ledger) (shown : Bool) (k : ℕ) (m : Ledger) (o : Outcome) where
-  pub grant-not : not shown ≡ true → o ≡ refused l notNarrower → o ≡ permittedIf l shown k m
-  unfolding permittedIf
+-- A grant is a permit, but where hints do not show a narrowing.
+module _ (shown : Bool) (k : ℕ) (a : Answer) where
+  pub grant-not : not shown ≡ true → a ≡ refuse notNarrower none → a ≡ permitIf shown k
+  unfolding permitIf
   grant-not h p = p ∙ sym (rw (not-true shown h))
 
-  pub grant-is : not shown ≡ false → o ≡ permitted k m → o ≡ permittedIf l shown k m
-  unfolding permittedIf
+  pub grant-is : not shown ≡ false → a ≡ permit k → a ≡ permitIf shown k
+  unfolding permitIf
   grant-is h p = p ∙ sym (rw (not-false shown h))
+
+permit-place : (b : Bool) (k place : ℕ) → permitIf b k ≡ permit place → k ≡ place
+unfolding permitIf
+permit-place true k place e = cc
+permit-place false k place e = absurd (never (cc))
+
+-- Where the answer permits, the group can be charged.
+module _ (l : Ledger) (km0 acl : Bytes) (q : Request) (shown : Bool) (j : Judged) (a : Answer) (sound : aclFault (records acl) ≡ none)
+    (e : j ≡ judgedAs (judge l km0 (aclOf acl) q)) (d : a ≡ decided shown j) where
+  permit-granted : (place : ℕ) → a ≡ permit place → Granted place ≡ judgedAs (judge l km0 (aclOf acl) q)
+  permit-granted place p = pick j e (sym d ∙ p)
+    where
+      pick : (x : Judged) → x ≡ judgedAs (judge l km0 (aclOf acl) q) → decided shown x ≡ permit place → Granted place ≡ judgedAs (judge l km0 (aclOf acl) q)
+      pick (Granted k) f g = ap Granted (sym (permit-place shown k place g)) ∙ f
+      pick (Denied x) f g = absurd (never (cc))
+
+  pub counters-room : CountersRoom (l .counters) (aclOf acl) a
+  counters-room place p = grant-able l km0 acl q place _ sound (permit-granted place p) refl .1
+
+  pub count-room-for : CountRoom (l .counts) a
+  count-room-for place p = grant-able l km0 acl q place _ sound (permit-granted place p) refl .0
 
 -- the ledger's last time is that of the answer
 pub settled-is : (a : Answer) (counts counters : List ℕ) (loaded last time when n : ℕ) (s : Outcome) → n ≡ lastAfter a last when → when ≡ time
@@ -162,6 +184,25 @@ module _ (l : Ledger) (time : ℕ) (onPermit : ℕ → Ledger → Outcome) where
 pub settle-denied : (l : Ledger) (km0 : Bytes) (gs : List Group) (q : Request) (onPermit : ℕ → Ledger → Outcome) (d : code.Denial) (o : Outcome)
     → Denied d ≡ judgedAs (judge l km0 gs q) → o ≡ refusedNear l (denialNumber d) (denialGroup d) → o ≡ settle l (q .time) onPermit (judge l km0 gs q)
 settle-denied l km0 gs q onPermit d o e p = p ∙ denied-kept l (q .time) onPermit (judge l km0 gs q) d e
+
+-- The tables charged by the answer are those of the outcome.
+module _ (l : Ledger) (km0 : Bytes) (gs : List Group) (q : Request) (shown : Bool) where
+  charged-is : (j : Judged) → j ≡ judgedAs (judge l km0 gs q)
+      → settledAs (decided shown j) (countsCharged (decided shown j) (l .counts)) (countersCharged gs (decided shown j) (l .counters)) (l .loaded) (l .last) (q .time)
+      ≡ settle l (q .time) (permittedIf l shown) (judge l km0 gs q)
+  unfolding permitIf permittedIf
+  charged-is (Granted k) e = settle-granted l km0 gs q (permittedIf l shown) k (q .time) _ (firstLimits (drop k gs)) e refl refl (pick shown)
+    where
+      pick : (b : Bool) → settledAs (permitIf b k) (countsCharged (permitIf b k) (l .counts)) (countersCharged gs (permitIf b k) (l .counters)) (l .loaded) (l .last) (q .time)
+          ≡ permittedIf l b k (chargedWith l k (firstLimits (drop k gs)) (q .time))
+      pick true = refl
+      pick false = refl
+  charged-is (Denied d) e = settle-denied l km0 gs q (permittedIf l shown) d _ e refl
+
+  pub settled-by : (j : Judged) (a : Answer) (counts counters : List ℕ) → j ≡ judgedAs (judge l km0 gs q) → a ≡ decided shown j
+      → counters ≡ countersCharged gs a (l .counters) → counts ≡ countsCharged a (l .counts)
+      → settledAs a counts counters (l .loaded) (l .last) (q .time) ≡ settle l (q .time) (permittedIf l shown) (judge l km0 gs q)
+  settled-by j a counts counters e d f g = rw (f, g, d) (charged-is j e)
 
 -- A request file without fault has a record.
 pub sound-request : (first : Bytes → Bool) (s : Bytes) → requestFault first (records s) ≡ none → 64 ≤ length s

@@ -1,20 +1,23 @@
 -- The gate's types, as the definitions have them: the ledger, replies by document 01's numbers, outcomes; and a charge by the limits alone.
-use Prim.Native.Nat.{ℕ, _+_}
+use Prim.Native.Nat.{ℕ, _+_, _<_}
 use mathlib.Core.List.{List, [], _∷_}
 use mathlib.Core.Path.{_≡_}
 use mathlib.Core.Option.{none}
 use mathlib.Core.Bool.{Bool, true, false}
-use lib.ListN.{getD, set, replicate}
+use lib.ListN.{getD, set, drop, replicate}
 use lib.Dec.{eqb, ltb}
 use Rattle.rules.specs.Sizes.{fullCount, groupsMax}
 use Rattle.rules.specs.Numbers.{notNarrower}
 use Rattle.rules.specs.Basics.{if_then_else_, implies, all}
-use Rattle.rules.specs.Acl.{Limit}
+use Rattle.rules.specs.Acl.{Limit, Group}
 use Rattle.rules.specs.Request.{Hint}
 use Rattle.rules.specs.Ledger as rules
 use Rattle.rules.specs.Gate as rulesGate
 use Rattle.theorems.specs.Sizes.{Apart}
+use Rattle.groups.specs.Parts.{firstLimits}
 use Rattle.refusals.specs.Refusals.{refusalNumber, denialNumber, denialGroup}
+use Rattle.judging.specs.declared.Judged.{Judged}
+use Rattle.judging.specs.declared.Judged.the-variants.{Granted, Denied}
 use Rattle.gate.specs.declared.Ledger.{Ledger}
 use Rattle.gate.specs.declared.Reply.{Reply}
 use Rattle.gate.specs.declared.Reply.the-variants.{Done, Permit, Refuse, Deny}
@@ -75,6 +78,15 @@ carriedOf hs counts = carriedFrom counts 0 hs (replicate groupsMax 0)
 abbrev pub noCounts : List ℕ → List ℕ
 noCounts counts = replicate groupsMax 0
 
+-- the answer of a grant where hints may have to show a narrowing: "Any breach .. gives 8"
+unfoldable pub permitIf : Bool → ℕ → rulesGate.Answer
+permitIf shown place = if shown then rulesGate.permit place else rulesGate.refuse notNarrower none
+
+-- .. of a judgement
+abbrev pub decided : Bool → Judged → rulesGate.Answer
+decided shown (Granted place) = permitIf shown place
+decided shown (Denied d) = rulesGate.refuse (denialNumber d) (denialGroup d)
+
 -- what a permit comes to where hints may have to show a narrowing: "Any breach .. gives 8", and the ledger stands
 unfoldable pub permittedIf : rules.Ledger → Bool → ℕ → rules.Ledger → rulesGate.Outcome
 permittedIf l shown place charged = if shown then rulesGate.permitted place charged else rulesGate.refused l notNarrower
@@ -84,6 +96,24 @@ abbrev pub isPermit : rulesGate.Answer → Bool
 isPermit rulesGate.done = false
 isPermit (rulesGate.permit place) = true
 isPermit (rulesGate.refuse n near) = false
+
+-- the limits of a permitting group name counters that can be raised where they stand, and its own count is not full
+abbrev pub CountersRoom : List ℕ → List Group → rulesGate.Answer → Type 0
+CountersRoom counters gs a = (place : ℕ) → a ≡ rulesGate.permit place → Chargeable counters (firstLimits (drop place gs))
+
+abbrev pub CountRoom : List ℕ → rulesGate.Answer → Type 0
+CountRoom counts a = (place : ℕ) → a ≡ rulesGate.permit place → getD counts place 0 < fullCount
+
+-- the tables after an answer: a permitting group's named counters, and its own count, plus 1
+abbrev pub countersCharged : List Group → rulesGate.Answer → List ℕ → List ℕ
+countersCharged gs rulesGate.done counters = counters
+countersCharged gs (rulesGate.permit place) counters = rules.raisedBy counters (firstLimits (drop place gs)) counters
+countersCharged gs (rulesGate.refuse n near) counters = counters
+
+abbrev pub countsCharged : rulesGate.Answer → List ℕ → List ℕ
+countsCharged rulesGate.done counts = counts
+countsCharged (rulesGate.permit place) counts = rules.raised counts place counts
+countsCharged (rulesGate.refuse n near) counts = counts
 
 -- "last time set to the request's": the last time after an answer
 abbrev pub lastAfter : rulesGate.Answer → ℕ → ℕ → ℕ

@@ -12,8 +12,7 @@ ghost use Rattle.rules.specs.Ledger.{freshLedger, raised, raisedBy};
 ghost use Rattle.rules.specs.Gate.{load, clear, request, lengthsFit, requestFiles, refused, permitted, settle, judge, narrowFiles, narrowed, narrow, expandFiles, expanded, expand};
 ghost use Rattle.refusals.specs.Refusals.{refusalNumber};
 ghost use Rattle.files.specs.Faults.{faultOf};
-ghost use Rattle.judging.specs.Standings.{tablesOf};
-ghost use Rattle.gate.specs.Outcomes.{settledAs, lastAfter, ledgerOf, answerOf, outcomeOf, hasRoom, raisedOnce, Chargeable, chargedWith, permittedIf, isPermit, countsAfter, carriedFrom, carriedOf, noCounts};
+ghost use Rattle.gate.specs.Outcomes.{ledgerOf, answerOf, outcomeOf, hasRoom, raisedOnce, Chargeable, permitIf, decided, CountersRoom, countersCharged, CountRoom, countsCharged, isPermit, lastAfter, countsAfter, carriedFrom, carriedOf, noCounts};
 use files::Checked;
 use judging::Judged;
 use refusals::Denial;
@@ -143,24 +142,50 @@ impl Ledger {
     }
 }
 
-// What the group that grants comes to, on lent tables: own count and each named counter plus 1 where they stand, but 8 where hints are to show a
-// narrowing and do not. The group is unspent, so that no count is full.
-fn grant(
-    counts: &mut [u32; Ledger::GROUPS],
-    counters: &mut [u32; Ledger::COUNTERS],
-    shown: bool,
-    place: usize,
-    body: &[u8],
-) -> Reply
-    requires { ⌜ (length (now counts) ≡ groupsMax) × (length (now counters) ≡ countersMax) × (getD (now counts) place 0 < fullCount) × Chargeable (now counters) (limitsOf (records (now body))) ⌝ }
-    ensures { λ r. ⌜ (length (now (counts .exit)) ≡ groupsMax) × ((loaded last time : ℕ) → settledAs (answerOf r) (now (counts .exit)) (now (counters .exit)) loaded last time ≡ permittedIf (tablesOf (now (counts .entry)) (now (counters .entry)) loaded last) shown place (chargedWith (tablesOf (now (counts .entry)) (now (counters .entry)) loaded last) place (limitsOf (records (now (body .entry)))) time)) ⌝ }
+// What a grant comes to: a permit, but 8 where hints are to show a narrowing and do not.
+fn grant(place: usize, shown: bool) -> Reply
+    ensures { λ r. ⌜ answerOf r ≡ permitIf shown place ⌝ }
 {
     if !shown {
         return Reply::Refuse(Refusal::NotNarrower);
     }
-    raise_named(counters, body);
-    raise_count(counts, place);
     Reply::Permit(place)
+}
+
+// What a judgement comes to: a grant as above, or the denial. `shown` is whether the hints show a narrowing, true where there are none.
+fn decide(judged: Judged, shown: bool) -> Reply
+    ensures { λ r. ⌜ answerOf r ≡ decided shown judged ⌝ }
+{
+    match judged {
+        Judged::Granted(k) => grant(k, shown),
+        Judged::Denied(d) => Reply::Deny(d),
+    }
+}
+
+// The counters after a reply: where it permits, each that the group names is raised where it stands. The group is unspent, so that none is full.
+fn charge_counters(counters: &mut [u32; Ledger::COUNTERS], reply: Reply, acl: &[u8])
+    requires { ⌜ (length (now counters) ≡ countersMax) × CountersRoom (now counters) (aclOf (now acl)) (answerOf reply) ⌝ }
+    ensures { λ _. ⌜ now (counters .exit) ≡ countersCharged (aclOf (now (acl .entry))) (answerOf reply) (now (counters .entry)) ⌝ }
+{
+    match reply {
+        Reply::Done => {}
+        Reply::Permit(k) => raise_named(counters, groups::group_body(acl, k)),
+        Reply::Refuse(_) => {}
+        Reply::Deny(_) => {}
+    }
+}
+
+// The group counts after a reply: where it permits, the group's own is raised.
+fn charge_count(counts: &mut [u32; Ledger::GROUPS], reply: Reply)
+    requires { ⌜ (length (now counts) ≡ groupsMax) × CountRoom (now counts) (answerOf reply) ⌝ }
+    ensures { λ _. ⌜ (length (now (counts .exit)) ≡ groupsMax) × (now (counts .exit) ≡ countsCharged (answerOf reply) (now (counts .entry))) ⌝ }
+{
+    match reply {
+        Reply::Done => {}
+        Reply::Permit(k) => raise_count(counts, k),
+        Reply::Refuse(_) => {}
+        Reply::Deny(_) => {}
+    }
 }
 
 // Whether KM0, the ACL and the request file have lengths that they may have.
@@ -183,28 +208,6 @@ fn request_files(km0: &[u8], acl: &[u8], req: &[u8]) -> Checked
     match first {
         Checked::Refused(r) => Checked::Refused(r),
         Checked::Sound => request::request_records(req),
-    }
-}
-
-// What becomes of a request whose files are sound, on lent tables: the lowest group that grants is charged, or the denial says how far the groups came.
-// `shown` is whether the hints show a narrowing, true where there are none.
-fn settle(
-    counts: &mut [u32; Ledger::GROUPS],
-    counters: &mut [u32; Ledger::COUNTERS],
-    loaded: u64,
-    last: u64,
-    shown: bool,
-    km0: &[u8],
-    acl: &[u8],
-    req: &[u8],
-) -> Reply
-    requires { ⌜ (length (now counts) ≡ groupsMax) × (length (now counters) ≡ countersMax) × ((recordBytes ≤ length (now req)) × (length (now req) ≤ 4032)) × (aclFault (records (now acl)) ≡ none) ⌝ }
-    ensures { λ r. ⌜ (length (now (counts .exit)) ≡ groupsMax) × (settledAs (answerOf r) (now (counts .exit)) (now (counters .exit)) loaded last (requestOf (now (req .entry)) .time) ≡ settle (tablesOf (now (counts .entry)) (now (counters .entry)) loaded last) (requestOf (now (req .entry)) .time) (permittedIf (tablesOf (now (counts .entry)) (now (counters .entry)) loaded last) shown) (judge (tablesOf (now (counts .entry)) (now (counters .entry)) loaded last) (now (km0 .entry)) (aclOf (now (acl .entry))) (requestOf (now (req .entry))))) ⌝ }
-{
-    let judged = judging::judge_request(counts, counters, loaded, last, km0, acl, req);
-    match judged {
-        Judged::Granted(k) => grant(counts, counters, shown, k, groups::group_body(acl, k)),
-        Judged::Denied(d) => Reply::Deny(d),
     }
 }
 
@@ -231,25 +234,17 @@ fn last_after(reply: Reply, last: u64, when: u64) -> u64
 }
 
 impl Ledger {
-    // What becomes of a use or a blob whose files are sound. The tables are copied once, and lent.
+    // What becomes of a use or a blob whose files are sound: it is judged, then the tables are charged where they stand.
     fn used(mut self, km0: &[u8], acl: &[u8], req: &[u8]) -> Outcome
         requires { ⌜ ((recordBytes ≤ length (now req)) × (length (now req) ≤ 4032)) × (aclFault (records (now acl)) ≡ none) ⌝ }
         ensures { λ r. ⌜ outcomeOf r ≡ settle (ledgerOf self) (requestOf (now (req .entry)) .time) permitted (judge (ledgerOf self) (now (km0 .entry)) (aclOf (now (acl .entry))) (requestOf (now (req .entry)))) ⌝ }
     {
-        let mut counts = self.counts;
         let loaded = self.loaded;
         let last = self.last;
-        let reply = settle(
-            &mut counts,
-            &mut self.counters,
-            loaded,
-            last,
-            true,
-            km0,
-            acl,
-            req,
-        );
-        self.counts = counts;
+        let judged = judging::judge_request(&self.counts, &self.counters, loaded, last, km0, acl, req);
+        let reply = decide(judged, true);
+        charge_counters(&mut self.counters, reply, acl);
+        charge_count(&mut self.counts, reply);
         self.last = last_after(reply, last, request::time(req));
         Outcome {
             ledger: self,
@@ -367,22 +362,14 @@ impl Ledger {
         requires { ⌜ ((recordBytes ≤ length (now req)) × (length (now req) ≤ 4032)) × (aclFault (records (now acl)) ≡ none) × (length (hintsOf (now hints)) ≤ groupsMax) ⌝ }
         ensures { λ r. ⌜ outcomeOf r ≡ settle (ledgerOf self) (requestOf (now (req .entry)) .time) (narrowed (ledgerOf self) (aclOf (now (acl .entry))) (aclOf (now (new .entry))) (hintsOf (now (hints .entry)))) (judge (ledgerOf self) (now (km0 .entry)) (aclOf (now (acl .entry))) (requestOf (now (req .entry)))) ⌝ }
     {
-        let mut counts = self.counts;
+        let shown = narrowing::shows_narrowing(acl, new, hints);
         let loaded = self.loaded;
         let last = self.last;
-        let shown = narrowing::shows_narrowing(acl, new, hints);
-        let reply = settle(
-            &mut counts,
-            &mut self.counters,
-            loaded,
-            last,
-            shown,
-            km0,
-            acl,
-            req,
-        );
-        carry_counts(&mut counts, reply, hints);
-        self.counts = counts;
+        let judged = judging::judge_request(&self.counts, &self.counters, loaded, last, km0, acl, req);
+        let reply = decide(judged, shown);
+        charge_counters(&mut self.counters, reply, acl);
+        charge_count(&mut self.counts, reply);
+        carry_counts(&mut self.counts, reply, hints);
         self.last = last_after(reply, last, request::time(req));
         Outcome {
             ledger: self,
@@ -395,21 +382,13 @@ impl Ledger {
         requires { ⌜ ((recordBytes ≤ length (now req)) × (length (now req) ≤ 4032)) × (aclFault (records (now acl)) ≡ none) ⌝ }
         ensures { λ r. ⌜ outcomeOf r ≡ settle (ledgerOf self) (requestOf (now (req .entry)) .time) expanded (judge (ledgerOf self) (now (km0 .entry)) (aclOf (now (acl .entry))) (requestOf (now (req .entry)))) ⌝ }
     {
-        let mut counts = self.counts;
         let loaded = self.loaded;
         let last = self.last;
-        let reply = settle(
-            &mut counts,
-            &mut self.counters,
-            loaded,
-            last,
-            true,
-            km0,
-            acl,
-            req,
-        );
-        zero_counts(&mut counts, reply);
-        self.counts = counts;
+        let judged = judging::judge_request(&self.counts, &self.counters, loaded, last, km0, acl, req);
+        let reply = decide(judged, true);
+        charge_counters(&mut self.counters, reply, acl);
+        charge_count(&mut self.counts, reply);
+        zero_counts(&mut self.counts, reply);
         self.last = last_after(reply, last, request::time(req));
         Outcome {
             ledger: self,

@@ -1,11 +1,27 @@
+use mathlib.Core.Bool.{true}
 use Rattle.gate.specs.Outcomes.{permittedIf}
-use Rattle.gate.proofs.Settling.{settled-is}
+use Rattle.gate.proofs.Settling.{counters-room, count-room-for, settled-is, settled-by}
 use borrow.Author.Needs.{needs}
 use Rattle.gate.proofs.Ledger.used.Statement.{statement}
 use Rattle.gate.proofs.Ledger.used.Tie as tie
 
-settle-requires : tie.Need-settle-requires
-settle-requires c κs = search needs
+judge-request-requires : tie.Need-judge-request-requires
+judge-request-requires c κs = search needs
+
+decide-requires : tie.Need-decide-requires
+decide-requires c κs = search needs
+
+charge-counters-requires : tie.Need-charge-counters-requires
+charge-counters-requires c κs =
+    let d = c .before in
+    let j = d .before in
+    (search needs, counters-room _ _ _ _ _ _ _ (j .before .before .before .before .before .before .before .before .before .pre .1) (j .judge-request .ensures) (d .decide .ensures))
+
+charge-count-requires : tie.Need-charge-count-requires
+charge-count-requires c κs =
+    let d = c .before .before .before in
+    let j = d .before in
+    (search needs, count-room-for _ _ _ _ _ _ _ (j .before .before .before .before .before .before .before .before .before .pre .1) (j .judge-request .ensures) (d .decide .ensures))
 
 time-requires : tie.Need-time-requires
 time-requires c κs = search needs
@@ -15,7 +31,22 @@ last-after-requires c κs = search needs
 
 returns : tie.Need-returns
 unfolding permittedIf
-returns c = settled-is _ _ _ _ _ _ _ _ _ (c .last-after .ensures) (c .before .time .ensures) (c .before .before .settle .ensures .1)
+returns c =
+    let t = c .before in
+    let n = t .before in
+    let m = n .before .before in
+    let d = m .before .before in
+    settled-is _ _ _ _ _ _ _ _ _ (c .last-after .ensures) (t .time .ensures)
+    (settled-by _ _ _ _ true _ _ _ _ (d .before .judge-request .ensures) (d .decide .ensures) (m .charge-counters .ensures) (n .charge-count .ensures .1))
 
 pub used-spec : {M : Type 1} → statement M
-used-spec = tie.close (tie.spec settle-requires time-requires last-after-requires returns)
+used-spec =
+    tie.close
+    (tie.spec
+    judge-request-requires
+    decide-requires
+    charge-counters-requires
+    charge-count-requires
+    time-requires
+    last-after-requires
+    returns)
