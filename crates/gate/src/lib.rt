@@ -2,7 +2,7 @@
 ghost use mathlib.Core.Path.{_≡_};
 ghost use mathlib.Core.Bool.{true};
 ghost use mathlib.Core.Option.{none};
-ghost use Prim.Native.Nat.{ℕ, _≤_, _<_};
+ghost use Prim.Native.Nat.{_≤_, _<_};
 ghost use lib.ListN.{length, getD, set};
 ghost use Rattle.rules.specs.Sizes.{recordBytes, groupsMax, countersMax, fullCount};
 ghost use Rattle.rules.specs.Basics.{records};
@@ -241,7 +241,15 @@ impl Ledger {
     {
         let loaded = self.loaded;
         let last = self.last;
-        let judged = judging::judge_request(&self.counts, &self.counters, loaded, last, km0, acl, req);
+        let judged = judging::judge_request(
+            &self.counts,
+            &self.counters,
+            loaded,
+            last,
+            km0,
+            acl,
+            req,
+        );
         let reply = decide(judged, true);
         charge_counters(&mut self.counters, reply, acl);
         charge_count(&mut self.counts, reply);
@@ -365,7 +373,15 @@ impl Ledger {
         let shown = narrowing::shows_narrowing(acl, new, hints);
         let loaded = self.loaded;
         let last = self.last;
-        let judged = judging::judge_request(&self.counts, &self.counters, loaded, last, km0, acl, req);
+        let judged = judging::judge_request(
+            &self.counts,
+            &self.counters,
+            loaded,
+            last,
+            km0,
+            acl,
+            req,
+        );
         let reply = decide(judged, shown);
         charge_counters(&mut self.counters, reply, acl);
         charge_count(&mut self.counts, reply);
@@ -384,7 +400,15 @@ impl Ledger {
     {
         let loaded = self.loaded;
         let last = self.last;
-        let judged = judging::judge_request(&self.counts, &self.counters, loaded, last, km0, acl, req);
+        let judged = judging::judge_request(
+            &self.counts,
+            &self.counters,
+            loaded,
+            last,
+            km0,
+            acl,
+            req,
+        );
         let reply = decide(judged, true);
         charge_counters(&mut self.counters, reply, acl);
         charge_count(&mut self.counts, reply);

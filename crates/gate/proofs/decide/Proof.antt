@@ -1,5 +1,4 @@
-use mathlib.Core.Path.{sym, _∙_, ap}
-use Rattle.gate.specs.Outcomes.{decided}
+use mathlib.Core.Path.{sym, _∙_}
 use borrow.Author.Needs.{needs}
 use Rattle.gate.proofs.decide.Statement.{statement}
 use Rattle.gate.proofs.decide.Tie as tie

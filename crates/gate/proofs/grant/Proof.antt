@@ -1,6 +1,5 @@
 use mathlib.Core.Path.{refl}
 use Rattle.gate.proofs.Settling.{grant-not, grant-is}
-use borrow.Author.Needs.{needs}
 use Rattle.gate.proofs.grant.Statement.{statement}
 use Rattle.gate.proofs.grant.Tie as tie
 
