@@ -110,15 +110,15 @@ fn judged(bundle: Vec<u8>, acl: Vec<u8>) -> Files {
 
 fn request_cases() -> Vec<Case> {
     let call: Call = |s, f, n| s.requests(f, n);
-    let case = |name, expected, files| Case { name, calls: 1_000_000, expected, call, files };
+    let case = |name, calls, expected, files| Case { name, calls, expected, call, files };
     vec![
-        case("Sign, 1 group: permit", "Permit(0)", asked(inputs::small_acl(), inputs::small_request(SIGN))),
-        case("Sign, 16 full groups, the last permits", "Permit(15)", asked(inputs::granted_last(SOME), inputs::full_request(SIGN))),
-        case("Sign, 64 full groups, the last permits", "Permit(63)", asked(inputs::granted_last(ALL), inputs::full_request(SIGN))),
-        case("Sign, 16 full groups, all spent: 7", "Refuse(7, Some(0))", asked(inputs::all_spent(SOME), inputs::full_request(SIGN))),
-        case("Sign, 64 full groups, all spent: 7", "Refuse(7, Some(0))", asked(inputs::all_spent(ALL), inputs::full_request(SIGN))),
-        case("Sign, 16 full groups, none certified: 6", "Refuse(6, Some(0))", asked(inputs::by_delegation(SOME), inputs::full_request(SIGN))),
-        case("Sign, 16 full groups, the last by four links", "Permit(15)", asked(inputs::by_delegation(SOME), inputs::delegated_request(SIGN))),
+        case("Sign, 1 group: permit", 1_000_000, "Permit(0)", asked(inputs::small_acl(), inputs::small_request(SIGN))),
+        case("Sign, 16 full groups, the last permits", 1_000_000, "Permit(15)", asked(inputs::granted_last(SOME), inputs::full_request(SIGN))),
+        case("Sign, 64 full groups, the last permits", 250_000, "Permit(63)", asked(inputs::granted_last(ALL), inputs::full_request(SIGN))),
+        case("Sign, 16 full groups, all spent: 7", 1_000_000, "Refuse(7, Some(0))", asked(inputs::all_spent(SOME), inputs::full_request(SIGN))),
+        case("Sign, 64 full groups, all spent: 7", 250_000, "Refuse(7, Some(0))", asked(inputs::all_spent(ALL), inputs::full_request(SIGN))),
+        case("Sign, 16 full groups, none certified: 6", 1_000_000, "Refuse(6, Some(0))", asked(inputs::by_delegation(SOME), inputs::full_request(SIGN))),
+        case("Sign, 16 full groups, the last by four links", 1_000_000, "Permit(15)", asked(inputs::by_delegation(SOME), inputs::delegated_request(SIGN))),
     ]
 }
 
@@ -140,11 +140,11 @@ fn narrowing_cases() -> Vec<Case> {
 
 fn desk_cases() -> Vec<Case> {
     let call: Call = |s, f, n| s.verdicts(f, n);
-    let case = |name, expected, files| Case { name, calls: 1_000_000, expected, call, files };
+    let case = |name, calls, expected, files| Case { name, calls, expected, call, files };
     vec![
-        case("verdict, 2 groups", "Policy { protection: 2", judged(inputs::bundle(1), inputs::small_key())),
-        case("verdict, full bundle, 16 full groups", "Policy { protection: 2", judged(inputs::full_bundle(), inputs::full_key(SOME))),
-        case("verdict, full bundle, 64 full groups", "Policy { protection: 2", judged(inputs::full_bundle(), inputs::full_key(ALL))),
+        case("verdict, 2 groups", 1_000_000, "Policy { protection: 2", judged(inputs::bundle(1), inputs::small_key())),
+        case("verdict, full bundle, 16 full groups", 1_000_000, "Policy { protection: 2", judged(inputs::full_bundle(), inputs::full_key(SOME))),
+        case("verdict, full bundle, 64 full groups", 250_000, "Policy { protection: 2", judged(inputs::full_bundle(), inputs::full_key(ALL))),
     ]
 }
 

@@ -12,6 +12,7 @@ ghost use Rattle.rules.specs.Ledger.{freshLedger, raised, raisedBy};
 ghost use Rattle.rules.specs.Gate.{load, clear, request, lengthsFit, requestFiles, refused, permitted, settle, judge, narrowFiles, narrowed, narrow, expandFiles, expanded, expand};
 ghost use Rattle.refusals.specs.Refusals.{refusalNumber};
 ghost use Rattle.files.specs.Faults.{faultOf};
+ghost use Rattle.judging.specs.Standings.{judgedAs, tablesOf};
 ghost use Rattle.gate.specs.Outcomes.{ledgerOf, answerOf, outcomeOf, hasRoom, raisedOnce, Chargeable, permitIf, decided, CountersRoom, countersCharged, CountRoom, countsCharged, isPermit, lastAfter, countsAfter, carriedFrom, carriedOf, noCounts};
 use files::Checked;
 use judging::Judged;
@@ -152,16 +153,6 @@ fn grant(place: usize, shown: bool) -> Reply
     Reply::Permit(place)
 }
 
-// What a judgement comes to: a grant as above, or the denial. `shown` is whether the hints show a narrowing, true where there are none.
-fn decide(judged: Judged, shown: bool) -> Reply
-    ensures { λ r. ⌜ answerOf r ≡ decided shown judged ⌝ }
-{
-    match judged {
-        Judged::Granted(k) => grant(k, shown),
-        Judged::Denied(d) => Reply::Deny(d),
-    }
-}
-
 // The counters after a reply: where it permits, each that the group names is raised where it stands. The group is unspent, so that none is full.
 fn charge_counters(counters: &mut [u32; Ledger::COUNTERS], reply: Reply, acl: &[u8])
     requires { ⌜ (length (now counters) ≡ countersMax) × CountersRoom (now counters) (aclOf (now acl)) (answerOf reply) ⌝ }
@@ -211,6 +202,28 @@ fn request_files(km0: &[u8], acl: &[u8], req: &[u8]) -> Checked
     }
 }
 
+// The reply to a request whose files are sound, from the ledger's tables, lent for reading: what a grant comes to, or the denial. `shown` is whether the
+// hints show a narrowing, true where there are none.
+fn decide<'a>(
+    counts: &'a [u32; Ledger::GROUPS],
+    counters: &'a [u32; Ledger::COUNTERS],
+    loaded: u64,
+    last: u64,
+    shown: bool,
+    km0: &[u8],
+    acl: &[u8],
+    req: &[u8],
+) -> Reply
+    requires { ⌜ (recordBytes ≤ length (now req)) × (length (now req) ≤ 4032) ⌝ }
+    ensures { λ r. ⌜ answerOf r ≡ decided shown (judgedAs (judge (tablesOf (now (counts .entry)) (now (counters .entry)) loaded last) (now (km0 .entry)) (aclOf (now (acl .entry))) (requestOf (now (req .entry))))) ⌝ }
+{
+    let judged = judging::judge_request(counts, counters, loaded, last, km0, acl, req);
+    match judged {
+        Judged::Granted(k) => grant(k, shown),
+        Judged::Denied(d) => Reply::Deny(d),
+    }
+}
+
 // Whether a reply permits.
 fn permits(reply: Reply) -> bool
     ensures { λ r. ⌜ r ≡ isPermit (answerOf reply) ⌝ }
@@ -241,16 +254,16 @@ impl Ledger {
     {
         let loaded = self.loaded;
         let last = self.last;
-        let judged = judging::judge_request(
+        let reply = decide(
             &self.counts,
             &self.counters,
             loaded,
             last,
+            true,
             km0,
             acl,
             req,
         );
-        let reply = decide(judged, true);
         charge_counters(&mut self.counters, reply, acl);
         charge_count(&mut self.counts, reply);
         self.last = last_after(reply, last, request::time(req));
@@ -373,16 +386,16 @@ impl Ledger {
         let shown = narrowing::shows_narrowing(acl, new, hints);
         let loaded = self.loaded;
         let last = self.last;
-        let judged = judging::judge_request(
+        let reply = decide(
             &self.counts,
             &self.counters,
             loaded,
             last,
+            shown,
             km0,
             acl,
             req,
         );
-        let reply = decide(judged, shown);
         charge_counters(&mut self.counters, reply, acl);
         charge_count(&mut self.counts, reply);
         carry_counts(&mut self.counts, reply, hints);
@@ -400,16 +413,16 @@ impl Ledger {
     {
         let loaded = self.loaded;
         let last = self.last;
-        let judged = judging::judge_request(
+        let reply = decide(
             &self.counts,
             &self.counters,
             loaded,
             last,
+            true,
             km0,
             acl,
             req,
         );
-        let reply = decide(judged, true);
         charge_counters(&mut self.counters, reply, acl);
         charge_count(&mut self.counts, reply);
         zero_counts(&mut self.counts, reply);

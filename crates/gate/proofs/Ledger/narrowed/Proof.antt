@@ -1,3 +1,4 @@
+use mathlib.Core.Path.{refl}
 use Rattle.gate.proofs.Settling.{counters-room, count-room-for, settled-by}
 use Rattle.gate.proofs.Replacing.{narrow-settled}
 use borrow.Author.Needs.{needs}
@@ -7,23 +8,20 @@ use Rattle.gate.proofs.Ledger.narrowed.Tie as tie
 shows-narrowing-requires : tie.Need-shows-narrowing-requires
 shows-narrowing-requires c κs = search needs
 
-judge-request-requires : tie.Need-judge-request-requires
-judge-request-requires c κs = search needs
-
 decide-requires : tie.Need-decide-requires
 decide-requires c κs = search needs
 
 charge-counters-requires : tie.Need-charge-counters-requires
 charge-counters-requires c κs =
     let d = c .before in
-    let j = d .before in
-    (search needs, counters-room _ _ _ _ _ _ _ (j .before .before .before .before .before .before .before .before .before .before .before .before .pre .1) (j .judge-request .ensures) (d .decide .ensures))
+    let s = d .before .before .before .before .before .before .before .before .before .before in
+    (search (needs, s .good .0), counters-room _ _ _ _ _ _ _ (s .pre .1) refl (d .decide .ensures))
 
 charge-count-requires : tie.Need-charge-count-requires
 charge-count-requires c κs =
     let d = c .before .before .before in
-    let j = d .before in
-    (search needs, count-room-for _ _ _ _ _ _ _ (j .before .before .before .before .before .before .before .before .before .before .before .before .pre .1) (j .judge-request .ensures) (d .decide .ensures))
+    let s = d .before .before .before .before .before .before .before .before .before .before in
+    (search (needs, s .good .0), count-room-for _ _ _ _ _ _ _ (s .pre .1) refl (d .decide .ensures))
 
 carry-counts-requires : tie.Need-carry-counts-requires
 carry-counts-requires c κs = search needs
@@ -41,9 +39,8 @@ returns c =
     let n = k .before .before in
     let m = n .before .before in
     let d = m .before .before in
-    let j = d .before in
-    narrow-settled _ _ _ _ _ _ _ _ _ _ _ _ (c .last-after .ensures) (t .time .ensures) _ _ _ (j .before .before .before .before .before .before .before .before .before .before .before .before .pre .2) (j .before .before .before .before .before .before .shows-narrowing .ensures)
-    (settled-by _ _ _ _ _ _ _ _ _ (j .judge-request .ensures) (d .decide .ensures) (m .charge-counters .ensures) (n .charge-count .ensures .1))
+    narrow-settled _ _ _ _ _ _ _ _ _ _ _ _ (c .last-after .ensures) (t .time .ensures) _ _ _ (d .before .before .before .before .before .before .before .before .before .before .pre .2) (d .before .before .before .before .shows-narrowing .ensures)
+    (settled-by _ _ _ _ _ _ _ _ _ refl (d .decide .ensures) (m .charge-counters .ensures) (n .charge-count .ensures .1))
     (k .carry-counts .ensures)
 
 pub narrowed-spec : {M : Type 1} → statement M
@@ -51,7 +48,6 @@ narrowed-spec =
     tie.close
     (tie.spec
     shows-narrowing-requires
-    judge-request-requires
     decide-requires
     charge-counters-requires
     charge-count-requires
