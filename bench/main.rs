@@ -220,6 +220,9 @@ fn alone(case: &Case, side: &str, calls: &str) {
 fn main() {
     let cases: Vec<Case> = request_cases().into_iter().chain(narrowing_cases()).chain(desk_cases()).chain([subject_case()]).collect();
     let words: Vec<String> = std::env::args().skip(1).collect();
+    if words == ["stack"] {
+        return measure_stack();
+    }
     if let [place, side, calls] = words.as_slice() {
         return alone(&cases[place.parse::<usize>().expect("a case's place")], side, calls);
     }
