@@ -1,15 +1,14 @@
 -- Bytes written over the front of a buffer piece by piece, and what the tests of the code come to.
-use Prim.Native.Nat.{ℕ, suc, _≤_, _<_, _+_, _-_, _*_}
+use Prim.Native.Nat.{ℕ, zero, suc, _≤_, _<_, _+_, _-_, _%_}
 use Prim.Native.String.{String}
 use native.Mathlib.Omega.{arith}
-use native.Mathlib.Numerals.{add-one}
 use native.Mathlib.Nat.{add-sub-cancel-left}
-use mathlib.Core.Path.{_≡_, refl, sym, _∙_, ap}
-use mathlib.Core.List.{[], _++_, append-assoc, append-nil}
+use mathlib.Core.Path.{_≡_, refl, sym, _∙_, ap, subst}
+use mathlib.Core.List.{[], _∷_, _++_, append-assoc, append-nil}
 use mathlib.Core.Option.{none, some}
 use mathlib.Core.Bool.{Bool, true, false}
-use lib.ListN.{length, take, drop, getD, set, length-append, length-drop, drop-of-length-le}
-use lib.Seq.{drop-cons, take-suc, set-at, append-snoc, length-take-le, take-all, drop-drop, drop-at, take-at, take-add}
+use lib.ListN.{length, take, drop, getD, length-append, length-drop, drop-of-length-le, take-append-drop}
+use lib.Seq.{drop-cons, length-take-le, take-all, take-take, take-append-le, drop-append-add, drop-drop, drop-at, take-at, take-add, sets, lt-length-sets, sets-eq}
 use lib.Dec.{eqb, leb}
 use borrow.Author.Tests.{eq-eqb, ne-eqb, le-leb, lt-leb, leb-true}
 use Rattle.rules.specs.Sizes.{hashBytes}
@@ -20,9 +19,10 @@ use Rattle.rules.proofs.Laws.{and-left, and-right}
 use Rattle.rules.specs.Suites.{Suite, suite, headerUnder}
 use Rattle.rules.specs.Subject.{SubjectReply, written, unwritten, headerBytes, subject, hashesBytes, subjectFault, subjectReply, subjectBuffer}
 use Rattle.suites.specs.declared.Header.{Header}
+use Rattle.suites.specs.declared.Suite as declared
 use Rattle.suites.specs.Calls.{refuses, calledFor}
 use Rattle.suites.proofs.Laws.{suite-found, suite-measured}
-use Rattle.subject.specs.Writing.{over, hashCount, headedFault, headedReply, headedBuffer}
+use Rattle.subject.specs.Writing.{over, headerOf, headedFault, headedReply, headedBuffer}
 
 pub over-length : (s d : Bytes) → length s ≤ length d → length (over s d) ≡ length d
 unfolding over
@@ -64,6 +64,26 @@ over-piece s t d i n l m =
     let b : drop i (s ++ drop (length s) d) ≡ drop (length s) d = drop-at s (drop (length s) d) i l in
     rw (a, b, ← m) (sym (append-assoc s t (drop (length (s ++ t)) d) ∙ ap (λ (l : Bytes). s ++ (t ++ l)) (drop-both s t d)))
 
+-- The n bytes of s from i on, read one by one.
+abbrev pub reads : Bytes → ℕ → ℕ → Bytes
+reads s i zero = []
+reads s i (suc n) = getD s i 0 ∷ reads s (suc i) n
+
+reads-part : (s : Bytes) (i n : ℕ) → i + n ≤ length s → reads s i n ≡ take n (drop i s)
+reads-part s i zero h = refl
+reads-part s i (suc n) h = sym (ap (take (suc n)) (drop-cons s i 0 (omega arith)) ∙ ap (λ (l : Bytes). getD s i 0 ∷ l) (sym (reads-part s (suc i) n (omega arith))))
+
+-- All the bytes of a word, read one by one and then written one by one: there is room for each, and they are over the word that was there.
+module _ (s d : Bytes) (k : length d ≡ 8) where
+  pub word-room : (i n : ℕ) → i < 8 → i < length (sets d 0 (reads s 0 n))
+  word-room i n h = lt-length-sets d 0 (reads s 0 n) (omega arith)
+
+  pub word-over : length s ≡ 8 → sets d 0 (reads s 0 8) ≡ over s d
+  unfolding over
+  word-over h =
+      let all : reads s 0 8 ≡ s = reads-part s 0 8 (omega arith) ∙ take-all 8 s (omega arith) in
+      sets-eq (reads s 0 8) d 0 (omega arith) ∙ ap (λ (l : Bytes). l ++ drop 8 d) all ∙ ap (λ (n : ℕ). s ++ drop n d) (sym h)
+
 -- The first i bytes of s over the front of d: what the loops keep. Shut, so that a search reads s, d and i off it.
 unfoldable pub copied : Bytes → Bytes → ℕ → Bytes
 copied s d i = over (take i s) d
@@ -76,19 +96,6 @@ module _ (s d : Bytes) where
   pub copied-done : (e : Bytes) (i : ℕ) → length s ≤ i → e ≡ copied s d i → e ≡ over s d
   unfolding copied
   copied-done e i h q = q ∙ ap (λ (l : Bytes). over l d) (take-all i s h)
-
-  -- one byte more
-  pub copied-byte : (e : Bytes) (i : ℕ) → i < length s → length s ≤ length d → e ≡ copied s d i → set e i (getD s i 0) ≡ copied s d (i + 1)
-  unfolding copied over
-  copied-byte e i h k q =
-      let n : length (take i s) ≡ i = length-take-le i s (omega arith) in
-      let m : length (take (suc i) s) ≡ suc i = length-take-le (suc i) s (omega arith) in
-      ap (λ (l : Bytes). set l i (getD s i 0)) (q ∙ ap (λ (j : ℕ). take i s ++ drop j d) n ∙ ap (λ (l : Bytes). take i s ++ l) (drop-cons d i 0 (omega arith)))
-      ∙ set-at (take i s) (getD d i 0) (drop (suc i) d) (getD s i 0) i n
-      ∙ sym (append-snoc (take i s) (getD s i 0) (drop (suc i) d))
-      ∙ ap (λ (l : Bytes). l ++ drop (suc i) d) (sym (take-suc s i 0 h))
-      ∙ ap (λ (j : ℕ). take (suc i) s ++ drop j d) (sym m)
-      ∙ ap (λ (j : ℕ). take j s ++ drop (length (take j s)) d) (sym (add-one i))
 
   -- n bytes more, `&s[i..i + n]`, into the part that is lent as `&mut x[i..i + n]`
   pub copied-part : (x e : Bytes) (i n : ℕ) → i + n ≤ length s → length s ≤ length d → x ≡ copied s d i
@@ -108,56 +115,79 @@ module _ (s d : Bytes) where
       ∙ over-piece (take i s) (take n (drop i s)) d i n l m
       ∙ ap (λ (z : Bytes). over z d) (sym (take-add i n s))
 
--- The certificates: only 5 is left past 3 and 4, and the hashes of each.
-certificate-5 : (n : ℕ) → between 3 5 n ≡ true → (n ≡ 3 → ⊥) → (n ≡ 4 → ⊥) → n ≡ 5
+  -- .. and the last bytes, `&s[k..n]`, where the first i are there, some of the last among them
+  pub copied-last : (x e : Bytes) (i k n : ℕ) → k ≤ i → i ≤ n → n ≡ length s → length s ≤ length d → x ≡ copied s d i
+      → e ≡ over (take (n - k) (drop k s)) (take (n - k) (drop k x))
+      → take k x ++ (e ++ drop (n - k) (drop k x)) ≡ over s d
+  unfolding copied over
+  copied-last x e i k n h j m w q f =
+      let l : length (take i s) ≡ i = length-take-le i s (omega arith) in
+      let len : length x ≡ length d = ap length q ∙ over-length (take i s) d (omega arith) in
+      let front : take k x ≡ take k s = ap (take k) q ∙ take-append-le k (take i s) (drop (length (take i s)) d) (omega arith) ∙ take-take k i s h in
+      let here : k + (n - k) ≡ length (take i s) + (length s - i) = omega arith in
+      let there : length (take i s) + (length s - i) ≡ length s = omega arith in
+      let back : drop (n - k) (drop k x) ≡ drop (length s) d =
+      drop-drop (n - k) k x
+      ∙ ap (λ (z : ℕ). drop z x) here
+      ∙ ap (drop (length (take i s) + (length s - i))) q
+      ∙ drop-append-add (take i s) (drop (length (take i s)) d) (length s - i)
+      ∙ drop-drop (length s - i) (length (take i s)) d
+      ∙ ap (λ (z : ℕ). drop z d) there
+      in
+      let piece : take (n - k) (drop k s) ≡ drop k s = take-all (n - k) (drop k s) (omega (arith, length-drop k s)) in
+      let u : length (take (n - k) (drop k x)) ≡ n - k = length-take-le (n - k) (drop k x) (omega (arith, length-drop k x)) in
+      let v : length (take (n - k) (drop k s)) ≡ n - k = length-take-le (n - k) (drop k s) (omega (arith, length-drop k s)) in
+      let g : e ≡ drop k s = f ∙ over-whole (take (n - k) (drop k s)) (take (n - k) (drop k x)) (v ∙ sym u) ∙ piece in
+      rw (front, back, g) (sym (append-assoc (take k s) (drop k s) (drop (length s) d)) ∙ ap (λ (z : Bytes). z ++ drop (length s) d) (take-append-drop k s))
+
+-- There is room for a header text, by the choice of it.
+pub room-at : (f : Header → String) (n : ℕ) (h k : Header) → length (ascii (f h)) ≤ n → h ≡ k → length (ascii (f k)) ≤ n
+room-at f n h k e q = subst (λ (x : Header). length (ascii (f x)) ≤ n) q e
+
+-- .. by the certificate
+pub room-under : (s : declared.Suite) (n c k : ℕ) → length (headerOf c s) ≤ n → c ≡ k → length (headerOf k s) ≤ n
+room-under s n c k e q = subst (λ (x : ℕ). length (headerOf x s) ≤ n) q e
+
+-- The certificates: only 5 is left past 3 and 4. The hashes of each are whole.
+pub certificate-5 : (n : ℕ) → between 3 5 n ≡ true → (n ≡ 3 → ⊥) → (n ≡ 4 → ⊥) → n ≡ 5
 certificate-5 n h a b = let l = leb-true 3 n (and-left (leb 3 n) (leb n 5) h) in let m = leb-true n 5 (and-right (leb 3 n) (leb n 5) h) in omega arith
 
-pub under-5 : (n : ℕ) (s : Suite) (hashes buffer : Bytes) (x : SubjectReply) (y : Bytes) → between 3 5 n ≡ true → (n ≡ 3 → ⊥) → (n ≡ 4 → ⊥)
-    → (x ≡ headedReply (ascii "Card Recovery\0") 3 hashes buffer) × (y ≡ headedBuffer (ascii "Card Recovery\0") 3 hashes buffer)
-    → (x ≡ headedReply (headerBytes (headerUnder n (some s))) (hashCount n) hashes buffer)
-    × (y ≡ headedBuffer (headerBytes (headerUnder n (some s))) (hashCount n) hashes buffer)
-under-5 n s hashes buffer x y h a b q = rw (certificate-5 n h a b) q
-
-hash-bytes : (n : ℕ) → hashesBytes n ≡ hashCount n * hashBytes
-hash-bytes n = pick (eqb n 4) refl
+pub hashes-whole : (n : ℕ) → hashesBytes n % hashBytes ≡ 0
+hashes-whole n = pick (eqb n 4) refl
   where
-    pick : (b : Bool) → eqb n 4 ≡ b → hashesBytes n ≡ hashCount n * hashBytes
+    pick : (b : Bool) → eqb n 4 ≡ b → hashesBytes n % hashBytes ≡ 0
     pick true e = rw e
     pick false e = rw e
 
--- the total length that a suite gives, by the choice of its header text
-pub measured-at : (f : Header → String) (count total : ℕ) (h k : Header) → total ≡ length (ascii (f h)) + count * hashBytes → h ≡ k → total ≡ length (ascii (f k)) + count * hashBytes
-measured-at f count total h k e q = e ∙ ap (λ (x : Header). length (ascii (f x)) + count * hashBytes) q
-
--- A header and so many hashes: the ways out of the writer, by the tests that the code made.
-module _ (header : Bytes) (count : ℕ) (hashes buffer : Bytes) where
-  pub headed-wrong : (length hashes ≡ count * hashBytes → ⊥)
-      → (unwritten badLength ≡ headedReply header count hashes buffer) × (buffer ≡ headedBuffer header count hashes buffer)
+-- A header and hashes of a length: the ways out of the writer, by the tests that the code made.
+module _ (header : Bytes) (size : ℕ) (hashes buffer : Bytes) where
+  pub headed-wrong : (length hashes ≡ size → ⊥)
+      → (unwritten badLength ≡ headedReply header size hashes buffer) × (buffer ≡ headedBuffer header size hashes buffer)
   unfolding headedReply headedBuffer headedFault firstFault
   headed-wrong n = rw (ne-eqb _ _ n) (refl, refl)
 
-  module _ (e : length hashes ≡ count * hashBytes) (total : ℕ) (t : total ≡ length header + count * hashBytes) where
+  module _ (e : length hashes ≡ size) (total : ℕ) (t : total ≡ length header + size) where
     long : length (header ++ hashes) ≡ total
     long = length-append header hashes ∙ omega (arith, e, t)
 
     pub headed-short : length buffer < total
-        → (unwritten shortBuffer ≡ headedReply header count hashes buffer) × (buffer ≡ headedBuffer header count hashes buffer)
+        → (unwritten shortBuffer ≡ headedReply header size hashes buffer) × (buffer ≡ headedBuffer header size hashes buffer)
     unfolding headedReply headedBuffer headedFault firstFault
     headed-short h = rw (eq-eqb _ _ e, long, lt-leb total (length buffer) h) (refl, refl)
 
     pub headed-written : total ≤ length buffer → (x : Bytes) → x ≡ over (header ++ hashes) buffer
-        → (written total ≡ headedReply header count hashes buffer) × (x ≡ headedBuffer header count hashes buffer)
+        → (written total ≡ headedReply header size hashes buffer) × (x ≡ headedBuffer header size hashes buffer)
     unfolding headedReply headedBuffer headedFault firstFault over
     headed-written h x q = rw (eq-eqb _ _ e, long, le-leb total (length buffer) h) (refl, q)
 
 -- A subject under a known suite is a header and hashes.
 module _ (certificate n : ℕ) (s : Suite) (hashes buffer : Bytes) where
   pub subject-under : some s ≡ suite n → between 3 5 certificate ≡ true → (x : SubjectReply) (y : Bytes)
-      → (x ≡ headedReply (headerBytes (headerUnder certificate (some s))) (hashCount certificate) hashes buffer)
-      × (y ≡ headedBuffer (headerBytes (headerUnder certificate (some s))) (hashCount certificate) hashes buffer)
+      → (x ≡ headedReply (headerBytes (headerUnder certificate (some s))) (hashesBytes certificate) hashes buffer)
+      × (y ≡ headedBuffer (headerBytes (headerUnder certificate (some s))) (hashesBytes certificate) hashes buffer)
       → (x ≡ subjectReply certificate n hashes buffer) × (y ≡ subjectBuffer certificate n hashes buffer)
   unfolding subjectReply subjectBuffer subjectFault subject headedReply headedBuffer headedFault firstFault
-  subject-under e b x y h = rw (← e, b, hash-bytes certificate) h
+  subject-under e b x y h = rw (← e, b) h
 
 -- Refusals 10 and 11.
 module _ (certificate n : ℕ) (hashes buffer : Bytes) where

@@ -1,17 +1,15 @@
 // The subjects of world certificates, the bytes that the certificates sign: a header text by certificate and suite, then key hashes.
 ghost use mathlib.Core.Path.{_≡_};
 ghost use mathlib.Core.Bool.{true};
-ghost use mathlib.Core.Option.{some};
-ghost use Prim.Native.Nat.{_≤_, _+_, _*_, _%_};
+ghost use Prim.Native.Nat.{_≤_, _+_, _%_};
 ghost use lib.ListN.{length};
 ghost use Rattle.rules.specs.Sizes.{hashBytes};
 ghost use Rattle.rules.specs.Basics.{ascii};
 ghost use Rattle.rules.specs.Layout.{between};
-ghost use Rattle.rules.specs.Suites.{headerUnder};
-ghost use Rattle.rules.specs.Subject.{headerBytes, subjectReply, subjectBuffer};
+ghost use Rattle.rules.specs.Subject.{hashesBytes, subjectReply, subjectBuffer};
 ghost use Rattle.suites.specs.declared.Lookup.the-variants.{Known};
-ghost use Rattle.suites.specs.Calls.{keysText, setupText, suiteAs, answerOf, Measured};
-ghost use Rattle.subject.specs.Writing.{replyOf, over, hashCount, headedReply, headedBuffer};
+ghost use Rattle.suites.specs.Calls.{keysText, setupText, answerOf, Measured};
+ghost use Rattle.subject.specs.Writing.{replyOf, over, headerOf, headedReply, headedBuffer};
 use refusals::Refusal;
 use suites::Header;
 use suites::Lookup;
@@ -23,16 +21,42 @@ pub enum Written {
     Refused(Refusal),
 }
 
-// The bytes over the front of the buffer. What lies past them stays.
-fn copy(bytes: &[u8], buffer: &mut [u8])
-    requires { ⌜ length (now bytes) ≤ length (now buffer) ⌝ }
+// Eight bytes over eight. All are read before the first is written, so that they are one load and one store.
+fn copy_word(bytes: &[u8], buffer: &mut [u8])
+    requires { ⌜ (length (now bytes) ≡ 8) × (length (now buffer) ≡ 8) ⌝ }
     ensures { λ _. ⌜ now (buffer .exit) ≡ over (now (bytes .entry)) (now (buffer .entry)) ⌝ }
 {
+    let a = bytes[0];
+    let b = bytes[1];
+    let c = bytes[2];
+    let d = bytes[3];
+    let e = bytes[4];
+    let f = bytes[5];
+    let g = bytes[6];
+    let h = bytes[7];
+    buffer[0] = a;
+    buffer[1] = b;
+    buffer[2] = c;
+    buffer[3] = d;
+    buffer[4] = e;
+    buffer[5] = f;
+    buffer[6] = g;
+    buffer[7] = h;
+}
+
+// Eight bytes or more over the front of the buffer, eight at a time; the last eight may overlap those before them. What lies past them stays.
+fn copy(bytes: &[u8], buffer: &mut [u8])
+    requires { ⌜ (8 ≤ length (now bytes)) × (length (now bytes) ≤ length (now buffer)) ⌝ }
+    ensures { λ _. ⌜ now (buffer .exit) ≡ over (now (bytes .entry)) (now (buffer .entry)) ⌝ }
+{
+    let end = bytes.len();
     let mut i = 0;
-    while i < bytes.len() {
-        buffer[i] = bytes[i];
-        i += 1;
+    while 8 < end - i {
+        copy_word(&bytes[i..i + 8], &mut buffer[i..i + 8]);
+        i += 8;
     }
+    let last = end - 8;
+    copy_word(&bytes[last..end], &mut buffer[last..end]);
 }
 
 // Hashes over the front of the buffer, one after the other. Each goes straight into its place: the next twenty bytes of the buffer are lent to `copy`.
@@ -50,129 +74,97 @@ fn write_hashes(hashes: &[u8], buffer: &mut [u8])
     }
 }
 
-// A subject: the header at the front of the buffer, then `count` hashes in the part from the header's end on. The number of hashes and the total
-// length are tested before the first byte is written, so that a refusal leaves the buffer. No subject has over four hashes.
-fn write_headed(
-    header: &[u8],
-    count: usize,
-    total: usize,
-    hashes: &[u8],
-    buffer: &mut [u8],
-) -> Written
-    requires { ⌜ (count ≤ 4) × (total ≡ length (now header) + count * hashBytes) ⌝ }
-    ensures reply { λ r. ⌜ replyOf r ≡ headedReply (now (header .entry)) count (now (hashes .entry)) (now (buffer .entry)) ⌝ }
-    ensures bytes { λ _. ⌜ now (buffer .exit) ≡ headedBuffer (now (header .entry)) count (now (hashes .entry)) (now (buffer .entry)) ⌝ }
-{
-    if hashes.len() != count * sizes::HASH {
-        return Written::Refused(Refusal::BadLength);
-    }
-    if buffer.len() < total {
-        return Written::Refused(Refusal::ShortBuffer);
-    }
-    let end = header.len();
-    copy(header, buffer);
-    write_hashes(hashes, &mut buffer[end..]);
-    Written::Length(total)
-}
-
-// Certificate 3: the hashes of KNSO, KM and KMC.
-fn write_module_keys(header: Header, total: usize, hashes: &[u8], buffer: &mut [u8]) -> Written
-    requires { ⌜ total ≡ length (ascii (keysText header)) + 3 * hashBytes ⌝ }
-    ensures reply { λ r. ⌜ replyOf r ≡ headedReply (ascii (keysText header)) 3 (now (hashes .entry)) (now (buffer .entry)) ⌝ }
-    ensures bytes { λ _. ⌜ now (buffer .exit) ≡ headedBuffer (ascii (keysText header)) 3 (now (hashes .entry)) (now (buffer .entry)) ⌝ }
+// The header of certificate 3.
+fn write_module_keys(header: Header, buffer: &mut [u8])
+    requires { ⌜ length (ascii (keysText header)) ≤ length (now buffer) ⌝ }
+    ensures { λ _. ⌜ now (buffer .exit) ≡ over (ascii (keysText header)) (now (buffer .entry)) ⌝ }
 {
     match header {
-        Header::Plain => write_headed(b"Module keys\0", 3, total, hashes, buffer),
-        Header::TypeRijndael => write_headed(
-            b"Module keys: KM type Rijndael\0",
-            3,
-            total,
-            hashes,
-            buffer,
-        ),
-        Header::Dlf3072Rijndael => write_headed(
-            b"Module keys: suite = DLf3072s256mRijndael\0",
-            3,
-            total,
-            hashes,
-            buffer,
-        ),
-        Header::Dlf3072Aes => write_headed(
+        Header::Plain => copy(b"Module keys\0", buffer),
+        Header::TypeRijndael => copy(b"Module keys: KM type Rijndael\0", buffer),
+        Header::Dlf3072Rijndael => copy(b"Module keys: suite = DLf3072s256mRijndael\0", buffer),
+        Header::Dlf3072Aes => copy(
             b"Module keys: suite = DLf3072s256mAEScSP800131Ar1\0",
-            3,
-            total,
-            hashes,
             buffer,
         ),
-        Header::Ecp521Aes => write_headed(
-            b"Module keys: suite = ECp521mAES\0",
-            3,
-            total,
-            hashes,
-            buffer,
-        ),
+        Header::Ecp521Aes => copy(b"Module keys: suite = ECp521mAES\0", buffer),
     }
 }
 
-// Certificate 4: the hashes of KNSO, KM, KMC and KFIPS.
-fn write_module_setup(header: Header, total: usize, hashes: &[u8], buffer: &mut [u8]) -> Written
-    requires { ⌜ total ≡ length (ascii (setupText header)) + 4 * hashBytes ⌝ }
-    ensures reply { λ r. ⌜ replyOf r ≡ headedReply (ascii (setupText header)) 4 (now (hashes .entry)) (now (buffer .entry)) ⌝ }
-    ensures bytes { λ _. ⌜ now (buffer .exit) ≡ headedBuffer (ascii (setupText header)) 4 (now (hashes .entry)) (now (buffer .entry)) ⌝ }
+// The header of certificate 4.
+fn write_module_setup(header: Header, buffer: &mut [u8])
+    requires { ⌜ length (ascii (setupText header)) ≤ length (now buffer) ⌝ }
+    ensures { λ _. ⌜ now (buffer .exit) ≡ over (ascii (setupText header)) (now (buffer .entry)) ⌝ }
 {
     match header {
-        Header::Plain => write_headed(b"Module setup, FIPS3\0", 4, total, hashes, buffer),
-        Header::TypeRijndael => write_headed(
-            b"Module setup, FIPS3; KM type Rijndael\0",
-            4,
-            total,
-            hashes,
-            buffer,
-        ),
-        Header::Dlf3072Rijndael => write_headed(
+        Header::Plain => copy(b"Module setup, FIPS3\0", buffer),
+        Header::TypeRijndael => copy(b"Module setup, FIPS3; KM type Rijndael\0", buffer),
+        Header::Dlf3072Rijndael => copy(
             b"Module setup, FIPS3; suite = DLf3072s256mRijndael\0",
-            4,
-            total,
-            hashes,
             buffer,
         ),
-        Header::Dlf3072Aes => write_headed(
+        Header::Dlf3072Aes => copy(
             b"Module setup, FIPS3; suite = DLf3072s256mAEScSP800131Ar1\0",
-            4,
-            total,
-            hashes,
             buffer,
         ),
-        Header::Ecp521Aes => write_headed(
-            b"Module setup, FIPS3; suite = ECp521mAES\0",
-            4,
-            total,
-            hashes,
-            buffer,
-        ),
+        Header::Ecp521Aes => copy(b"Module setup, FIPS3; suite = ECp521mAES\0", buffer),
     }
 }
 
-// Certificate 5: the hashes of KNSO, KRE and KRA. Its header is one under every suite.
-fn write_card_recovery(hashes: &[u8], buffer: &mut [u8]) -> Written
-    ensures reply { λ r. ⌜ replyOf r ≡ headedReply (ascii "Card Recovery\0") 3 (now (hashes .entry)) (now (buffer .entry)) ⌝ }
-    ensures bytes { λ _. ⌜ now (buffer .exit) ≡ headedBuffer (ascii "Card Recovery\0") 3 (now (hashes .entry)) (now (buffer .entry)) ⌝ }
-{
-    write_headed(b"Card Recovery\0", 3, 74, hashes, buffer)
-}
-
-// The subject of certificate 3, 4 or 5 under a suite, whose lengths are those of its header texts with the hashes.
-fn write_under(certificate: u64, suite: Suite, hashes: &[u8], buffer: &mut [u8]) -> Written
-    requires { ⌜ (between 3 5 certificate ≡ true) × (Measured (answerOf (Known suite))) ⌝ }
-    ensures reply { λ r. ⌜ replyOf r ≡ headedReply (headerBytes (headerUnder certificate (some (suiteAs suite)))) (hashCount certificate) (now (hashes .entry)) (now (buffer .entry)) ⌝ }
-    ensures bytes { λ _. ⌜ now (buffer .exit) ≡ headedBuffer (headerBytes (headerUnder certificate (some (suiteAs suite)))) (hashCount certificate) (now (hashes .entry)) (now (buffer .entry)) ⌝ }
+// The header of certificate 3, 4 or 5 at the front of the buffer. That of certificate 5 is one under every suite.
+fn write_header(certificate: u64, suite: Suite, buffer: &mut [u8])
+    requires { ⌜ (between 3 5 certificate ≡ true) × (length (headerOf certificate suite) ≤ length (now buffer)) ⌝ }
+    ensures { λ _. ⌜ now (buffer .exit) ≡ over (headerOf certificate suite) (now (buffer .entry)) ⌝ }
 {
     let header = suite.header;
     match certificate {
-        3 => write_module_keys(header, suite.keys, hashes, buffer),
-        4 => write_module_setup(header, suite.setup, hashes, buffer),
-        _ => write_card_recovery(hashes, buffer),
+        3 => write_module_keys(header, buffer),
+        4 => write_module_setup(header, buffer),
+        _ => copy(b"Card Recovery\0", buffer),
     }
+}
+
+// The length of the hashes: of KNSO, KM and KMC (certificate 3), of KFIPS too (certificate 4), of KNSO, KRE and KRA (certificate 5).
+fn hashes_length(certificate: u64) -> usize
+    ensures { λ r. ⌜ r ≡ hashesBytes certificate ⌝ }
+{
+    if certificate == 4 {
+        return 4 * sizes::HASH;
+    }
+    3 * sizes::HASH
+}
+
+// The total length of the subject of certificate 3, 4 or 5 under a suite, whose lengths are those of its header texts with the hashes.
+fn total_length(certificate: u64, suite: Suite) -> usize
+    requires { ⌜ (between 3 5 certificate ≡ true) × (Measured (answerOf (Known suite))) ⌝ }
+    ensures { λ r. ⌜ r ≡ length (headerOf certificate suite) + hashesBytes certificate ⌝ }
+{
+    match certificate {
+        3 => suite.keys,
+        4 => suite.setup,
+        _ => 74,
+    }
+}
+
+// The subject of certificate 3, 4 or 5 under a suite: the header at the front of the buffer, then the hashes in the part from the header's end on. The
+// length of the hashes and the total length are tested before the first byte is written, so that a refusal leaves the buffer.
+fn write_under(certificate: u64, suite: Suite, hashes: &[u8], buffer: &mut [u8]) -> Written
+    requires { ⌜ (between 3 5 certificate ≡ true) × (Measured (answerOf (Known suite))) ⌝ }
+    ensures reply { λ r. ⌜ replyOf r ≡ headedReply (headerOf certificate suite) (hashesBytes certificate) (now (hashes .entry)) (now (buffer .entry)) ⌝ }
+    ensures bytes { λ _. ⌜ now (buffer .exit) ≡ headedBuffer (headerOf certificate suite) (hashesBytes certificate) (now (hashes .entry)) (now (buffer .entry)) ⌝ }
+{
+    let size = hashes_length(certificate);
+    if hashes.len() != size {
+        return Written::Refused(Refusal::BadLength);
+    }
+    let total = total_length(certificate, suite);
+    if buffer.len() < total {
+        return Written::Refused(Refusal::ShortBuffer);
+    }
+    write_header(certificate, suite, buffer);
+    let end = total - size;
+    write_hashes(hashes, &mut buffer[end..]);
+    Written::Length(total)
 }
 
 // The subject of a world certificate, at the front of the buffer, for hashes in document 001's order. Every byte past it stays. Refusals 10,
