@@ -2,7 +2,7 @@
 use Prim.Native.Nat.{ℕ, zero, suc, _≤_, _<_, _+_, _-_, _%_}
 use Prim.Native.String.{String}
 use native.Mathlib.Omega.{arith}
-use native.Mathlib.Nat.{add-sub-cancel-left}
+use native.Mathlib.Nat.{add-sub-cancel-left, le-trans}
 use mathlib.Core.Path.{_≡_, refl, sym, _∙_, ap, subst}
 use mathlib.Core.List.{[], _∷_, _++_, append-assoc, append-nil}
 use mathlib.Core.Option.{none, some}
@@ -140,9 +140,9 @@ module _ (s d : Bytes) where
       let g : e ≡ drop k s = f ∙ over-whole (take (n - k) (drop k s)) (take (n - k) (drop k x)) (v ∙ sym u) ∙ piece in
       rw (front, back, g) (sym (append-assoc (take k s) (drop k s) (drop (length s) d)) ∙ ap (λ (z : Bytes). z ++ drop (length s) d) (take-append-drop k s))
 
--- There is room for a header text, by the choice of it.
-pub room-at : (f : Header → String) (n : ℕ) (h k : Header) → length (ascii (f h)) ≤ n → h ≡ k → length (ascii (f k)) ≤ n
-room-at f n h k e q = subst (λ (x : Header). length (ascii (f x)) ≤ n) q e
+-- There is room for a text that is no longer than the header text, by the choice of it.
+pub room-at : (f : Header → String) (n m : ℕ) (h k : Header) → m ≤ length (ascii (f k)) → length (ascii (f h)) ≤ n → h ≡ k → m ≤ n
+room-at f n m h k r e q = le-trans r (subst (λ (x : Header). length (ascii (f x)) ≤ n) q e)
 
 -- .. by the certificate
 pub room-under : (s : declared.Suite) (n c k : ℕ) → length (headerOf c s) ≤ n → c ≡ k → length (headerOf k s) ≤ n
