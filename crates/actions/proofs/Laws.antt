@@ -1,22 +1,24 @@
 -- Laws of a single action: the table of classes, the loop over the permissions, flags that announce fields, the kinds of actions.
-use Prim.Native.Nat.{ℕ, zero, suc, _+_, _-_, _≤_, _<_}
+use Prim.Native.Nat.{ℕ, zero, suc, _+_, _-_, _/_, _^_, _≤_, _<_}
 use native.Mathlib.Omega.{arith}
 use native.Mathlib.Numerals.{add-one}
 use mathlib.Core.Path.{_≡_, refl, sym, _∙_, ap}
+use mathlib.Core.Logic.{_⊎_, inl, inr}
 use mathlib.Core.List.{List, [], _∷_, map}
 use mathlib.Core.Option.{Option, none, some}
 use mathlib.Core.Bool.{Bool, true, false, not, _&&_, _||_}
-use borrow.Author.Tests.{eq-eqb, ne-eqb, not-true, not-false}
+use borrow.Author.Tests.{eqb-true, eqb-false, eq-eqb, ne-eqb, ltb-true, ltb-false, not-true, not-false}
 use lib.ListN.{length, take, drop, getD, length-drop}
 use lib.Seq.{length-take-le, take-take}
-use lib.Dec.{eqb}
+use lib.Pow.{shr-shr, shr-le}
+use lib.Dec.{eqb, ltb}
 use Rattle.rules.specs.Basics.{if_then_else_, Bytes, implies, bit, allBelow, part, number, kind, flag, optional, present, bothSame, unless, firstFault}
 use Rattle.rules.specs.Acl.{blobRuleOf, archiveRuleOf, parametersAt, Action, permissions, makeBlob, makeArchive, actionOf}
 use Rattle.rules.specs.Bundle.{Policy}
 use Rattle.rules.specs.Suites.{suiteMechanism}
 use Rattle.rules.specs.Numbers.{notKept}
 use Rattle.rules.specs.Desk.{Step, Class, classOf, policyAdmits, ACLV3, WB1, WB2, WB3, WB6, permissionsFailure, blobFailure, isMechanism, actionProtection, softParameters, isArchive}
-use Rattle.rules.proofs.Laws.{and-both, allBelow-at, not-both}
+use Rattle.rules.proofs.Laws.{and-both, allBelow-at, allBelow-all, not-both, decided}
 use Rattle.evidence.specs.Given.{given}
 use Rattle.evidence.proofs.Laws.{given-some}
 use Rattle.suites.specs.Calls.{Calls, Answer, calls, refuses, calledFor}
@@ -45,15 +47,47 @@ module _ (p : ℕ → Bool) (b : ℕ) (t : Bool) (is : t ≡ p b) where
   unfolding allBelow
   below-next h e = rw add-one (and-both (p b) (allBelow b p) (sym is ∙ not-false t e) h)
 
-  pub below-stop : (n : ℕ) → b < n → not t ≡ true → false ≡ allBelow n p
+  below-stop : (n : ℕ) → b < n → not t ≡ true → false ≡ allBelow n p
   below-stop n h e = pick (allBelow n p) refl
     where
       pick : (a : Bool) → allBelow n p ≡ a → false ≡ a
       pick true q = absurd (not-both (p b) (allBelow-at n p b h q) (sym is ∙ not-true t e))
       pick false q = refl
 
-pub below-done : (p : ℕ → Bool) (b n : ℕ) → allBelow b p ≡ true → n ≤ b → b ≤ n → true ≡ allBelow n p
-below-done p b n h l m = let e : b ≡ n = omega arith in sym (rw e at h)
+-- .. and from b on none is set: what is left of the bits is zero.
+module _ (policy : Policy) (bits left b : ℕ) (is : left ≡ bits / 2 ^ b) where
+  pub left-below : bits < 65536 → b ≤ 16 → 0 < left → b < 16
+  left-below h l z = pick (decided (eqb b 16))
+    where
+      pick : (eqb b 16 ≡ true) ⊎ (eqb b 16 ≡ false) → b < 16
+      pick (inl q) = let e : left ≡ bits / 2 ^ 16 = is ∙ ap (λ (i : ℕ). bits / 2 ^ i) (eqb-true b 16 q) in absurd (omega arith)
+      pick (inr q) = let n : b ≡ 16 → ⊥ = eqb-false b 16 q in omega arith
+
+  pub left-room : bits < 65536 → b ≤ 16 → 0 < left → b + 1 ≤ 16
+  left-room h l z = let k = left-below h l z in omega arith
+
+  pub left-stop : (t : Bool) → bits < 65536 → b ≤ 16 → 0 < left → t ≡ admittedBit policy bits b → not t ≡ true → false ≡ allBelow 16 (admittedBit policy bits)
+  left-stop t h l z e n = below-stop (admittedBit policy bits) b t e 16 (left-below h l z) n
+
+  pub left-next : left / 2 ≡ bits / 2 ^ (b + 1)
+  left-next = ap (λ (n : ℕ). n / 2) is ∙ shr-shr bits b 1
+
+  unset : (i : ℕ) → left ≤ 0 → b ≤ i → bit i bits ≡ false
+  unset i z h =
+      let e : left ≡ 0 = omega arith in
+      let k : b + (i - b) ≡ i = omega arith in
+      let f : bits / 2 ^ b / 2 ^ (i - b) ≡ bits / 2 ^ i = shr-shr bits b (i - b) ∙ ap (λ (j : ℕ). bits / 2 ^ j) k in
+      let g : bits / 2 ^ b / 2 ^ (i - b) ≤ bits / 2 ^ b = shr-le (bits / 2 ^ b) (i - b) in
+      let d : bits / 2 ^ i ≡ 0 = omega arith in
+      rw d
+
+  pub left-none : allBelow b (admittedBit policy bits) ≡ true → left ≤ 0 → true ≡ allBelow 16 (admittedBit policy bits)
+  unfolding admittedBit
+  left-none h z = sym (allBelow-all 16 (admittedBit policy bits) (λ i l. pick i (decided (ltb i b))))
+    where
+      pick : (i : ℕ) → (ltb i b ≡ true) ⊎ (ltb i b ≡ false) → admittedBit policy bits i ≡ true
+      pick i (inl q) = allBelow-at b (admittedBit policy bits) i (ltb-true i b q) h
+      pick i (inr q) = rw (unset i z (ltb-false i b q))
 
 pub below-none : (p : ℕ → Bool) → allBelow 0 p ≡ true
 unfolding allBelow

@@ -86,15 +86,17 @@ fn bit_admitted(policy: Policy, bits: u16, b: u16) -> bool
     class_admitted(policy, class_of(b))
 }
 
-// Whether a policy admits every permission that is set.
+// Whether a policy admits every permission that is set. `left` are those from b on: after the highest that is set there are no more.
 fn bits_admitted(policy: Policy, bits: u16) -> bool
     ensures { λ r. ⌜ r ≡ allBelow 16 (admittedBit (policyAs policy) bits) ⌝ }
 {
+    let mut left = bits;
     let mut b = 0;
-    while b < 16 {
+    while 0 < left {
         if !bit_admitted(policy, bits, b) {
             return false;
         }
+        left = left / 2;
         b += 1;
     }
     true
