@@ -13,6 +13,7 @@ use Rattle.rules.specs.Basics.{if_then_else_, Bytes, orNext, firstFault, fits, 
 use Rattle.rules.specs.Suites.{suite}
 use Rattle.rules.specs.Acl.{Action, permissions, makeBlob, makeArchive, Group, aclOf, aclFault}
 use Rattle.rules.specs.Bundle.{Policy, policyOf, bundleFault}
+use Rattle.rules.proofs.Laws.{never}
 use Rattle.rules.specs.Desk.{Step, KV3, Acceptance, approach1, approach2, actionProtection, softParameters, smallest, officersGroup, keyProtection, recoverableKey, beforeAcl, aclFailure, fullFailure, basicFailure, gradeOf, unlessFailed, attested, deskFault, desk}
 use Rattle.steps.specs.declared.Failure.{Failure}
 use Rattle.steps.specs.declared.Failure.the-variants.{Nothing, At}
@@ -77,6 +78,10 @@ module _ (bundle acl : Bytes) (r s : Bool) (p : r ≡ fits bundleRecords bundle)
   pub good-lengths : (x y f g k : Option ℕ) → not (r && s) ≡ false → x ≡ orNext f y → y ≡ orNext g k → f ≡ bundleFault (records bundle) → g ≡ aclFault (records acl) → k ≡ suiteFault (records bundle) → x ≡ deskFault bundle acl
   unfolding deskFault firstFault suiteFault
   good-lengths x y f g k h a b c d e = rw (a, b, c, d, e, sym lengths ∙ not-false (r && s) h)
+
+-- a refusal is no answer that there is no fault
+pub refused : {A : Type 0} (n : ℕ) → some n ≡ none → A
+refused n e = absurd (never (cc))
 
 -- KV3 and CSRL1
 module _ (b : List Bytes) (p : Policy) (protection : ℕ) (e : p ≡ policyOf b) where

@@ -1,12 +1,15 @@
 // The desk: a bundle file and an ACL file in, a verdict out.
 ghost use mathlib.Core.Path.{_≡_};
 ghost use Prim.Native.Nat.{_≤_};
+ghost use mathlib.Core.Option.{none};
+ghost use lib.ListN.{replicate};
 ghost use Rattle.rules.specs.Basics.{orNext, records};
 ghost use Rattle.rules.specs.Acl.{aclOf};
 ghost use Rattle.rules.specs.Bundle.{policyOf};
 ghost use Rattle.rules.specs.Desk.{beforeAcl, fullFailure, basicFailure, gradeOf, approach1, approach2, unlessFailed, deskFault, attested, desk};
 ghost use Rattle.files.specs.Faults.{faultOf};
 ghost use Rattle.facts.specs.Found.{policyAs};
+ghost use Rattle.facts.specs.Places.{entries, Found};
 ghost use Rattle.steps.specs.Steps.{failureOf};
 ghost use Rattle.desk.specs.Replies.{protectionNumber, replyOf, replyFor, verdictFrom, suiteFault, gradeFailure};
 use facts::Policy;
@@ -71,10 +74,11 @@ fn protection_of(n: u8) -> Protection
 }
 
 // Whether the policy names a suite.
-fn suite_known(bundle: &[u8]) -> Checked
+fn suite_known(places: &[usize; facts::ENTRIES], bundle: &[u8]) -> Checked
+    requires { ⌜ Found (now bundle) (now places) ⌝ }
     ensures { λ r. ⌜ faultOf r ≡ suiteFault (records (now (bundle .entry))) ⌝ }
 {
-    let policy = facts::policy_of(bundle);
+    let policy = facts::policy_of(places, bundle);
     let found = suites::suite_of(policy.suite as u64);
     match found {
         Lookup::Refused(r) => Checked::Refused(r),
@@ -82,38 +86,53 @@ fn suite_known(bundle: &[u8]) -> Checked
     }
 }
 
-// The first fault of the two files: the length of either, the bundle's records, the ACL's, the suite.
-fn read_both(bundle: &[u8], acl: &[u8]) -> Checked
-    ensures { λ r. ⌜ faultOf r ≡ deskFault (now (bundle .entry)) (now (acl .entry)) ⌝ }
+// The first fault of the two files: the length of either, the bundle's records, the ACL's, the suite. Where there is none, the bundle's records were found.
+fn read_both(places: &mut [usize; facts::ENTRIES], bundle: &[u8], acl: &[u8]) -> Checked
+    requires { ⌜ now places ≡ replicate entries 0 ⌝ }
+    ensures { λ r. ⌜ (faultOf r ≡ deskFault (now (bundle .entry)) (now (acl .entry))) × (faultOf r ≡ none → Found (now (bundle .entry)) (now (places .exit))) ⌝ }
 {
     if !(files::whole(sizes::BUNDLE_RECORDS, bundle) & files::whole(sizes::ACL_RECORDS, acl)) {
         return Checked::Refused(Refusal::BadLength);
     }
+    facts::find_places(places, bundle);
     files::first_fault(
         bundle::bundle_records(bundle),
-        files::first_fault(acl::acl_records(acl), suite_known(bundle)),
+        files::first_fault(acl::acl_records(acl), suite_known(places, bundle)),
     )
 }
 
 // The steps after the ACL: the protection is at least the policy's, and the CSR is for the key.
-fn grade_steps(policy: Policy, bundle: &[u8], protection: u8) -> Failure
-    requires { ⌜ policyAs policy ≡ policyOf (records (now bundle)) ⌝ }
+fn grade_steps(
+    policy: Policy,
+    places: &[usize; facts::ENTRIES],
+    bundle: &[u8],
+    protection: u8,
+) -> Failure
+    requires { ⌜ (policyAs policy ≡ policyOf (records (now bundle))) × Found (now bundle) (now places) ⌝ }
     ensures { λ r. ⌜ failureOf r ≡ gradeFailure (records (now (bundle .entry))) protection ⌝ }
 {
     if protection < policy.lowest {
         return Failure::At(Step::KV3);
     }
-    steps::csr_step(policy, bundle)
+    steps::csr_step(policy, places, bundle)
 }
 
 // Approach 2, whole: the first failing step, for an ACL that comes to that grade.
-fn full_steps(policy: Policy, bundle: &[u8], grade: Grade) -> Failure
-    requires { ⌜ policyAs policy ≡ policyOf (records (now bundle)) ⌝ }
+fn full_steps(
+    policy: Policy,
+    places: &[usize; facts::ENTRIES],
+    bundle: &[u8],
+    grade: Grade,
+) -> Failure
+    requires { ⌜ (policyAs policy ≡ policyOf (records (now bundle))) × Found (now bundle) (now places) ⌝ }
     ensures { λ r. ⌜ failureOf r ≡ orNext (beforeAcl (records (now (bundle .entry)))) (orNext (failureOf (grade .failure)) (gradeFailure (records (now (bundle .entry))) (grade .protection))) ⌝ }
 {
     let of_acl = grade.failure;
-    let after = steps::first_of(of_acl, grade_steps(policy, bundle, grade.protection));
-    steps::first_of(steps::bundle_steps(bundle), after)
+    let after = steps::first_of(
+        of_acl,
+        grade_steps(policy, places, bundle, grade.protection),
+    );
+    steps::first_of(steps::bundle_steps(places, bundle), after)
 }
 
 // The acceptance, unless a step fails.
@@ -127,12 +146,17 @@ fn unless_failed(f: Failure, a: Acceptance) -> Verdict
 }
 
 // Approach 2. The policy is the bundle's, and not looked for again.
-fn judge_policy(policy: Policy, bundle: &[u8], acl: &[u8]) -> Verdict
-    requires { ⌜ policyAs policy ≡ policyOf (records (now bundle)) ⌝ }
+fn judge_policy(
+    policy: Policy,
+    places: &[usize; facts::ENTRIES],
+    bundle: &[u8],
+    acl: &[u8],
+) -> Verdict
+    requires { ⌜ (policyAs policy ≡ policyOf (records (now bundle))) × Found (now bundle) (now places) ⌝ }
     ensures { λ r. ⌜ replyOf r ≡ replyFor (unlessFailed (fullFailure (records (now (bundle .entry))) (aclOf (now (acl .entry)))) (approach2 (gradeOf (records (now (bundle .entry))) (aclOf (now (acl .entry)))))) ⌝ }
 {
-    let grade = grading::acl_grade(policy, bundle, acl);
-    let failure = full_steps(policy, bundle, grade);
+    let grade = grading::acl_grade(policy, places, bundle, acl);
+    let failure = full_steps(policy, places, bundle, grade);
     let acceptance = Acceptance {
         approach: 2,
         protection: protection_of(grade.protection),
@@ -142,8 +166,8 @@ fn judge_policy(policy: Policy, bundle: &[u8], acl: &[u8]) -> Verdict
 }
 
 // Approach 1.
-fn judge_generation(policy: Policy, bundle: &[u8]) -> Verdict
-    requires { ⌜ policyAs policy ≡ policyOf (records (now bundle)) ⌝ }
+fn judge_generation(policy: Policy, places: &[usize; facts::ENTRIES], bundle: &[u8]) -> Verdict
+    requires { ⌜ (policyAs policy ≡ policyOf (records (now bundle))) × Found (now bundle) (now places) ⌝ }
     ensures { λ r. ⌜ replyOf r ≡ replyFor (unlessFailed (basicFailure (records (now (bundle .entry)))) approach1) ⌝ }
 {
     let acceptance = Acceptance {
@@ -151,27 +175,29 @@ fn judge_generation(policy: Policy, bundle: &[u8]) -> Verdict
         protection: Protection::NotJudged,
         recoverable: false,
     };
-    unless_failed(steps::basic_steps(policy, bundle), acceptance)
+    unless_failed(steps::basic_steps(policy, places, bundle), acceptance)
 }
 
 // The steps of the approach that the policy names, for files that were read.
-fn judge_read(bundle: &[u8], acl: &[u8]) -> Verdict
+fn judge_read(places: &[usize; facts::ENTRIES], bundle: &[u8], acl: &[u8]) -> Verdict
+    requires { ⌜ Found (now bundle) (now places) ⌝ }
     ensures { λ r. ⌜ replyOf r ≡ replyFor (attested (records (now (bundle .entry))) (aclOf (now (acl .entry)))) ⌝ }
 {
-    let policy = facts::policy_of(bundle);
+    let policy = facts::policy_of(places, bundle);
     if policy.approach == 2 {
-        return judge_policy(policy, bundle, acl);
+        return judge_policy(policy, places, bundle, acl);
     }
-    judge_generation(policy, bundle)
+    judge_generation(policy, places, bundle)
 }
 
 // The verdict on a bundle and an ACL, whatever bytes they are.
 pub fn assess(bundle: &[u8], acl: &[u8]) -> Verdict
     ensures { λ r. ⌜ replyOf r ≡ replyFor (desk (now (bundle .entry)) (now (acl .entry))) ⌝ }
 {
-    let checked = read_both(bundle, acl);
+    let mut places = [0usize; facts::ENTRIES];
+    let checked = read_both(&mut places, bundle, acl);
     match checked {
-        Checked::Sound => judge_read(bundle, acl),
+        Checked::Sound => judge_read(&places, bundle, acl),
         Checked::Refused(r) => Verdict::Refused(r),
     }
 }

@@ -2,10 +2,12 @@
 // may be absent is a part of the bundle, empty where there is none.
 ghost use mathlib.Core.Path.{_≡_};
 ghost use mathlib.Core.Bool.{_||_};
+ghost use Prim.Native.Nat.{_<_};
 ghost use Rattle.rules.specs.Basics.{present, bothSame, records};
 ghost use Rattle.rules.specs.Bundle.{field, has, reported, isGood, good, policyOf};
 ghost use Rattle.rules.specs.Desk.{kmVouched, kmFipsVouched, kreVouched, moduleKey, recoveryKey, isListed, csrLinked};
 ghost use Rattle.facts.specs.Found.{outcomeOf, policyAs};
+ghost use Rattle.facts.specs.Places.{Found};
 ghost use Rattle.evidence.specs.Given.{given};
 use facts::Policy;
 use facts::Signature;
@@ -47,107 +49,125 @@ fn any_outcome(s: Signature) -> bool
 }
 
 // Whether signature n is reported, and good.
-pub fn is_good(n: u8, bundle: &[u8]) -> bool
+pub fn is_good(n: u8, places: &[usize; facts::ENTRIES], bundle: &[u8]) -> bool
+    requires { ⌜ (n < 8) × Found (now bundle) (now places) ⌝ }
     ensures { λ r. ⌜ r ≡ good n (records (now (bundle .entry))) ⌝ }
 {
-    good_outcome(facts::outcome(n, bundle))
+    good_outcome(facts::outcome(n, places, bundle))
 }
 
 // Whether signature n is reported, good or not.
-pub fn is_signed(n: u8, bundle: &[u8]) -> bool
+pub fn is_signed(n: u8, places: &[usize; facts::ENTRIES], bundle: &[u8]) -> bool
+    requires { ⌜ (n < 8) × Found (now bundle) (now places) ⌝ }
     ensures { λ r. ⌜ r ≡ reported n (records (now (bundle .entry))) ⌝ }
 {
-    any_outcome(facts::outcome(n, bundle))
+    any_outcome(facts::outcome(n, places, bundle))
 }
 
 // The content of field n; an empty part where the field is absent.
-pub fn field_of(n: u8, bundle: &[u8]) -> &[u8]
+pub fn field_of<'a>(n: u8, places: &[usize; facts::ENTRIES], bundle: &'a [u8]) -> &'a [u8]
+    requires { ⌜ (n < 16) × Found (now bundle) (now places) ⌝ }
     ensures { λ r. ⌜ given (now r) ≡ field n (records (now (bundle .entry))) ⌝ }
 {
-    facts::content(n, bundle)
+    facts::content(n, places, bundle)
 }
 
 // Whether field n is there.
-pub fn has_field(n: u8, bundle: &[u8]) -> bool
+pub fn has_field(n: u8, places: &[usize; facts::ENTRIES], bundle: &[u8]) -> bool
+    requires { ⌜ (n < 16) × Found (now bundle) (now places) ⌝ }
     ensures { λ r. ⌜ r ≡ has n (records (now (bundle .entry))) ⌝ }
 {
-    is_there(field_of(n, bundle))
+    is_there(field_of(n, places, bundle))
 }
 
 // Whether two fields are both there and equal.
-pub fn same_fields(m: u8, n: u8, bundle: &[u8]) -> bool
+pub fn same_fields(m: u8, n: u8, places: &[usize; facts::ENTRIES], bundle: &[u8]) -> bool
+    requires { ⌜ (m < 16) × (n < 16) × Found (now bundle) (now places) ⌝ }
     ensures { λ r. ⌜ r ≡ bothSame (field m (records (now (bundle .entry)))) (field n (records (now (bundle .entry)))) ⌝ }
 {
-    both_same(field_of(m, bundle), field_of(n, bundle))
+    both_same(field_of(m, places, bundle), field_of(n, places, bundle))
 }
 
 // What certificate 3 vouches with: the officer's key, the module key and its confirmation.
-pub fn km_vouched(bundle: &[u8]) -> bool
+pub fn km_vouched(places: &[usize; facts::ENTRIES], bundle: &[u8]) -> bool
+    requires { ⌜ Found (now bundle) (now places) ⌝ }
     ensures { λ r. ⌜ r ≡ kmVouched (records (now (bundle .entry))) ⌝ }
 {
-    is_good(3, bundle) & has_field(5, bundle) & has_field(6, bundle) & has_field(12, bundle)
+    is_good(3, places, bundle)
+        & has_field(5, places, bundle)
+        & has_field(6, places, bundle)
+        & has_field(12, places, bundle)
 }
 
 // Certificate 4: as certificate 3, with the FIPS key.
-pub fn km_fips_vouched(bundle: &[u8]) -> bool
+pub fn km_fips_vouched(places: &[usize; facts::ENTRIES], bundle: &[u8]) -> bool
+    requires { ⌜ Found (now bundle) (now places) ⌝ }
     ensures { λ r. ⌜ r ≡ kmFipsVouched (records (now (bundle .entry))) ⌝ }
 {
-    is_good(4, bundle)
-        & has_field(5, bundle)
-        & has_field(6, bundle)
-        & has_field(12, bundle)
-        & has_field(13, bundle)
+    is_good(4, places, bundle)
+        & has_field(5, places, bundle)
+        & has_field(6, places, bundle)
+        & has_field(12, places, bundle)
+        & has_field(13, places, bundle)
 }
 
 // Certificate 5: the officer's key, the recovery key and its authorisation.
-pub fn kre_vouched(bundle: &[u8]) -> bool
+pub fn kre_vouched(places: &[usize; facts::ENTRIES], bundle: &[u8]) -> bool
+    requires { ⌜ Found (now bundle) (now places) ⌝ }
     ensures { λ r. ⌜ r ≡ kreVouched (records (now (bundle .entry))) ⌝ }
 {
-    is_good(5, bundle) & has_field(5, bundle) & has_field(7, bundle) & has_field(11, bundle)
+    is_good(5, places, bundle)
+        & has_field(5, places, bundle)
+        & has_field(7, places, bundle)
+        & has_field(11, places, bundle)
 }
 
 // Whether certificate 3 or 4 vouches for the module key. The second is looked for only where the first does not.
-fn km_trusted(bundle: &[u8]) -> bool
+fn km_trusted(places: &[usize; facts::ENTRIES], bundle: &[u8]) -> bool
+    requires { ⌜ Found (now bundle) (now places) ⌝ }
     ensures { λ r. ⌜ r ≡ (kmVouched (records (now (bundle .entry))) || kmFipsVouched (records (now (bundle .entry)))) ⌝ }
 {
-    if km_vouched(bundle) {
+    if km_vouched(places, bundle) {
         return true;
     }
-    km_fips_vouched(bundle)
+    km_fips_vouched(places, bundle)
 }
 
 // The module key, where a world certificate vouches for it: that it is listed is not enough. An empty part where it is not trusted.
-pub fn module_key(bundle: &[u8]) -> &[u8]
+pub fn module_key<'a>(places: &[usize; facts::ENTRIES], bundle: &'a [u8]) -> &'a [u8]
+    requires { ⌜ Found (now bundle) (now places) ⌝ }
     ensures { λ r. ⌜ given (now r) ≡ moduleKey (records (now (bundle .entry))) ⌝ }
 {
-    if km_trusted(bundle) {
-        return field_of(6, bundle);
+    if km_trusted(places, bundle) {
+        return field_of(6, places, bundle);
     }
     &bundle[0..0]
 }
 
 // The recovery key, where its certificate vouches for it; an empty part where it is not trusted.
-pub fn recovery_key(bundle: &[u8]) -> &[u8]
+pub fn recovery_key<'a>(places: &[usize; facts::ENTRIES], bundle: &'a [u8]) -> &'a [u8]
+    requires { ⌜ Found (now bundle) (now places) ⌝ }
     ensures { λ r. ⌜ given (now r) ≡ recoveryKey (records (now (bundle .entry))) ⌝ }
 {
-    if kre_vouched(bundle) {
-        return field_of(7, bundle);
+    if kre_vouched(places, bundle) {
+        return field_of(7, places, bundle);
     }
     &bundle[0..0]
 }
 
 // Whether the module key, if it is there, is listed.
-pub fn module_key_listed(bundle: &[u8]) -> bool
+pub fn module_key_listed(places: &[usize; facts::ENTRIES], bundle: &[u8]) -> bool
+    requires { ⌜ Found (now bundle) (now places) ⌝ }
     ensures { λ r. ⌜ r ≡ isListed (field 6 (records (now (bundle .entry)))) (records (now (bundle .entry))) ⌝ }
 {
-    let key = field_of(6, bundle);
+    let key = field_of(6, places, bundle);
     !is_there(key) | facts::is_listed(key, bundle)
 }
 
 // Whether the CSR, if the policy says that one is in use, is for the key.
-pub fn csr_linked(policy: Policy, bundle: &[u8]) -> bool
-    requires { ⌜ policyAs policy ≡ policyOf (records (now bundle)) ⌝ }
+pub fn csr_linked(policy: Policy, places: &[usize; facts::ENTRIES], bundle: &[u8]) -> bool
+    requires { ⌜ (policyAs policy ≡ policyOf (records (now bundle))) × Found (now bundle) (now places) ⌝ }
     ensures { λ r. ⌜ r ≡ csrLinked (records (now (bundle .entry))) ⌝ }
 {
-    !policy.csr | same_fields(10, 9, bundle)
+    !policy.csr | same_fields(10, 9, places, bundle)
 }

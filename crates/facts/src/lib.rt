@@ -2,11 +2,12 @@
 // stand there, and the file may or may not have been tested.
 ghost use mathlib.Core.Path.{_≡_};
 ghost use Prim.Native.Nat.{_<_};
-ghost use lib.ListN.{length};
+ghost use lib.ListN.{length, replicate};
 ghost use Rattle.rules.specs.Sizes.{recordBytes};
 ghost use Rattle.rules.specs.Basics.{bit, records};
-ghost use Rattle.rules.specs.Bundle.{firstRecord, numbered, field, lists, listed, signatureOutcome, policyRecord, policyOf};
+ghost use Rattle.rules.specs.Bundle.{firstRecord, field, lists, listed, signatureOutcome, policyOf};
 ghost use Rattle.facts.specs.Found.{orEmpty, outcomeOf, policyAs};
+ghost use Rattle.facts.specs.Places.{entries, unasked, entryOf, entered, Found};
 
 // The outcome of a signature that a bundle reports.
 pub enum Signature {
@@ -25,47 +26,64 @@ pub struct Policy {
     pub lowest: u8,
 }
 
-// Whether a record is of a kind and number.
-fn is_numbered(kind: u8, number: u8, rec: &[u8]) -> bool
-    requires { ⌜ length (now rec) ≡ recordBytes ⌝ }
-    ensures { λ r. ⌜ r ≡ numbered kind number (now (rec .entry)) ⌝ }
+// The entries of a table of places, and those of the policy and of records of which nothing is asked.
+pub const ENTRIES: usize = 26;
+
+const POLICY: usize = 24;
+
+const UNASKED: usize = 25;
+
+// The entry of a record of a kind and number: fact n has entry n, signature outcome n entry 16 + n.
+fn entry(kind: u8, number: u8) -> usize
+    ensures { λ r. ⌜ r ≡ entryOf kind number ⌝ }
 {
-    (rec[0] == kind) & (rec[4] == number)
+    if (kind == 10) & (number < 16) {
+        return number as usize;
+    }
+    if (kind == 11) & (number < 8) {
+        return 16 + (number as usize);
+    }
+    if kind == 12 {
+        return POLICY;
+    }
+    UNASKED
 }
 
-// The first record of a kind and number; an empty part where there is none.
-fn first_numbered(kind: u8, number: u8, s: &[u8]) -> &[u8]
-    ensures { λ r. ⌜ now r ≡ orEmpty (firstRecord (numbered kind number) (records (now (s .entry)))) ⌝ }
+// Where the records stand that are asked for: of those of an entry the byte at which the first ends, 0 where there is none. One walk finds them all.
+pub fn find_places(places: &mut [usize; ENTRIES], bundle: &[u8])
+    requires { ⌜ now places ≡ replicate entries 0 ⌝ }
+    ensures { λ _. ⌜ Found (now (bundle .entry)) (now (places .exit)) ⌝ }
 {
     let mut at = 0;
-    while sizes::RECORD <= s.len() - at {
-        if is_numbered(kind, number, &s[at..at + sizes::RECORD]) {
-            return &s[at..at + sizes::RECORD];
+    while sizes::RECORD <= bundle.len() - at {
+        let i = entry(bundle[at], bundle[at + 4]);
+        if places[i] != 0 {
+            at += sizes::RECORD;
+            continue;
         }
+        places[i] = at + sizes::RECORD;
         at += sizes::RECORD;
     }
-    &s[0..0]
 }
 
-// The first policy record; an empty part where there is none.
-fn first_policy(s: &[u8]) -> &[u8]
-    ensures { λ r. ⌜ now r ≡ orEmpty (firstRecord policyRecord (records (now (s .entry)))) ⌝ }
+// The first record of an entry; an empty part where there is none.
+fn first_entered<'a>(i: usize, places: &[usize; ENTRIES], bundle: &'a [u8]) -> &'a [u8]
+    requires { ⌜ (i < unasked) × Found (now bundle) (now places) ⌝ }
+    ensures { λ r. ⌜ now r ≡ orEmpty (firstRecord (entered i) (records (now (bundle .entry)))) ⌝ }
 {
-    let mut at = 0;
-    while sizes::RECORD <= s.len() - at {
-        if s[at] == 12 {
-            return &s[at..at + sizes::RECORD];
-        }
-        at += sizes::RECORD;
+    let end = places[i];
+    if end == 0 {
+        return &bundle[0..0];
     }
-    &s[0..0]
+    &bundle[end - sizes::RECORD..end]
 }
 
 // The content of field n; an empty part where the field is absent.
-pub fn content(n: u8, bundle: &[u8]) -> &[u8]
+pub fn content<'a>(n: u8, places: &[usize; ENTRIES], bundle: &'a [u8]) -> &'a [u8]
+    requires { ⌜ (n < 16) × Found (now bundle) (now places) ⌝ }
     ensures { λ r. ⌜ now r ≡ orEmpty (field n (records (now (bundle .entry)))) ⌝ }
 {
-    let rec = first_numbered(10, n, bundle);
+    let rec = first_entered(n as usize, places, bundle);
     if rec.len() < sizes::RECORD {
         return &rec[0..0];
     }
@@ -73,10 +91,11 @@ pub fn content(n: u8, bundle: &[u8]) -> &[u8]
 }
 
 // The outcome of signature n.
-pub fn outcome(n: u8, bundle: &[u8]) -> Signature
+pub fn outcome(n: u8, places: &[usize; ENTRIES], bundle: &[u8]) -> Signature
+    requires { ⌜ (n < 8) × Found (now bundle) (now places) ⌝ }
     ensures { λ r. ⌜ outcomeOf r ≡ signatureOutcome n (records (now (bundle .entry))) ⌝ }
 {
-    let rec = first_numbered(11, n, bundle);
+    let rec = first_entered(16 + (n as usize), places, bundle);
     if rec.len() < sizes::RECORD {
         return Signature::Absent;
     }
@@ -95,10 +114,11 @@ fn bit_of_byte(b: u16, n: u8) -> bool
 }
 
 // The policy; all zero where there is none.
-pub fn policy_of(bundle: &[u8]) -> Policy
+pub fn policy_of(places: &[usize; ENTRIES], bundle: &[u8]) -> Policy
+    requires { ⌜ Found (now bundle) (now places) ⌝ }
     ensures { λ r. ⌜ policyAs r ≡ policyOf (records (now (bundle .entry))) ⌝ }
 {
-    let rec = first_policy(bundle);
+    let rec = first_entered(POLICY, places, bundle);
     if rec.len() < sizes::RECORD {
         return Policy {
             suite: 0,
@@ -125,7 +145,10 @@ fn is_listing(key: &[u8], rec: &[u8]) -> bool
     requires { ⌜ length (now rec) ≡ recordBytes ⌝ }
     ensures { λ r. ⌜ r ≡ lists (now (key .entry)) (now (rec .entry)) ⌝ }
 {
-    is_numbered(10, 14, rec) & fields::same_bytes(&rec[8..28], key)
+    if !((rec[0] == 10) & (rec[4] == 14)) {
+        return false;
+    }
+    fields::same_bytes(&rec[8..28], key)
 }
 
 // Whether a module key is listed.

@@ -7,6 +7,7 @@ ghost use Rattle.rules.specs.Basics.{records};
 ghost use Rattle.rules.specs.Acl.{actionOf, aclOf};
 ghost use Rattle.rules.specs.Bundle.{policyOf};
 ghost use Rattle.facts.specs.Found.{policyAs};
+ghost use Rattle.facts.specs.Places.{Found};
 ghost use Rattle.evidence.specs.Given.{given};
 ghost use Rattle.grading.specs.Grades.{gradedAs, both, noActions, actionGraded, groupsGraded, aclGraded};
 use facts::Policy;
@@ -93,12 +94,17 @@ fn groups_grade(officer: &[u8], policy: Policy, hkm: &[u8], hkre: &[u8], acl: &[
 }
 
 // What an ACL comes to by a bundle and its policy. The keys are looked for once, not for each action.
-pub fn acl_grade(policy: Policy, bundle: &[u8], acl: &[u8]) -> Grade
-    requires { ⌜ policyAs policy ≡ policyOf (records (now bundle)) ⌝ }
+pub fn acl_grade(
+    policy: Policy,
+    places: &[usize; facts::ENTRIES],
+    bundle: &[u8],
+    acl: &[u8],
+) -> Grade
+    requires { ⌜ (policyAs policy ≡ policyOf (records (now bundle))) × Found (now bundle) (now places) ⌝ }
     ensures { λ r. ⌜ gradedAs r ≡ aclGraded (records (now (bundle .entry))) (aclOf (now (acl .entry))) ⌝ }
 {
-    let officer = evidence::field_of(4, bundle);
-    let hkm = evidence::module_key(bundle);
-    let hkre = evidence::recovery_key(bundle);
+    let officer = evidence::field_of(4, places, bundle);
+    let hkm = evidence::module_key(places, bundle);
+    let hkre = evidence::recovery_key(places, bundle);
     groups_grade(officer, policy, hkm, hkre, acl)
 }

@@ -4,6 +4,7 @@ ghost use Rattle.rules.specs.Basics.{orNext, records};
 ghost use Rattle.rules.specs.Bundle.{policyOf};
 ghost use Rattle.rules.specs.Desk.{beforeAcl, basicFailure};
 ghost use Rattle.facts.specs.Found.{policyAs};
+ghost use Rattle.facts.specs.Places.{Found};
 ghost use Rattle.steps.specs.Steps.{stepOf, stepNumber, failureOf, warrantFailure, stateFailure, worldFailure, keyFailure, csrFailure};
 use facts::Policy;
 
@@ -78,92 +79,100 @@ pub fn first_of(a: Failure, b: Failure) -> Failure
 }
 
 // The warrant and the module's state, as both approaches ask for them.
-fn warrant_steps(bundle: &[u8]) -> Failure
+fn warrant_steps(places: &[usize; facts::ENTRIES], bundle: &[u8]) -> Failure
+    requires { ⌜ Found (now bundle) (now places) ⌝ }
     ensures { λ r. ⌜ failureOf r ≡ warrantFailure (records (now (bundle .entry))) ⌝ }
 {
-    if !(evidence::is_good(1, bundle) & evidence::has_field(1, bundle)) {
+    if !(evidence::is_good(1, places, bundle) & evidence::has_field(1, places, bundle)) {
         return Failure::At(Step::WV1);
     }
-    if !evidence::is_good(2, bundle) {
+    if !evidence::is_good(2, places, bundle) {
         return Failure::At(Step::MSCV1);
     }
-    if !(evidence::has_field(2, bundle) & evidence::has_field(3, bundle)) {
+    if !(evidence::has_field(2, places, bundle) & evidence::has_field(3, places, bundle)) {
         return Failure::At(Step::MSCV2);
     }
     Failure::Nothing
 }
 
 // The rest of the module's state: its ESN, the officer's key, the module key.
-fn state_steps(bundle: &[u8]) -> Failure
+fn state_steps(places: &[usize; facts::ENTRIES], bundle: &[u8]) -> Failure
+    requires { ⌜ Found (now bundle) (now places) ⌝ }
     ensures { λ r. ⌜ failureOf r ≡ stateFailure (records (now (bundle .entry))) ⌝ }
 {
-    if !evidence::same_fields(1, 2, bundle) {
+    if !evidence::same_fields(1, 2, places, bundle) {
         return Failure::At(Step::MSCV3);
     }
-    if !(!evidence::has_field(5, bundle) | evidence::same_fields(5, 4, bundle)) {
+    if !(!evidence::has_field(5, places, bundle) | evidence::same_fields(5, 4, places, bundle)) {
         return Failure::At(Step::MSCV4);
     }
-    if !evidence::module_key_listed(bundle) {
+    if !evidence::module_key_listed(places, bundle) {
         return Failure::At(Step::MSCV5);
     }
     Failure::Nothing
 }
 
 // The world certificates: one that is reported has to vouch.
-fn world_steps(bundle: &[u8]) -> Failure
+fn world_steps(places: &[usize; facts::ENTRIES], bundle: &[u8]) -> Failure
+    requires { ⌜ Found (now bundle) (now places) ⌝ }
     ensures { λ r. ⌜ failureOf r ≡ worldFailure (records (now (bundle .entry))) ⌝ }
 {
-    if !(!evidence::is_signed(3, bundle) | evidence::km_vouched(bundle)) {
+    if !(!evidence::is_signed(3, places, bundle) | evidence::km_vouched(places, bundle)) {
         return Failure::At(Step::WBCV1);
     }
-    if !(!evidence::is_signed(4, bundle) | evidence::km_fips_vouched(bundle)) {
+    if !(!evidence::is_signed(4, places, bundle) | evidence::km_fips_vouched(places, bundle)) {
         return Failure::At(Step::WBCV2);
     }
-    if !(!evidence::is_signed(5, bundle) | evidence::kre_vouched(bundle)) {
+    if !(!evidence::is_signed(5, places, bundle) | evidence::kre_vouched(places, bundle)) {
         return Failure::At(Step::WBCV3);
     }
     Failure::Nothing
 }
 
 // The key's generation.
-fn key_steps(bundle: &[u8]) -> Failure
+fn key_steps(places: &[usize; facts::ENTRIES], bundle: &[u8]) -> Failure
+    requires { ⌜ Found (now bundle) (now places) ⌝ }
     ensures { λ r. ⌜ failureOf r ≡ keyFailure (records (now (bundle .entry))) ⌝ }
 {
-    if !evidence::is_good(6, bundle) {
+    if !evidence::is_good(6, places, bundle) {
         return Failure::At(Step::KGCV1);
     }
-    if !evidence::same_fields(8, 9, bundle) {
+    if !evidence::same_fields(8, 9, places, bundle) {
         return Failure::At(Step::KGCV2);
     }
     Failure::Nothing
 }
 
 // The link between CSR and key.
-pub fn csr_step(policy: Policy, bundle: &[u8]) -> Failure
-    requires { ⌜ policyAs policy ≡ policyOf (records (now bundle)) ⌝ }
+pub fn csr_step(policy: Policy, places: &[usize; facts::ENTRIES], bundle: &[u8]) -> Failure
+    requires { ⌜ (policyAs policy ≡ policyOf (records (now bundle))) × Found (now bundle) (now places) ⌝ }
     ensures { λ r. ⌜ failureOf r ≡ csrFailure (records (now (bundle .entry))) ⌝ }
 {
-    if !evidence::csr_linked(policy, bundle) {
+    if !evidence::csr_linked(policy, places, bundle) {
         return Failure::At(Step::CSRL1);
     }
     Failure::Nothing
 }
 
 // Approach 2, up to the ACL.
-pub fn bundle_steps(bundle: &[u8]) -> Failure
+pub fn bundle_steps(places: &[usize; facts::ENTRIES], bundle: &[u8]) -> Failure
+    requires { ⌜ Found (now bundle) (now places) ⌝ }
     ensures { λ r. ⌜ failureOf r ≡ beforeAcl (records (now (bundle .entry))) ⌝ }
 {
-    let module = first_of(warrant_steps(bundle), state_steps(bundle));
-    first_of(module, first_of(world_steps(bundle), key_steps(bundle)))
+    let module = first_of(warrant_steps(places, bundle), state_steps(places, bundle));
+    first_of(
+        module,
+        first_of(world_steps(places, bundle), key_steps(places, bundle)),
+    )
 }
 
 // Approach 1, whole.
-pub fn basic_steps(policy: Policy, bundle: &[u8]) -> Failure
-    requires { ⌜ policyAs policy ≡ policyOf (records (now bundle)) ⌝ }
+pub fn basic_steps(policy: Policy, places: &[usize; facts::ENTRIES], bundle: &[u8]) -> Failure
+    requires { ⌜ (policyAs policy ≡ policyOf (records (now bundle))) × Found (now bundle) (now places) ⌝ }
     ensures { λ r. ⌜ failureOf r ≡ basicFailure (records (now (bundle .entry))) ⌝ }
 {
     first_of(
-        warrant_steps(bundle),
-        first_of(key_steps(bundle), csr_step(policy, bundle)),
+        warrant_steps(places, bundle),
+        first_of(key_steps(places, bundle), csr_step(policy, places, bundle)),
     )
 }

@@ -1,4 +1,4 @@
-use Rattle.desk.proofs.Laws.{bad-lengths, good-lengths}
+use Rattle.desk.proofs.Laws.{bad-lengths, good-lengths, refused}
 use borrow.Author.Needs.{needs}
 use Rattle.desk.proofs.read_both.Statement.{statement}
 use Rattle.desk.proofs.read_both.Tie as tie
@@ -10,7 +10,10 @@ whole-requires-2 : tie.Need-whole-requires-2
 whole-requires-2 c κs = search needs
 
 returns : tie.Need-returns
-returns c = bad-lengths _ _ _ _ (c .before .before .whole .ensures) (c .before .whole2 .ensures) (c .if1 .taken)
+returns c = (bad-lengths _ _ _ _ (c .before .before .whole .ensures) (c .before .whole2 .ensures) (c .if1 .taken), λ z. refused _ z)
+
+find-places-requires : tie.Need-find-places-requires
+find-places-requires c κs = search needs
 
 bundle-records-requires : tie.Need-bundle-records-requires
 bundle-records-requires c κs = search needs
@@ -29,9 +32,12 @@ first-fault-requires-2 c κs = search needs
 
 returns-2 : tie.Need-returns-2
 returns-2 c =
-    let l = c .before .before .before .before .before in
-    good-lengths _ _ _ _ (l .before .before .whole .ensures) (l .before .whole2 .ensures) _ _ _ _ _ (l .if1 .left) (c .first-fault2 .ensures) (c .before .first-fault .ensures)
-    (c .before .before .before .before .bundle-records .ensures) (c .before .before .before .acl-records .ensures) (c .before .before .suite-known .ensures)
+    let b = c .before .before .before .before .before in
+    let l = b .before .before .before in (
+      good-lengths _ _ _ _ (l .before .before .whole .ensures) (l .before .whole2 .ensures) _ _ _ _ _ (l .if1 .left) (c .first-fault2 .ensures) (c .before .first-fault .ensures)
+          (b .bundle-records .ensures) (c .before .before .before .before .acl-records .ensures) (c .before .before .suite-known .ensures),
+      λ z. b .before .find-places .ensures,
+    )
 
 pub read-both-spec : {M : Type 1} → statement M
 read-both-spec =
@@ -40,6 +46,7 @@ read-both-spec =
     whole-requires
     whole-requires-2
     returns
+    find-places-requires
     bundle-records-requires
     acl-records-requires
     suite-known-requires

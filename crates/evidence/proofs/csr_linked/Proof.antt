@@ -7,7 +7,7 @@ same-fields-requires : tie.Need-same-fields-requires
 same-fields-requires c κs = search needs
 
 returns : tie.Need-returns
-returns c = policy-asks _ _ _ _ (c .before .before .before .pre) (c .same-fields .ensures)
+returns c = policy-asks _ _ _ _ (c .before .before .before .pre .0) (c .same-fields .ensures)
 
 pub csr-linked-spec : {M : Type 1} → statement M
 csr-linked-spec = tie.close (tie.spec same-fields-requires returns)

@@ -3,8 +3,8 @@ use borrow.Author.Needs.{needs}
 use Rattle.facts.proofs.content.Statement.{statement}
 use Rattle.facts.proofs.content.Tie as tie
 
-first-numbered-requires : tie.Need-first-numbered-requires
-first-numbered-requires c κs = search needs
+first-entered-requires : tie.Need-first-entered-requires
+first-entered-requires c κs = search needs
 
 sub-result : tie.Need-sub-result
 sub-result c = search needs
@@ -34,7 +34,7 @@ pub content-spec : {M : Type 1} → statement M
 content-spec =
     tie.close
     (tie.spec
-    first-numbered-requires
+    first-entered-requires
     sub-result
     part-result-start
     part-result-end

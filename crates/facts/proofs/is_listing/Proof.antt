@@ -1,10 +1,16 @@
-use Rattle.rules.specs.Bundle.{lists}
+use Rattle.facts.proofs.Laws.{lists-not, lists-if}
 use borrow.Author.Needs.{needs}
 use Rattle.facts.proofs.is_listing.Statement.{statement}
 use Rattle.facts.proofs.is_listing.Tie as tie
 
-is-numbered-requires : tie.Need-is-numbered-requires
-is-numbered-requires c κs = search needs
+shared-slice-read-if1 : tie.Need-shared-slice-read-if1
+shared-slice-read-if1 c = search needs
+
+shared-slice-read-if1-2 : tie.Need-shared-slice-read-if1-2
+shared-slice-read-if1-2 c = search needs
+
+returns : tie.Need-returns
+returns c = search (needs, lists-not)
 
 sub-same-bytes : tie.Need-sub-same-bytes
 sub-same-bytes c = search needs
@@ -18,17 +24,18 @@ part-same-bytes-end c = search needs
 same-bytes-requires : tie.Need-same-bytes-requires
 same-bytes-requires c κs = search needs
 
-returns : tie.Need-returns
-unfolding lists
-returns c = cc
+returns-2 : tie.Need-returns-2
+returns-2 c = search (needs, lists-if)
 
 pub is-listing-spec : {M : Type 1} → statement M
 is-listing-spec =
     tie.close
     (tie.spec
-    is-numbered-requires
+    shared-slice-read-if1
+    shared-slice-read-if1-2
+    returns
     sub-same-bytes
     part-same-bytes-start
     part-same-bytes-end
     same-bytes-requires
-    returns)
+    returns-2)

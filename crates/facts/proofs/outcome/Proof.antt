@@ -3,8 +3,11 @@ use borrow.Author.Needs.{needs}
 use Rattle.facts.proofs.outcome.Statement.{statement}
 use Rattle.facts.proofs.outcome.Tie as tie
 
-first-numbered-requires : tie.Need-first-numbered-requires
-first-numbered-requires c κs = search needs
+add-first-entered : tie.Need-add-first-entered
+add-first-entered c = search needs
+
+first-entered-requires : tie.Need-first-entered-requires
+first-entered-requires c κs = search needs
 
 returns : tie.Need-returns
 returns c = search (needs, outcome-none)
@@ -20,4 +23,11 @@ returns-3 c = search (needs, outcome-bad)
 
 pub outcome-spec : {M : Type 1} → statement M
 outcome-spec =
-    tie.close (tie.spec first-numbered-requires returns shared-slice-read-if2 returns-2 returns-3)
+    tie.close
+    (tie.spec
+    add-first-entered
+    first-entered-requires
+    returns
+    shared-slice-read-if2
+    returns-2
+    returns-3)

@@ -18,7 +18,7 @@ groups-grade-requires c κs = search needs
 returns : tie.Need-returns
 returns c =
     let s = c .before .before .before .before .before .before in
-    acl-from _ _ _ _ _ _ _ (c .before .before .before .field-of .ensures) (s .pre) (c .before .before .module-key .ensures)
+    acl-from _ _ _ _ _ _ _ (c .before .before .before .field-of .ensures) (s .pre .0) (c .before .before .module-key .ensures)
     (c .before .recovery-key .ensures) (c .groups-grade .ensures)
 
 pub acl-grade-spec : {M : Type 1} → statement M
