@@ -1,13 +1,13 @@
 -- What the tests of this crate come to in the definitions' terms.
 use Prim.Native.Nat.{ℕ, _+_}
-use mathlib.Core.Path.{_≡_, refl, sym, _∙_}
+use mathlib.Core.Path.{_≡_, refl, sym}
 use mathlib.Core.Option.{none, some}
-use mathlib.Core.Bool.{Bool, true, false, not, _&&_, _||_}
+use mathlib.Core.Bool.{Bool, true, false, not, _&&_}
 use lib.Dec.{eqb, ltb}
-use borrow.Author.Tests.{eq-eqb, ne-eqb, not-true, not-false}
+use borrow.Author.Tests.{not-true, not-false}
 use Rattle.rules.specs.Numbers.{malformed}
 use Rattle.rules.specs.Sizes.{listedMax}
-use Rattle.rules.specs.Basics.{Bytes, recordFault}
+use Rattle.rules.specs.Basics.{if_then_else_, Bytes, implies, recordFault}
 use Rattle.rules.specs.Bundle.{BundlePlace, orderOf, inOrder, listedOrder, policyOrder, bundleRecordLaidOut, bundleInPlace, bundleHasRoom, bundleRecordFault, listedAfter, afterBundleRecord, bundleEnd}
 
 -- the fault of a record by its two tests
@@ -21,17 +21,13 @@ module _ (r : Bytes) (order : ℕ) (e : order ≡ orderOf r) where
   unfolding bundleInPlace
   placed last a b p q = rw (p, q, e)
 
-  pub roomy : (listed : ℕ) → (not (eqb order listedOrder) || ltb listed listedMax) ≡ bundleHasRoom listed r
+  pub roomy : (listed : ℕ) (t : Bool) → t ≡ implies (eqb order listedOrder) (ltb listed listedMax) → t ≡ bundleHasRoom listed r
   unfolding bundleHasRoom
-  roomy listed = rw e
+  roomy listed t p = rw (← e) p
 
-  pub listed-met : (listed : ℕ) → order ≡ listedOrder → listed + 1 ≡ listedAfter listed r
+  pub listed-is : (listed n : ℕ) → n ≡ (if eqb order listedOrder then listed + 1 else listed) → n ≡ listedAfter listed r
   unfolding listedAfter
-  listed-met listed h = sym (rw (eq-eqb (orderOf r) listedOrder (sym e ∙ h)))
-
-  pub listed-kept : (listed : ℕ) → (order ≡ listedOrder → ⊥) → listed ≡ listedAfter listed r
-  unfolding listedAfter
-  listed-kept listed h = sym (rw (ne-eqb (orderOf r) listedOrder (λ d. h (e ∙ d))))
+  listed-is listed n p = rw (← e) p
 
 -- where reading stands after a record, from its two numbers
 pub bundle-next : (s : BundlePlace) (r : Bytes) (last listed : ℕ) → last ≡ orderOf r → listed ≡ listedAfter (s .listed) r

@@ -2,9 +2,10 @@
 ghost use mathlib.Core.Path.{_≡_};
 ghost use Prim.Native.Nat.{_+_, _*_, _≤_, _<_};
 ghost use lib.ListN.{length};
-ghost use Rattle.rules.specs.Sizes.{recordBytes};
-ghost use Rattle.rules.specs.Basics.{records};
-ghost use Rattle.rules.specs.Bundle.{orderOf, inOrder, bundleRecordLaidOut, bundleInPlace, bundleHasRoom, listedAfter, bundleFault};
+ghost use lib.Dec.{eqb, ltb};
+ghost use Rattle.rules.specs.Sizes.{recordBytes, listedMax};
+ghost use Rattle.rules.specs.Basics.{if_then_else_, implies, records};
+ghost use Rattle.rules.specs.Bundle.{orderOf, listedOrder, inOrder, bundleRecordLaidOut, bundleInPlace, bundleFault};
 ghost use Rattle.files.specs.Faults.{faultOf};
 use files::Checked;
 use refusals::Refusal;
@@ -58,28 +59,26 @@ fn follows(last: u16, next: u16) -> bool
     (last < next) | ((last == LISTED_ORDER) & (next == LISTED_ORDER))
 }
 
-// Whether a record is well formed and may follow the place `last`.
-fn in_place(last: u16, rec: &[u8]) -> bool
-    requires { ⌜ length (now rec) ≡ recordBytes ⌝ }
+// Whether a record is well formed and its place `here` may follow the place `last`.
+fn in_place(last: u16, here: u16, rec: &[u8]) -> bool
+    requires { ⌜ (here ≡ orderOf (now rec)) × (length (now rec) ≡ recordBytes) ⌝ }
     ensures { λ r. ⌜ r ≡ bundleInPlace last (now (rec .entry)) ⌝ }
 {
-    bundle_record(rec) & follows(last, record_order(rec))
+    bundle_record(rec) & follows(last, here)
 }
 
-// Whether there is room for a record after `listed` records of field 14.
-fn has_room(listed: usize, rec: &[u8]) -> bool
-    requires { ⌜ length (now rec) ≡ recordBytes ⌝ }
-    ensures { λ r. ⌜ r ≡ bundleHasRoom listed (now (rec .entry)) ⌝ }
+// Whether there is room for a record at the place `here` after `listed` records of field 14.
+fn has_room(listed: usize, here: u16) -> bool
+    ensures { λ r. ⌜ r ≡ implies (eqb here listedOrder) (ltb listed listedMax) ⌝ }
 {
-    !(record_order(rec) == LISTED_ORDER) | (listed < sizes::LISTED)
+    !(here == LISTED_ORDER) | (listed < sizes::LISTED)
 }
 
 // How many records of field 14 there are with one record more.
-fn listed_after(listed: usize, rec: &[u8]) -> usize
-    requires { ⌜ (listed < 18446744073709551615) × (length (now rec) ≡ recordBytes) ⌝ }
-    ensures { λ r. ⌜ (r ≡ listedAfter listed (now (rec .entry))) × (r ≤ listed + 1) ⌝ }
+fn listed_after(listed: usize, here: u16) -> usize
+    requires { ⌜ listed < 18446744073709551615 ⌝ }
+    ensures { λ r. ⌜ (r ≡ (if eqb here listedOrder then listed + 1 else listed)) × (r ≤ listed + 1) ⌝ }
 {
-    let here = record_order(rec);
     if here == LISTED_ORDER {
         return listed + 1;
     }
@@ -95,14 +94,15 @@ pub fn bundle_records(bundle: &[u8]) -> Checked
     let mut at = 0;
     while sizes::RECORD <= bundle.len() - at {
         let rec = &bundle[at..at + sizes::RECORD];
-        if !in_place(last, rec) {
+        let here = record_order(rec);
+        if !in_place(last, here, rec) {
             return Checked::Refused(Refusal::Malformed);
         }
-        if !has_room(listed, rec) {
+        if !has_room(listed, here) {
             return Checked::Refused(Refusal::TooMany);
         }
-        listed = listed_after(listed, rec);
-        last = record_order(rec);
+        listed = listed_after(listed, here);
+        last = here;
         at += sizes::RECORD;
     }
     if !(last == POLICY_ORDER) {

@@ -6,9 +6,6 @@ use Rattle.bundle.proofs.in_place.Tie as tie
 bundle-record-requires : tie.Need-bundle-record-requires
 bundle-record-requires c κs = search needs
 
-record-order-requires : tie.Need-record-order-requires
-record-order-requires c κs = search needs
-
 follows-requires : tie.Need-follows-requires
 follows-requires c κs = search needs
 
@@ -16,5 +13,4 @@ returns : tie.Need-returns
 returns c = search (needs, placed)
 
 pub in-place-spec : {M : Type 1} → statement M
-in-place-spec =
-    tie.close (tie.spec bundle-record-requires record-order-requires follows-requires returns)
+in-place-spec = tie.close (tie.spec bundle-record-requires follows-requires returns)
