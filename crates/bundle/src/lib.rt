@@ -1,11 +1,11 @@
 // A bundle file: its first fault.
 ghost use mathlib.Core.Path.{_≡_};
-ghost use Prim.Native.Nat.{_+_, _*_, _≤_, _<_};
+ghost use Prim.Native.Nat.{_+_, _*_};
 ghost use lib.ListN.{length};
-ghost use lib.Dec.{eqb, ltb};
-ghost use Rattle.rules.specs.Sizes.{recordBytes, listedMax};
-ghost use Rattle.rules.specs.Basics.{if_then_else_, implies, records};
-ghost use Rattle.rules.specs.Bundle.{orderOf, listedOrder, inOrder, bundleRecordLaidOut, bundleInPlace, bundleFault};
+ghost use lib.Dec.{eqb};
+ghost use Rattle.rules.specs.Sizes.{recordBytes};
+ghost use Rattle.rules.specs.Basics.{if_then_else_, records};
+ghost use Rattle.rules.specs.Bundle.{orderOf, listedOrder, bundleRecordLaidOut, bundleInPlace, bundleFault};
 ghost use Rattle.files.specs.Faults.{faultOf};
 use files::Checked;
 use refusals::Refusal;
@@ -52,37 +52,22 @@ fn bundle_record(rec: &[u8]) -> bool
     false
 }
 
-// Whether one place may follow another: it rises, or both are field 14.
-fn follows(last: u16, next: u16) -> bool
-    ensures { λ r. ⌜ r ≡ inOrder last next ⌝ }
-{
-    (last < next) | ((last == LISTED_ORDER) & (next == LISTED_ORDER))
-}
-
-// Whether a record is well formed and its place `here` may follow the place `last`.
-fn in_place(last: u16, here: u16, rec: &[u8]) -> bool
-    requires { ⌜ (here ≡ orderOf (now rec)) × (length (now rec) ≡ recordBytes) ⌝ }
-    ensures { λ r. ⌜ r ≡ bundleInPlace last (now (rec .entry)) ⌝ }
-{
-    bundle_record(rec) & follows(last, here)
-}
-
-// Whether there is room for a record at the place `here` after `listed` records of field 14.
-fn has_room(listed: usize, here: u16) -> bool
-    ensures { λ r. ⌜ r ≡ implies (eqb here listedOrder) (ltb listed listedMax) ⌝ }
-{
-    !(here == LISTED_ORDER) | (listed < sizes::LISTED)
-}
-
-// How many records of field 14 there are with one record more.
-fn listed_after(listed: usize, here: u16) -> usize
-    requires { ⌜ listed < 18446744073709551615 ⌝ }
-    ensures { λ r. ⌜ (r ≡ (if eqb here listedOrder then listed + 1 else listed)) × (r ≤ listed + 1) ⌝ }
+// 1 at the place of field 14, which alone may repeat, else 0.
+fn repeats(here: u16) -> u16
+    ensures { λ r. ⌜ r ≡ (if eqb here listedOrder then 1 else 0) ⌝ }
 {
     if here == LISTED_ORDER {
-        return listed + 1;
+        return 1;
     }
-    listed
+    0
+}
+
+// Whether a record is well formed and its place `here` may follow the place `last`: it rises, or both are field 14.
+fn in_place(last: u16, here: u16, again: u16, rec: &[u8]) -> bool
+    requires { ⌜ (here ≡ orderOf (now rec)) × (again ≡ (if eqb here listedOrder then 1 else 0)) × (length (now rec) ≡ recordBytes) ⌝ }
+    ensures { λ r. ⌜ r ≡ bundleInPlace last (now (rec .entry)) ⌝ }
+{
+    bundle_record(rec) & (last < here + again)
 }
 
 // The first fault of a bundle's records, from the first on; 2 before 3 within a record; a bundle without a policy gives 2 at its end.
@@ -95,13 +80,14 @@ pub fn bundle_records(bundle: &[u8]) -> Checked
     while sizes::RECORD <= bundle.len() - at {
         let rec = &bundle[at..at + sizes::RECORD];
         let here = record_order(rec);
-        if !in_place(last, here, rec) {
+        let again = repeats(here);
+        if !in_place(last, here, again, rec) {
             return Checked::Refused(Refusal::Malformed);
         }
-        if !has_room(listed, here) {
+        listed += again as usize;
+        if sizes::LISTED < listed {
             return Checked::Refused(Refusal::TooMany);
         }
-        listed = listed_after(listed, here);
         last = here;
         at += sizes::RECORD;
     }

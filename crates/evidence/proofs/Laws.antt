@@ -80,3 +80,15 @@ implies-is r s a b p q = rw (p, q)
 -- a policy that asks for a test
 pub policy-asks : (p q : Policy) (r a : Bool) → p ≡ q → r ≡ a → (not (p .csr) || r) ≡ implies (q .csr) a
 policy-asks p q r a e f = rw (e, f)
+
+-- a certificate that is good, and what it vouches with
+module _ (good a b c : Bool) (r s : Bool) (e : r ≡ good) (f : s ≡ (a && b && c)) where
+  pub vouched-is : (r && s) ≡ (good && a && b && c)
+  vouched-is = rw (e, f) (pick good)
+    where
+      pick : (g : Bool) → (g && (a && b && c)) ≡ (g && a && b && c)
+      pick true = refl
+      pick false = refl
+
+  pub vouched-more : (d t : Bool) → t ≡ d → (r && s && t) ≡ (good && a && b && c && d)
+  vouched-more d t h = rw (vouched-is, h)

@@ -1,7 +1,7 @@
 // What a bundle gives evidence of: fields that are there and equal, signatures that are good, and the keys that world certificates vouch for. A hash that
 // may be absent is a part of the bundle, empty where there is none.
 ghost use mathlib.Core.Path.{_≡_};
-ghost use mathlib.Core.Bool.{_||_};
+ghost use mathlib.Core.Bool.{_&&_, _||_};
 ghost use Prim.Native.Nat.{_<_};
 ghost use Rattle.rules.specs.Basics.{present, bothSame, records};
 ghost use Rattle.rules.specs.Bundle.{field, has, reported, isGood, good, policyOf};
@@ -88,27 +88,28 @@ pub fn same_fields(m: u8, n: u8, places: &[usize; facts::ENTRIES], bundle: &[u8]
     both_same(field_of(m, places, bundle), field_of(n, places, bundle))
 }
 
-// What certificate 3 vouches with: the officer's key, the module key and its confirmation.
+// What certificates 3 and 4 both vouch with: the officer's key, the module key and its confirmation.
+fn km_confirmed(places: &[usize; facts::ENTRIES], bundle: &[u8]) -> bool
+    requires { ⌜ Found (now bundle) (now places) ⌝ }
+    ensures { λ r. ⌜ r ≡ (has 5 (records (now (bundle .entry))) && has 6 (records (now (bundle .entry))) && has 12 (records (now (bundle .entry)))) ⌝ }
+{
+    has_field(5, places, bundle) & has_field(6, places, bundle) & has_field(12, places, bundle)
+}
+
+// Certificate 3.
 pub fn km_vouched(places: &[usize; facts::ENTRIES], bundle: &[u8]) -> bool
     requires { ⌜ Found (now bundle) (now places) ⌝ }
     ensures { λ r. ⌜ r ≡ kmVouched (records (now (bundle .entry))) ⌝ }
 {
-    is_good(3, places, bundle)
-        & has_field(5, places, bundle)
-        & has_field(6, places, bundle)
-        & has_field(12, places, bundle)
+    is_good(3, places, bundle) & km_confirmed(places, bundle)
 }
 
-// Certificate 4: as certificate 3, with the FIPS key.
+// Certificate 4: with the FIPS key too.
 pub fn km_fips_vouched(places: &[usize; facts::ENTRIES], bundle: &[u8]) -> bool
     requires { ⌜ Found (now bundle) (now places) ⌝ }
     ensures { λ r. ⌜ r ≡ kmFipsVouched (records (now (bundle .entry))) ⌝ }
 {
-    is_good(4, places, bundle)
-        & has_field(5, places, bundle)
-        & has_field(6, places, bundle)
-        & has_field(12, places, bundle)
-        & has_field(13, places, bundle)
+    is_good(4, places, bundle) & km_confirmed(places, bundle) & has_field(13, places, bundle)
 }
 
 // Certificate 5: the officer's key, the recovery key and its authorisation.

@@ -160,10 +160,8 @@ pub fn bundle_steps(places: &[usize; facts::ENTRIES], bundle: &[u8]) -> Failure
     ensures { λ r. ⌜ failureOf r ≡ beforeAcl (records (now (bundle .entry))) ⌝ }
 {
     let module = first_of(warrant_steps(places, bundle), state_steps(places, bundle));
-    first_of(
-        module,
-        first_of(world_steps(places, bundle), key_steps(places, bundle)),
-    )
+    let world = first_of(world_steps(places, bundle), key_steps(places, bundle));
+    first_of(module, world)
 }
 
 // Approach 1, whole.

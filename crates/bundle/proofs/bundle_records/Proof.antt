@@ -1,16 +1,17 @@
 use Prim.Native.Nat.{_≤_, _-_}
 use mathlib.Core.Path.{_≡_, refl}
 use lib.ListN.{length}
+use Rattle.rules.specs.Sizes.{listedMax}
 use Rattle.rules.specs.Basics.{records, scan}
 use Rattle.rules.specs.Bundle.{bundleRecordFault, afterBundleRecord, bundleEnd, bundleFault}
-use Rattle.rules.proofs.Rows.{recordsFrom, scan-stop, scan-next, scan-done, bad-record, full-record, sound-record}
-use Rattle.bundle.proofs.Laws.{bundle-is, roomy, listed-is, bundle-next, end-bad, end-sound}
+use Rattle.rules.proofs.Rows.{recordsFrom, scan-stop, scan-next, scan-done}
+use Rattle.bundle.proofs.Laws.{bundle-bad, bundle-full, bundle-sound, bundle-next, listed-is, end-bad, end-sound}
 use borrow.Author.Needs.{needs}
 use Rattle.bundle.proofs.bundle_records.Statement.{statement}
 use Rattle.bundle.proofs.bundle_records.Tie as tie
 
 abbrev Inv-loop : tie.InvT-loop
-Inv-loop bundle last₀ listed₀ at₀ last listed at = (at ≤ length bundle) × ((listed ≤ at) × (scan bundleRecordFault afterBundleRecord bundleEnd (record { last = last; listed = listed }) (recordsFrom bundle at) ≡ bundleFault (records bundle)))
+Inv-loop bundle last₀ listed₀ at₀ last listed at = (at ≤ length bundle) × ((listed ≤ listedMax) × (scan bundleRecordFault afterBundleRecord bundleEnd (record { last = last; listed = listed }) (recordsFrom bundle at) ≡ bundleFault (records bundle)))
 
 abbrev μ-loop : tie.MeasureT-loop
 μ-loop bundle last₀ listed₀ at₀ last listed at = length bundle - at
@@ -37,30 +38,23 @@ part-rec-end c = search needs
 record-order-requires : tie.Need-record-order-requires Inv-loop μ-loop
 record-order-requires c κs = search needs
 
+repeats-requires : tie.Need-repeats-requires Inv-loop μ-loop
+repeats-requires c κs = search needs
+
 in-place-requires : tie.Need-in-place-requires Inv-loop μ-loop
 in-place-requires c κs = search needs
 
 returns : tie.Need-returns Inv-loop μ-loop
-returns c =
-    let l = c .before .before .before .before in
-    let b = bad-record _ _ _ _ (bundle-is _ _) (c .before .in-place .ensures) (c .if1 .taken) in
-    scan-stop _ _ _ _ _ _ _ (l .before .loop .inv .1 .1) _ (l .loop-test .taken) b
+returns c = search (needs, scan-stop, bundle-bad)
 
-has-room-requires : tie.Need-has-room-requires Inv-loop μ-loop
-has-room-requires c κs = search needs
+cast-listed : tie.Need-cast-listed Inv-loop μ-loop
+cast-listed c = search needs
+
+add-listed : tie.Need-add-listed Inv-loop μ-loop
+add-listed c = search needs
 
 returns-2 : tie.Need-returns-2 Inv-loop μ-loop
-returns-2 c =
-    let h = c .before in
-    let f = h .before in
-    let g = f .before in
-    let r = g .before in
-    let l = r .before .before in
-    let b = full-record _ _ _ _ (bundle-is _ _) (g .in-place .ensures) _ (roomy _ _ (r .record-order .ensures) _ _ (h .has-room .ensures)) (f .if1 .left) (c .if2 .taken) in
-    scan-stop _ _ _ _ _ _ _ (l .before .loop .inv .1 .1) _ (l .loop-test .taken) b
-
-listed-after-requires : tie.Need-listed-after-requires Inv-loop μ-loop
-listed-after-requires c κs = search needs
+returns-2 c = search (needs, scan-stop, bundle-full)
 
 add-at : tie.Need-add-at Inv-loop μ-loop
 add-at c = search needs
@@ -70,16 +64,17 @@ loop-less c = search needs
 
 loop-again : tie.Need-loop-again Inv-loop μ-loop
 loop-again c =
-    let e = c .before in
-    let h = e .before in
-    let f = h .before in
+    let f = c .before in
     let g = f .before in
-    let r = g .before in
+    let q = g .before in
+    let r = q .before in
     let l = r .before .before in
+    let i = l .before .loop .inv in
     let o = r .record-order .ensures in
-    let s = sound-record _ _ _ _ (bundle-is _ _) (g .in-place .ensures) _ (roomy _ _ o _ _ (h .has-room .ensures)) (f .if1 .left) (e .if2 .left) in
-    let n = bundle-next (record { last = l .before .loop .last; listed = l .before .loop .listed }) _ _ _ o (listed-is _ _ o _ _ (c .listed-after .ensures .0)) in
-    (search needs, (search needs, scan-next _ _ _ _ _ _ _ (l .before .loop .inv .1 .1) _ (l .loop-test .taken) s n))
+    let a = q .repeats .ensures in
+    let s = bundle-sound _ _ _ o a _ _ _ (g .in-place .ensures) (i .1 .0) (f .if1 .left) (c .if2 .left) in
+    let n = bundle-next (record { last = l .before .loop .last; listed = l .before .loop .listed }) _ _ _ o (listed-is _ _ _ o a _) in
+    (search needs, (search needs, scan-next _ _ _ _ _ _ _ (i .1 .1) _ (l .loop-test .taken) s n))
 
 returns-3 : tie.Need-returns-3 Inv-loop μ-loop
 returns-3 c = search (needs, scan-done, end-bad)
@@ -100,11 +95,12 @@ bundle-records-spec =
     part-rec-start
     part-rec-end
     record-order-requires
+    repeats-requires
     in-place-requires
     returns
-    has-room-requires
+    cast-listed
+    add-listed
     returns-2
-    listed-after-requires
     add-at
     loop-less
     loop-again

@@ -1,5 +1,5 @@
 use Rattle.rules.specs.Desk.{kmVouched}
-use Rattle.rules.proofs.Choices.{and-is}
+use Rattle.evidence.proofs.Laws.{vouched-is}
 use borrow.Author.Needs.{needs}
 use Rattle.evidence.proofs.km_vouched.Statement.{statement}
 use Rattle.evidence.proofs.km_vouched.Tie as tie
@@ -7,25 +7,12 @@ use Rattle.evidence.proofs.km_vouched.Tie as tie
 is-good-requires : tie.Need-is-good-requires
 is-good-requires c κs = search needs
 
-has-field-requires : tie.Need-has-field-requires
-has-field-requires c κs = search needs
-
-has-field-requires-2 : tie.Need-has-field-requires-2
-has-field-requires-2 c κs = search needs
-
-has-field-requires-3 : tie.Need-has-field-requires-3
-has-field-requires-3 c κs = search needs
+km-confirmed-requires : tie.Need-km-confirmed-requires
+km-confirmed-requires c κs = search needs
 
 returns : tie.Need-returns
 unfolding kmVouched
-returns c = search (needs, and-is)
+returns c = search (needs, vouched-is)
 
 pub km-vouched-spec : {M : Type 1} → statement M
-km-vouched-spec =
-    tie.close
-    (tie.spec
-    is-good-requires
-    has-field-requires
-    has-field-requires-2
-    has-field-requires-3
-    returns)
+km-vouched-spec = tie.close (tie.spec is-good-requires km-confirmed-requires returns)
