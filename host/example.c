@@ -1,4 +1,5 @@
-/* Prints an ACL as text and reads the text back, asks the gate for every request record of a day, then the desk for a verdict:
+/* Prints an ACL as text and reads the text back, asks the gate for every request record of a day, then serves two keys under that
+ * ACL from one cabinet, where they share its counters, and asks the desk for a verdict:
  *     example KM0 ACL REQUESTS BUNDLE BUNDLE_ACL */
 #include <stdio.h>
 #include <stdlib.h>
@@ -48,19 +49,55 @@ static void print_listing(const file *acl)
     printf("a leading zero: refused %llu, line %llu\n", (unsigned long long)l.number, (unsigned long long)l.line);
 }
 
+/* The reply of the gate or of a cabinet. */
+static void print_reply(uint64_t answer, uint64_t number, uint64_t group)
+{
+    printf("%s %llu", answer == AKUBOLINFE_PERMITTED ? "permit" : "refuse", (unsigned long long)number);
+    if (answer == AKUBOLINFE_REFUSED && group != AKUBOLINFE_NO_GROUP)
+        printf(" %llu", (unsigned long long)group);
+    printf("\n");
+}
+
 static void print_day(const file *km0, const file *acl, const file *requests)
 {
     akubolinfe_ledger ledger = akubolinfe_load(akubolinfe_fresh(), 0).ledger;
     for (size_t at = 0; AKUBOLINFE_RECORD <= requests->length - at; at += AKUBOLINFE_RECORD) {
         akubolinfe_outcome o = akubolinfe_request(ledger, km0->bytes, km0->length, acl->bytes, acl->length,
                                                   requests->bytes + at, AKUBOLINFE_RECORD);
-        printf("%zu %s %llu", at / AKUBOLINFE_RECORD + 1, o.answer == AKUBOLINFE_PERMITTED ? "permit" : "refuse",
-               (unsigned long long)o.number);
-        if (o.answer == AKUBOLINFE_REFUSED && o.group != AKUBOLINFE_NO_GROUP)
-            printf(" %llu", (unsigned long long)o.group);
-        printf("\n");
+        printf("%zu ", at / AKUBOLINFE_RECORD + 1);
+        print_reply(o.answer, o.number, o.group);
         ledger = o.ledger;
     }
+}
+
+/* A request record to the key of a slot. */
+static akubolinfe_cabinet print_use(akubolinfe_cabinet cabinet, size_t slot, const file *km0, const file *acl,
+                                    const uint8_t *request)
+{
+    akubolinfe_cabinet_outcome o = akubolinfe_cabinet_request(cabinet, slot, km0->bytes, km0->length, acl->bytes, acl->length,
+                                                              request, AKUBOLINFE_RECORD);
+    printf("key %zu: ", slot);
+    print_reply(o.answer, o.number, o.group);
+    return o.cabinet;
+}
+
+/* Two keys under the same ACL, each asked for every request record in turn. The counts of the groups are each key's own; a counter
+ * that the ACL names is used up by both. */
+static void print_keys(const file *km0, const file *acl, const file *requests)
+{
+    akubolinfe_cabinet cabinet = akubolinfe_cabinet_fresh();
+    for (size_t slot = 0; slot < 2; slot++)
+        cabinet = akubolinfe_cabinet_load(cabinet, slot, 0).cabinet;
+    size_t at = 0;
+    for (; AKUBOLINFE_RECORD <= requests->length - at; at += AKUBOLINFE_RECORD)
+        for (size_t slot = 0; slot < 2; slot++)
+            cabinet = print_use(cabinet, slot, km0, acl, requests->bytes + at);
+    if (at == 0)
+        return;
+    printf("counter 3 is cleared at %lu\n", (unsigned long)cabinet.counters[3]);
+    cabinet = akubolinfe_cabinet_clear(cabinet, 3).cabinet;
+    print_use(cabinet, 1, km0, acl, requests->bytes + at - AKUBOLINFE_RECORD);
+    print_use(cabinet, AKUBOLINFE_SLOTS, km0, acl, requests->bytes);
 }
 
 static void print_verdict(const file *bundle, const file *acl)
@@ -85,6 +122,7 @@ int main(int count, char **names)
             return EXIT_FAILURE;
     print_listing(&files[1]);
     print_day(&files[0], &files[1], &files[2]);
+    print_keys(&files[0], &files[1], &files[2]);
     print_verdict(&files[3], &files[4]);
     return EXIT_SUCCESS;
 }

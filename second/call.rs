@@ -47,6 +47,15 @@ pub enum Call {
         text: Bytes,
         buffer: Bytes,
     },
+    FreshCabinet,
+    ClearShared {
+        counter: u64,
+    },
+    /// A load, request, narrowing or expansion in a slot of the cabinet.
+    InSlot {
+        slot: u64,
+        call: Box<Call>,
+    },
 }
 
 /// What the bytes of an argument hold.
@@ -83,6 +92,9 @@ impl Call {
             Call::Subject { .. } => 'S',
             Call::WriteListing { .. } => 'W',
             Call::ReadListing { .. } => 'T',
+            Call::FreshCabinet => 'f',
+            Call::ClearShared { .. } => 'c',
+            Call::InSlot { call, .. } => call.letter().to_ascii_lowercase(),
         }
     }
 
@@ -129,6 +141,12 @@ impl Call {
                 text: none(),
                 buffer: none(),
             },
+            b'f' => Call::FreshCabinet,
+            b'c' => Call::ClearShared { counter: 0 },
+            b'l' | b'r' | b'n' | b'x' => Call::InSlot {
+                slot: 0,
+                call: Box::new(Call::blank(letter.to_ascii_uppercase())?),
+            },
             _ => return None,
         })
     }
@@ -138,9 +156,9 @@ impl Call {
         use Argument::{Bytes, Number};
         use FileKind::{Acl, Buffer, Bundle, Hashes, Hints, Km0, NewAcl, Request, Text};
         match self {
-            Call::Fresh => Vec::new(),
+            Call::Fresh | Call::FreshCabinet => Vec::new(),
             Call::Load { time } => vec![Number(time)],
-            Call::Clear { counter } => vec![Number(counter)],
+            Call::Clear { counter } | Call::ClearShared { counter } => vec![Number(counter)],
             Call::Request { km0, acl, request } => {
                 vec![Bytes(Km0, km0), Bytes(Acl, acl), Bytes(Request, request)]
             }
@@ -182,6 +200,11 @@ impl Call {
             ],
             Call::WriteListing { acl, buffer } => vec![Bytes(Acl, acl), Bytes(Buffer, buffer)],
             Call::ReadListing { text, buffer } => vec![Bytes(Text, text), Bytes(Buffer, buffer)],
+            Call::InSlot { slot, call } => {
+                let mut arguments = vec![Number(slot)];
+                arguments.extend(call.arguments());
+                arguments
+            }
         }
     }
 }

@@ -11,7 +11,7 @@ impl Generator {
             .kinds
             .iter()
             .copied()
-            .filter(|letter| *letter != b'F')
+            .filter(|letter| !matches!(letter, b'F' | b'f'))
             .collect();
         if letters.is_empty() {
             return self.unknown_byte();
@@ -37,7 +37,7 @@ impl Generator {
     /// a stop as well.
     fn unknown_byte(&mut self) -> Bytes {
         let is_unknown = |byte: &u8| !self.kinds.contains(byte);
-        let choices: Vec<u8> = b"\x00\n 1EfGMQUYZr\x80\xffLCRNXDSWT"
+        let choices: Vec<u8> = b"\x00\n 1EdGMQUYZs\x80\xffLCRNXDSWTlcrnx"
             .iter()
             .copied()
             .filter(is_unknown)

@@ -4,20 +4,21 @@
 use std::io::{self, Write};
 
 use crate::acl::Acl;
-use crate::answer::{answer_call, Answer};
+use crate::answer::{Answer, State};
+use crate::cabinet::SLOTS;
 use crate::call::{Bytes, Call};
 use crate::encode;
 use crate::make_acl::Maker;
 use crate::make_desk::{DeskCase, FIRST_STEPS, STEPS};
 use crate::make_narrowing::{Narrowing, BREACHES};
-use crate::make_request::{Asking, FAR_TIME};
+use crate::make_request::{load_is_due, Asking, FAR_TIME};
 use crate::read_acl::read_acl;
 use crate::record::Hash;
 use crate::request::{EXPAND_ACL, REDUCE_ACL};
 use crate::script::write_call;
 
 /// How often each letter is drawn.
-const WEIGHTS: [(u8, u64); 10] = [
+const WEIGHTS: [(u8, u64); 16] = [
     (b'F', 12),
     (b'L', 60),
     (b'C', 45),
@@ -28,6 +29,12 @@ const WEIGHTS: [(u8, u64); 10] = [
     (b'S', 60),
     (b'W', 60),
     (b'T', 120),
+    (b'f', 6),
+    (b'l', 50),
+    (b'c', 30),
+    (b'r', 240),
+    (b'n', 80),
+    (b'x', 35),
 ];
 
 /// After so many refusals in a row the host takes another ACL.
@@ -42,10 +49,17 @@ struct Host {
 
 pub struct Generator {
     pub maker: Maker,
-    host: Host,
+    pub state: State,
+    /// One host for each slot of the cabinet, and one for the ledger.
+    hosts: Vec<Host>,
+    /// The place of the host that makes the call.
+    at: usize,
     pub kinds: Vec<u8>,
     pub seed: u64,
 }
+
+/// The place of the ledger's host, after those of the slots.
+const AT_LEDGER: usize = SLOTS;
 
 /// Writes a script of so many calls; a seed divisible by 16 adds an ending that stops the run.
 pub fn generate(output: &mut impl Write, seed: u64, calls: u64, kinds: &str) -> io::Result<()> {
@@ -61,45 +75,92 @@ pub fn generate(output: &mut impl Write, seed: u64, calls: u64, kinds: &str) -> 
 
 impl Generator {
     fn new(seed: u64, kinds: &str) -> Generator {
-        let kinds = kinds.as_bytes().to_vec();
-        let may_load = kinds.contains(&b'L') || kinds.contains(&b'F');
-        let mut maker = Maker::new(seed, may_load);
-        let host = Host {
-            km0: maker.some_km0(),
-            acl: Acl::default(),
-            refusals: 0,
-        };
+        let mut maker = Maker::new(seed, true);
+        let hosts = (0..=AT_LEDGER)
+            .map(|_| Host {
+                km0: maker.some_km0(),
+                acl: Acl::default(),
+                refusals: 0,
+            })
+            .collect();
         let mut generator = Generator {
             maker,
-            host,
-            kinds,
+            state: State::fresh(),
+            hosts,
+            at: AT_LEDGER,
+            kinds: kinds.as_bytes().to_vec(),
             seed,
         };
-        generator.take_another_acl();
+        for place in 0..=AT_LEDGER {
+            generator.go_to(place);
+            generator.take_another_acl();
+        }
         generator
     }
 
+    fn knows(&self, letters: &[u8]) -> bool {
+        letters.iter().any(|letter| self.kinds.contains(letter))
+    }
+
+    fn host(&mut self) -> &mut Host {
+        &mut self.hosts[self.at]
+    }
+
+    /// The next call is made by that host, on its ledger.
+    fn go_to(&mut self, place: usize) {
+        self.at = place;
+        if place == AT_LEDGER {
+            self.maker.ledger = self.state.ledger.clone();
+            self.maker.may_load = self.knows(b"LF");
+        } else {
+            self.maker.ledger = self.state.cabinet.ledger(place);
+            self.maker.may_load = self.knows(b"lf");
+        }
+    }
+
+    /// The host for a call of that letter. Slots whose clock has run far ahead are loaded first.
+    fn place_for(&mut self, letter: u8) -> usize {
+        if letter.is_ascii_uppercase() {
+            return AT_LEDGER;
+        }
+        let place = self.maker.random.place(SLOTS);
+        let favoured = self.maker.random.pick(&[place, place, 0, 3, 7]);
+        let due = |place: &usize| load_is_due(&self.state.cabinet.ledger(*place));
+        let wanted: Vec<usize> = (0..SLOTS)
+            .filter(|place| due(place) == (letter == b'l'))
+            .collect();
+        if wanted.is_empty() || self.maker.random.chance(15) || wanted.contains(&favoured) {
+            favoured
+        } else {
+            self.maker.random.pick(&wanted)
+        }
+    }
+
     fn take_another_acl(&mut self) {
-        self.host.km0 = self.maker.some_km0();
-        self.maker.km0 = self.host.km0;
+        self.maker.km0 = self.maker.some_km0();
         let mut acl = self.maker.acl();
         for permission in [REDUCE_ACL, EXPAND_ACL] {
             if self.maker.random.chance(80) {
                 self.maker.allow(&mut acl, permission);
             }
         }
-        self.host.acl = acl;
-        self.host.refusals = 0;
+        *self.host() = Host {
+            km0: self.maker.km0,
+            acl,
+            refusals: 0,
+        };
     }
 
-    /// Makes the next call and follows the ledger and the host's ACL by its answer.
+    /// Makes the next call and follows the state and the host's ACL by its answer.
     fn next_call(&mut self) -> Call {
-        if self.host.refusals > MOST_REFUSALS || self.maker.random.once_in(80) {
+        let letter = self.letter();
+        let place = self.place_for(letter);
+        self.go_to(place);
+        if self.host().refusals > MOST_REFUSALS || self.maker.random.once_in(80) {
             self.take_another_acl();
         }
-        let letter = self.letter();
         let (call, by_host) = self.make_call(letter);
-        let answer = answer_call(&mut self.maker.ledger, &mut call.clone());
+        let answer = self.state.answer(&mut call.clone());
         if by_host {
             self.follow(&call, answer);
         }
@@ -107,7 +168,7 @@ impl Generator {
     }
 
     fn letter(&mut self) -> u8 {
-        let due = self.maker.load_is_due();
+        let due = load_is_due(&self.state.ledger);
         let mut weights: Vec<(u64, u8)> = Vec::new();
         for (letter, weight) in WEIGHTS {
             if self.kinds.contains(&letter) {
@@ -119,13 +180,16 @@ impl Generator {
     }
 
     fn follow(&mut self, call: &Call, answer: Answer) {
+        if let Call::InSlot { call, .. } = call {
+            return self.follow(call, answer);
+        }
         if !matches!(answer, Answer::Permit(_)) {
-            self.host.refusals += 1;
+            self.host().refusals += 1;
             return;
         }
-        self.host.refusals = 0;
+        self.host().refusals = 0;
         if let Call::Narrow { new_acl, .. } | Call::Expand { new_acl, .. } = call {
-            self.host.acl = read_acl(new_acl).unwrap_or_default();
+            self.host().acl = read_acl(new_acl).unwrap_or_default();
         }
     }
 
@@ -134,11 +198,15 @@ impl Generator {
         let by_host = self.maker.random.chance(58);
         let call = match letter {
             b'F' => Call::Fresh,
+            b'f' => Call::FreshCabinet,
             b'L' => Call::Load {
                 time: self.load_time(),
             },
             b'C' => Call::Clear {
-                counter: self.maker.counter_to_clear(&self.host.acl),
+                counter: self.counter_to_clear(),
+            },
+            b'c' => Call::ClearShared {
+                counter: self.counter_to_clear(),
             },
             b'R' => self.request_call(by_host),
             b'N' => self.narrow_call(by_host),
@@ -146,9 +214,27 @@ impl Generator {
             b'D' => self.desk_call(),
             b'S' => self.maker.subject_call(),
             b'W' => self.maker.write_listing_call(),
-            _ => self.maker.read_listing_call(),
+            b'T' => self.maker.read_listing_call(),
+            _ => return self.call_in_slot(letter),
         };
         (call, by_host && matches!(letter, b'R' | b'N' | b'X'))
+    }
+
+    fn counter_to_clear(&mut self) -> u64 {
+        let acl = self.host().acl.clone();
+        self.maker.counter_to_clear(&acl)
+    }
+
+    /// The call of the upper-case letter in this slot; now and then in one that there is not.
+    fn call_in_slot(&mut self, letter: u8) -> (Call, bool) {
+        let (call, by_host) = self.make_call(letter.to_ascii_uppercase());
+        let slot = self.at as u64;
+        let random = &mut self.maker.random;
+        let none = [8, 8, 9, 255, 256 + slot, slot | 1 << 32, slot | 1 << 63];
+        let known = random.chance(94);
+        let slot = if known { slot } else { random.pick(&none) };
+        let call = Box::new(call);
+        (Call::InSlot { slot, call }, by_host && known)
     }
 
     /// Forwards, backwards, far ahead or nought; back from far ahead soon.
@@ -172,8 +258,8 @@ impl Generator {
     /// The ACL of a call: the host's, or one for this call alone.
     fn acl_for(&mut self, by_host: bool) -> Acl {
         if by_host {
-            self.maker.km0 = self.host.km0;
-            return self.host.acl.clone();
+            self.maker.km0 = self.host().km0;
+            return self.host().acl.clone();
         }
         self.maker.km0 = self.maker.some_km0();
         if self.maker.random.chance(10) {
@@ -355,7 +441,7 @@ fn request_file(asking: &Asking) -> Bytes {
 #[cfg(test)]
 mod tests {
     use super::*;
-    use crate::answer::{answer_script, tally_script};
+    use crate::run_script::{answer_script, tally_script};
     use crate::script::{read_call, Next, ALL_KINDS};
 
     fn script(seed: u64, calls: u64, kinds: &str) -> Bytes {
@@ -381,7 +467,8 @@ mod tests {
     #[test]
     fn only_the_letters_asked_for() {
         for kinds in [
-            "F", "L", "C", "R", "N", "X", "D", "S", "W", "T", "FLCR", "RN",
+            "F", "L", "C", "R", "N", "X", "D", "S", "W", "T", "f", "l", "c", "r", "n", "x",
+            "flcrnx", "FLCR", "RN",
         ] {
             let script = script(5, 60, kinds);
             let mut input = &script[..];
@@ -410,7 +497,7 @@ mod tests {
     fn every_answer_comes_up() {
         let mut tally = Vec::new();
         for seed in 1..=3 {
-            let script = script(seed, 3000, ALL_KINDS);
+            let script = script(seed, 5000, ALL_KINDS);
             tally_script(&mut &script[..], &mut tally, ALL_KINDS).unwrap();
         }
         let tally = String::from_utf8(tally).unwrap();
@@ -425,6 +512,21 @@ mod tests {
                 has(&format!(" {letter} refuse {number}"));
             }
             has(&format!(" {letter} permit"));
+            let in_slot = letter.to_ascii_lowercase();
+            for number in [1, 2, 4, 5, 6, 7, 12, 13] {
+                has(&format!(" {in_slot} refuse {number}"));
+            }
+            has(&format!(" {in_slot} permit"));
+        }
+        for answer in [
+            "f done",
+            "c done",
+            "c refuse 10",
+            "l done",
+            "l refuse 13",
+            "n refuse 8",
+        ] {
+            has(&format!(" {answer}"));
         }
         for letter in ["R", "N", "X", "D", "W"] {
             has(&format!(" {letter} refuse 12"));

@@ -36,14 +36,11 @@ impl Ledger {
         }
     }
 
-    /// "Clear: one named counter to zero." Refusal 10: a counter over 255.
     pub fn cleared(&self, counter: u64) -> Result<Ledger, Refusal> {
-        if counter >= COUNTERS as u64 {
-            return Err(Refusal::NoSuchNumber);
-        }
-        let mut ledger = self.clone();
-        ledger.counters[counter as usize] = 0;
-        Ok(ledger)
+        Ok(Ledger {
+            counters: cleared_counters(&self.counters, counter)?,
+            ..self.clone()
+        })
     }
 
     /// "Charged: own count and each named counter plus 1, last time set to the request's."
@@ -58,6 +55,19 @@ impl Ledger {
         ledger.last_time = time;
         ledger
     }
+}
+
+/// "Clear: one named counter to zero." Refusal 10: a counter over 255.
+pub fn cleared_counters(
+    counters: &[u32; COUNTERS],
+    counter: u64,
+) -> Result<[u32; COUNTERS], Refusal> {
+    if counter >= COUNTERS as u64 {
+        return Err(Refusal::NoSuchNumber);
+    }
+    let mut cleared = *counters;
+    cleared[counter as usize] = 0;
+    Ok(cleared)
 }
 
 #[cfg(test)]

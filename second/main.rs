@@ -4,6 +4,7 @@
 
 mod acl;
 mod answer;
+mod cabinet;
 mod call;
 mod certify;
 mod damage;
@@ -31,6 +32,7 @@ mod read_listing;
 mod record;
 mod replace;
 mod request;
+mod run_script;
 mod script;
 mod subject;
 
@@ -79,8 +81,8 @@ fn run(words: &[&str]) -> Result<(), String> {
         Some((seed, calls)) => {
             generate::generate(&mut output, number(seed)?, number(calls)?, kinds)
         }
-        None if command == "answer" => answer::answer_script(&mut input, &mut output, kinds),
-        None => answer::tally_script(&mut input, &mut output, kinds),
+        None if command == "answer" => run_script::answer_script(&mut input, &mut output, kinds),
+        None => run_script::tally_script(&mut input, &mut output, kinds),
     };
     outcome.map_err(|error| format!("{command}: {error}"))
 }

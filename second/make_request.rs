@@ -2,6 +2,7 @@
 
 use crate::acl::{Acl, Action, Group, MakeBlob, Sort, TokenParameters};
 use crate::gate::NULL_MODULE_KEY;
+use crate::ledger::Ledger;
 use crate::make_acl::{allows, Maker};
 use crate::record::Hash;
 use crate::request::{Asked, Presented, Request, Token};
@@ -272,12 +273,12 @@ impl Maker {
             _ => end.saturating_add(1),
         })
     }
+}
 
-    /// Whether the clock has run so far ahead that a load is due.
-    pub fn load_is_due(&self) -> bool {
-        let (load, last) = (self.ledger.load_time, self.ledger.last_time);
-        last >= FAR_TIME || last - load >= LONG_AFTER_LOAD
-    }
+/// Whether the clock has run so far ahead that a load is due.
+pub fn load_is_due(ledger: &Ledger) -> bool {
+    let (load, last) = (ledger.load_time, ledger.last_time);
+    last >= FAR_TIME || last - load >= LONG_AFTER_LOAD
 }
 
 #[cfg(test)]

@@ -27,6 +27,7 @@ pub enum Refusal {
     NoSuchNumber,
     NoSuchSuite,
     OpenArchive,
+    NoSuchSlot,
     /// The first line of a text, from 1, that is no line of a listing.
     NotALine {
         line: usize,
@@ -48,6 +49,7 @@ impl Refusal {
             Refusal::NoSuchNumber => 10,
             Refusal::NoSuchSuite => 11,
             Refusal::OpenArchive => 12,
+            Refusal::NoSuchSlot => 13,
             Refusal::NotALine { .. } => 15,
         }
     }

@@ -5,7 +5,7 @@ use std::io::{self, ErrorKind, Read, Write};
 use crate::call::{Argument, Bytes, Call};
 
 /// The letters of all calls.
-pub const ALL_KINDS: &str = "FLCRNXDSWT";
+pub const ALL_KINDS: &str = "FLCRNXDSWTflcrnx";
 /// "Bytes are a 4-byte big-endian length and then that many bytes, at most [...] 262,144".
 pub const LONGEST_BYTES: usize = 262_144;
 
@@ -151,6 +151,12 @@ mod tests {
                 text: b"group\n".to_vec(),
                 buffer: vec![3; 64],
             },
+            Call::FreshCabinet,
+            Call::ClearShared { counter: 8 },
+            Call::InSlot {
+                slot: 9,
+                call: Box::new(narrow_call()),
+            },
         ];
         let script: Bytes = calls.iter().flat_map(call_bytes).collect();
         let mut input = &script[..];
@@ -173,7 +179,7 @@ mod tests {
 
     #[test]
     fn unknown_bytes_and_long_lengths_stop() {
-        assert_eq!(read_call(&mut &b"f"[..], ALL_KINDS).unwrap(), Next::Stop);
+        assert_eq!(read_call(&mut &b"d"[..], ALL_KINDS).unwrap(), Next::Stop);
         assert_eq!(read_call(&mut &b"F"[..], "LR").unwrap(), Next::Stop);
         let longest = Call::Desk {
             bundle: vec![0; LONGEST_BYTES],

@@ -1,8 +1,9 @@
-/* Akubolinfe for C programs: the permission gate, the attestation desk, the subject writer, and ACLs as text.
+/* Akubolinfe for C programs: the permission gate, for one key and for a cabinet of eight, the attestation desk, the subject writer,
+ * and ACLs as text.
  *
  * Each function takes any bytes of any length; none has a condition. A run of bytes is a pointer and a length; where the
  * length is zero the pointer may be NULL. The runs of one call may overlap, except that a buffer that is written must not
- * overlap any other. Nothing is kept between calls: the ledger goes in by value and comes back. A refusal hands the ledger
+ * overlap any other. Nothing is kept between calls: the ledger, or the cabinet, goes in by value and comes back. A refusal hands it
  * back as it was and leaves the buffer. Link with libhost.a (`rt staticlib host`), x86-64 Linux. */
 #ifndef AKUBOLINFE_H
 #define AKUBOLINFE_H
@@ -16,6 +17,7 @@
 #define AKUBOLINFE_HASH 20
 #define AKUBOLINFE_GROUPS 64
 #define AKUBOLINFE_COUNTERS 256
+#define AKUBOLINFE_SLOTS 8
 #define AKUBOLINFE_ACL_BYTES 53248
 #define AKUBOLINFE_LISTING_BYTES 119872
 
@@ -59,6 +61,7 @@ typedef struct {
 #define AKUBOLINFE_OUT_OF_RANGE 10
 #define AKUBOLINFE_UNKNOWN_SUITE 11
 #define AKUBOLINFE_OPEN_ARCHIVE 12
+#define AKUBOLINFE_NO_SLOT 13
 #define AKUBOLINFE_NOT_LISTING 15
 
 /* The fresh ledger: all zero. */
@@ -85,6 +88,57 @@ akubolinfe_outcome akubolinfe_narrow(akubolinfe_ledger ledger, const uint8_t *km
 akubolinfe_outcome akubolinfe_expand(akubolinfe_ledger ledger, const uint8_t *km0, size_t km0_length, const uint8_t *acl,
                                      size_t acl_length, const uint8_t *request, size_t request_length,
                                      const uint8_t *new_acl, size_t new_acl_length);
+
+/* A slot of a cabinet: what a ledger has beside its counters. */
+typedef struct {
+    uint32_t counts[AKUBOLINFE_GROUPS];
+    uint64_t loaded;
+    uint64_t last;
+} akubolinfe_slot;
+
+/* A cabinet: eight keys, each with a slot, and the named counters, which all of them share. */
+typedef struct {
+    akubolinfe_slot slots[AKUBOLINFE_SLOTS];
+    uint32_t counters[AKUBOLINFE_COUNTERS];
+} akubolinfe_cabinet;
+
+/* The cabinet handed back, and the answer as in an `akubolinfe_outcome`. */
+typedef struct {
+    akubolinfe_cabinet cabinet;
+    uint64_t answer;
+    uint64_t number;
+    uint64_t group;
+} akubolinfe_cabinet_outcome;
+
+/* The fresh cabinet: all zero. */
+akubolinfe_cabinet akubolinfe_cabinet_fresh(void);
+
+/* The calls of a slot are those of a ledger, on the slot's counts and times and the shared counters; at each call the ACL of
+ * the slot's key is lent. No other slot changes. A slot over 7 is refused with 13, before anything else is looked at. */
+
+/* A load of a slot, at any time: its group counts zero, both its times set. */
+akubolinfe_cabinet_outcome akubolinfe_cabinet_load(akubolinfe_cabinet cabinet, size_t slot, uint64_t time);
+
+/* A clear of one named counter, 0 to 255, for every slot. */
+akubolinfe_cabinet_outcome akubolinfe_cabinet_clear(akubolinfe_cabinet cabinet, size_t counter);
+
+/* A request to a slot, as `akubolinfe_request`. */
+akubolinfe_cabinet_outcome akubolinfe_cabinet_request(akubolinfe_cabinet cabinet, size_t slot, const uint8_t *km0,
+                                                      size_t km0_length, const uint8_t *acl, size_t acl_length,
+                                                      const uint8_t *request, size_t request_length);
+
+/* A narrowing in a slot, as `akubolinfe_narrow`. */
+akubolinfe_cabinet_outcome akubolinfe_cabinet_narrow(akubolinfe_cabinet cabinet, size_t slot, const uint8_t *km0,
+                                                     size_t km0_length, const uint8_t *acl, size_t acl_length,
+                                                     const uint8_t *request, size_t request_length,
+                                                     const uint8_t *new_acl, size_t new_acl_length, const uint8_t *hints,
+                                                     size_t hints_length);
+
+/* An expansion in a slot, as `akubolinfe_expand`. */
+akubolinfe_cabinet_outcome akubolinfe_cabinet_expand(akubolinfe_cabinet cabinet, size_t slot, const uint8_t *km0,
+                                                     size_t km0_length, const uint8_t *acl, size_t acl_length,
+                                                     const uint8_t *request, size_t request_length,
+                                                     const uint8_t *new_acl, size_t new_acl_length);
 
 /* What a verdict's `answer` is. */
 #define AKUBOLINFE_ACCEPTED 1

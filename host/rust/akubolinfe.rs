@@ -1,5 +1,5 @@
 //! Akubolinfe for Rust programs: safe functions over the C surface (`host/include/akubolinfe.h`). Every function takes any
-//! bytes of any length; a refusal hands the ledger back as it was and leaves the buffer.
+//! bytes of any length; a refusal hands the ledger, or the cabinet, back as it was and leaves the buffer.
 #![allow(dead_code)]
 
 /// What was used: a count for each group, the named counters, the load time and the last time, in seconds.
@@ -12,9 +12,34 @@ pub struct Ledger {
     pub last: u64,
 }
 
+/// What a slot of a cabinet has of a ledger.
+#[repr(C)]
+#[derive(Clone, Copy, PartialEq, Eq, Debug)]
+pub struct Slot {
+    pub counts: [u32; 64],
+    pub loaded: u64,
+    pub last: u64,
+}
+
+/// Eight keys, each with a slot, and the named counters, which all of them share.
+#[repr(C)]
+#[derive(Clone, Copy, PartialEq, Eq, Debug)]
+pub struct Cabinet {
+    pub slots: [Slot; 8],
+    pub counters: [u32; 256],
+}
+
 #[repr(C)]
 struct RawOutcome {
     ledger: Ledger,
+    answer: u64,
+    number: u64,
+    group: u64,
+}
+
+#[repr(C)]
+struct RawCabinetOutcome {
+    cabinet: Cabinet,
     answer: u64,
     number: u64,
     group: u64,
@@ -84,6 +109,20 @@ extern "C" {
     fn akubolinfe_expand(
         l: Ledger, k: *const u8, kn: usize, a: *const u8, an: usize, r: *const u8, rn: usize, n: *const u8, nn: usize,
     ) -> RawOutcome;
+    fn akubolinfe_cabinet_fresh() -> Cabinet;
+    fn akubolinfe_cabinet_load(cabinet: Cabinet, slot: usize, time: u64) -> RawCabinetOutcome;
+    fn akubolinfe_cabinet_clear(cabinet: Cabinet, counter: usize) -> RawCabinetOutcome;
+    fn akubolinfe_cabinet_request(
+        c: Cabinet, s: usize, k: *const u8, kn: usize, a: *const u8, an: usize, r: *const u8, rn: usize,
+    ) -> RawCabinetOutcome;
+    fn akubolinfe_cabinet_narrow(
+        c: Cabinet, s: usize, k: *const u8, kn: usize, a: *const u8, an: usize, r: *const u8, rn: usize, n: *const u8,
+        nn: usize, h: *const u8, hn: usize,
+    ) -> RawCabinetOutcome;
+    fn akubolinfe_cabinet_expand(
+        c: Cabinet, s: usize, k: *const u8, kn: usize, a: *const u8, an: usize, r: *const u8, rn: usize, n: *const u8,
+        nn: usize,
+    ) -> RawCabinetOutcome;
     fn akubolinfe_desk(b: *const u8, bn: usize, a: *const u8, an: usize) -> RawVerdict;
     fn akubolinfe_subject(c: u64, s: u64, h: *const u8, hn: usize, b: *mut u8, bn: usize) -> RawWritten;
     fn akubolinfe_write_listing(a: *const u8, an: usize, b: *mut u8, bn: usize) -> RawListing;
@@ -103,13 +142,20 @@ fn ptr_mut(s: &mut [u8]) -> *mut u8 {
 // No group is named.
 const NO_GROUP: u64 = u64::MAX;
 
-fn told(o: RawOutcome) -> (Ledger, Reply) {
-    let reply = match o.answer {
+fn reply(answer: u64, number: u64, group: u64) -> Reply {
+    match answer {
         0 => Reply::Done,
-        1 => Reply::Permit(o.number),
-        _ => Reply::Refuse(o.number, Some(o.group).filter(|&g| g != NO_GROUP)),
-    };
-    (o.ledger, reply)
+        1 => Reply::Permit(number),
+        _ => Reply::Refuse(number, Some(group).filter(|&g| g != NO_GROUP)),
+    }
+}
+
+fn told(o: RawOutcome) -> (Ledger, Reply) {
+    (o.ledger, reply(o.answer, o.number, o.group))
+}
+
+fn kept(o: RawCabinetOutcome) -> (Cabinet, Reply) {
+    (o.cabinet, reply(o.answer, o.number, o.group))
 }
 
 impl Ledger {
@@ -148,6 +194,51 @@ impl Ledger {
     pub fn expand(self, km0: &[u8], acl: &[u8], req: &[u8], new: &[u8]) -> (Ledger, Reply) {
         told(unsafe {
             akubolinfe_expand(self, ptr(km0), km0.len(), ptr(acl), acl.len(), ptr(req), req.len(), ptr(new), new.len())
+        })
+    }
+}
+
+/// The calls of a slot are the ledger's, on the slot's counts and times and the shared counters; no other slot changes. A slot over 7 is refused
+/// with 13, before anything else is looked at.
+impl Cabinet {
+    /// The fresh cabinet: all zero.
+    pub fn fresh() -> Cabinet {
+        unsafe { akubolinfe_cabinet_fresh() }
+    }
+
+    /// A load of a slot, at any time.
+    pub fn load(self, slot: usize, time: u64) -> (Cabinet, Reply) {
+        kept(unsafe { akubolinfe_cabinet_load(self, slot, time) })
+    }
+
+    /// A clear of one named counter, for every slot.
+    pub fn clear(self, counter: usize) -> (Cabinet, Reply) {
+        kept(unsafe { akubolinfe_cabinet_clear(self, counter) })
+    }
+
+    /// A request to a slot.
+    pub fn request(self, slot: usize, km0: &[u8], acl: &[u8], req: &[u8]) -> (Cabinet, Reply) {
+        kept(unsafe {
+            akubolinfe_cabinet_request(self, slot, ptr(km0), km0.len(), ptr(acl), acl.len(), ptr(req), req.len())
+        })
+    }
+
+    /// A narrowing in a slot; if it is permitted the new ACL is in force there.
+    pub fn narrow(self, slot: usize, km0: &[u8], acl: &[u8], req: &[u8], new: &[u8], hints: &[u8]) -> (Cabinet, Reply) {
+        kept(unsafe {
+            akubolinfe_cabinet_narrow(
+                self, slot, ptr(km0), km0.len(), ptr(acl), acl.len(), ptr(req), req.len(), ptr(new), new.len(), ptr(hints),
+                hints.len(),
+            )
+        })
+    }
+
+    /// An expansion in a slot; if it is permitted the new ACL is in force there.
+    pub fn expand(self, slot: usize, km0: &[u8], acl: &[u8], req: &[u8], new: &[u8]) -> (Cabinet, Reply) {
+        kept(unsafe {
+            akubolinfe_cabinet_expand(
+                self, slot, ptr(km0), km0.len(), ptr(acl), acl.len(), ptr(req), req.len(), ptr(new), new.len(),
+            )
         })
     }
 }

@@ -1,12 +1,12 @@
 // Answers a replay script (docs/REPLAY.md) through the C surface, so that the linked library can be compared with the second
 // program: `second/compare` takes it in the place of the replay program. With `--cfg ordinary` it answers through the ordinary Rust
-// program of bench/ordinary instead, which has no listings.
+// program of bench/ordinary instead, which has neither cabinet nor listings.
 #[cfg_attr(ordinary, path = "../../bench/ordinary/mod.rs")]
 mod akubolinfe;
 
 use akubolinfe::{assess, write_subject, Ledger, Reply, Verdict};
 #[cfg(not(ordinary))]
-use akubolinfe::{read_listing, write_listing, NotListed};
+use akubolinfe::{read_listing, write_listing, Cabinet, NotListed};
 use std::io::{Read, Write};
 
 // The rest of a script.
@@ -44,16 +44,19 @@ fn table(name: &str, entries: &[u32]) -> String {
     s
 }
 
-fn told(ledger: &mut Ledger, (after, reply): (Ledger, Reply)) -> String {
-    *ledger = after;
-    let r = match reply {
+fn words(reply: Reply) -> String {
+    match reply {
         Reply::Done => "done".to_string(),
         Reply::Permit(g) => format!("permit {g}"),
         Reply::Refuse(n, None) => format!("refuse {n}"),
         Reply::Refuse(n, Some(g)) => format!("refuse {n} {g}"),
-    };
+    }
+}
+
+fn told(ledger: &mut Ledger, (after, reply): (Ledger, Reply)) -> String {
+    *ledger = after;
     let tables = table("counts", &ledger.counts) + &table("counters", &ledger.counters);
-    format!("{r} load {} last {}{tables}", ledger.loaded, ledger.last)
+    format!("{} load {} last {}{tables}", words(reply), ledger.loaded, ledger.last)
 }
 
 fn verdict(v: Verdict) -> String {
@@ -91,9 +94,37 @@ fn listing(s: &mut Script, made: fn(&[u8], &mut [u8]) -> Result<u64, NotListed>)
     })
 }
 
+// What is carried from call to call.
+struct State {
+    ledger: Ledger,
+    #[cfg(not(ordinary))]
+    cabinet: Cabinet,
+}
+
+// The cabinet's answer to one call, the slot called and the shared counters.
+#[cfg(not(ordinary))]
+fn cabinet_answer(letter: u8, s: &mut Script, cabinet: &mut Cabinet) -> Option<String> {
+    let c = *cabinet;
+    let first = if letter == b'f' { 0 } else { s.number()? as usize };
+    let (after, reply) = match letter {
+        b'f' => (Cabinet::fresh(), Reply::Done),
+        b'l' => c.load(first, s.number()?),
+        b'c' => c.clear(first),
+        b'r' => c.request(first, &s.run()?, &s.run()?, &s.run()?),
+        b'n' => c.narrow(first, &s.run()?, &s.run()?, &s.run()?, &s.run()?, &s.run()?),
+        _ => c.expand(first, &s.run()?, &s.run()?, &s.run()?, &s.run()?),
+    };
+    *cabinet = after;
+    let slot = after.slots.get(first).filter(|_| letter != b'f' && letter != b'c');
+    let called = slot.map_or(String::new(), |s| {
+        format!(" slot {first} load {} last {}{}", s.loaded, s.last, table("counts", &s.counts))
+    });
+    Some(words(reply) + &called + &table("counters", &after.counters))
+}
+
 // The answer to one call; none where the script cannot be read on.
-fn answer(letter: u8, s: &mut Script, ledger: &mut Ledger) -> Option<String> {
-    let l = *ledger;
+fn answer(letter: u8, s: &mut Script, state: &mut State) -> Option<String> {
+    let l = state.ledger;
     let outcome = match letter {
         b'F' => (Ledger::fresh(), Reply::Done),
         b'L' => l.load(s.number()?),
@@ -107,22 +138,28 @@ fn answer(letter: u8, s: &mut Script, ledger: &mut Ledger) -> Option<String> {
         b'W' => return listing(s, write_listing),
         #[cfg(not(ordinary))]
         b'T' => return listing(s, read_listing),
+        #[cfg(not(ordinary))]
+        b'f' | b'l' | b'c' | b'r' | b'n' | b'x' => return cabinet_answer(letter, s, &mut state.cabinet),
         _ => return None,
     };
-    Some(told(ledger, outcome))
+    Some(told(&mut state.ledger, outcome))
 }
 
 fn main() -> std::io::Result<()> {
     let mut s = Script { bytes: Vec::new(), at: 0 };
     std::io::stdin().read_to_end(&mut s.bytes)?;
     let mut out = std::io::BufWriter::new(std::io::stdout());
-    let mut ledger = Ledger::fresh();
+    let mut state = State {
+        ledger: Ledger::fresh(),
+        #[cfg(not(ordinary))]
+        cabinet: Cabinet::fresh(),
+    };
     let mut k = 0u64;
     while s.at < s.bytes.len() {
         k += 1;
         let letter = s.bytes[s.at];
         s.at += 1;
-        match answer(letter, &mut s, &mut ledger) {
+        match answer(letter, &mut s, &mut state) {
             Some(line) => writeln!(out, "{k} {line}")?,
             None => {
                 writeln!(out, "{k} stop")?;

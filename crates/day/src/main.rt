@@ -3,53 +3,7 @@
 use arguments::Input;
 use files::Checked;
 use gate::Ledger;
-use gate::Reply;
 use libc::STDERR_FILENO;
-use libc::STDOUT_FILENO;
-use refusals::Denial;
-use refusals::Refusal;
-
-fn print(text: &[u8]) {
-    io::write_all(STDOUT_FILENO, text);
-}
-
-fn print_number(n: u64) {
-    io::print_decimal(STDOUT_FILENO, n);
-}
-
-fn print_refusal(why: Refusal) {
-    print(b" refuse ");
-    print_number(refusals::number(why) as u64);
-}
-
-// A denial: its number and, where it names one, the group that came nearest.
-fn print_denial(why: Denial) {
-    print(b" refuse ");
-    print_number(refusals::denial_number(why) as u64);
-    match why {
-        Denial::Early => {}
-        Denial::Unadmitted => {}
-        Denial::Uncertified(place) => print_place(place),
-        Denial::Exhausted(place) => print_place(place),
-    }
-}
-
-fn print_place(place: usize) {
-    print(b" ");
-    print_number(place as u64);
-}
-
-fn print_reply(reply: Reply) {
-    match reply {
-        Reply::Done => print(b" done"),
-        Reply::Permit(place) => {
-            print(b" permit ");
-            print_number(place as u64);
-        }
-        Reply::Refuse(why) => print_refusal(why),
-        Reply::Deny(why) => print_denial(why),
-    }
-}
 
 // The ledger that the day starts with.
 fn loaded() -> Ledger {
@@ -61,9 +15,9 @@ fn loaded() -> Ledger {
 fn answer(k: u64, before: Ledger, km0: &[u8], acl: &[u8], rec: &[u8]) -> Ledger {
     let o = before.request(km0, acl, rec);
     let reply = o.reply;
-    print_number(k);
-    print_reply(reply);
-    print(b"\n");
+    printing::print_line(k);
+    outcomes::print_reply(reply);
+    printing::print(b"\n");
     o.ledger
 }
 
@@ -84,9 +38,9 @@ fn print_day(km0: &[u8], acl: &[u8], requests: &[u8]) {
     let fault = daybook::first_fault(km0, acl, requests);
     match fault {
         Checked::Refused(why) => {
-            print(b"0");
-            print_refusal(why);
-            print(b"\n");
+            printing::print_line(0);
+            printing::print_refusal(refusals::number(why) as u64);
+            printing::print(b"\n");
         }
         Checked::Sound => print_lines(km0, acl, requests),
     }

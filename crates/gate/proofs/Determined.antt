@@ -16,12 +16,12 @@ ledgerBack l = record { counts = l .counts; counters = l .counters; loaded = l .
 pub ledger-determined : (l m : Ledger) → ledgerOf l ≡ ledgerOf m → l ≡ m
 ledger-determined l m e = ap ledgerBack e
 
-abbrev replyBack : rulesGate.Answer → Reply
+abbrev pub replyBack : rulesGate.Answer → Reply
 replyBack rulesGate.done = Done
 replyBack (rulesGate.permit place) = Permit place
 replyBack (rulesGate.refuse n near) = if denies n then Deny (denialBack n near) else Refuse (refusalBack n)
 
-reply-back : (r : Reply) → replyBack (answerOf r) ≡ r
+pub reply-back : (r : Reply) → replyBack (answerOf r) ≡ r
 reply-back Done = refl
 reply-back (Permit place) = refl
 reply-back (Refuse r) = rw (refusal-not-denied r, refusal-back r)

@@ -22,6 +22,7 @@ use Rattle.gate.specs.declared.Ledger.{Ledger}
 use Rattle.gate.specs.declared.Reply.{Reply}
 use Rattle.gate.specs.declared.Reply.the-variants.{Done, Permit, Refuse, Deny}
 use Rattle.gate.specs.declared.Outcome.{Outcome}
+use Rattle.gate.specs.declared.Settled.{Settled}
 
 -- the ledger
 abbrev pub ledgerOf : Ledger → rules.Ledger
@@ -37,6 +38,11 @@ answerOf (Deny d) = rulesGate.refuse (denialNumber d) (denialGroup d)
 -- "Every step takes the ledger whole and hands it back."
 abbrev pub outcomeOf : Outcome → rulesGate.Outcome
 outcomeOf o = record { answer = answerOf (o .reply); ledger = ledgerOf (o .ledger) }
+
+-- .. on lent tables: what became of them, and the load time, which no request changes
+abbrev pub settledOf : Settled → List ℕ → List ℕ → ℕ → rulesGate.Outcome
+settledOf s counts counters loaded =
+    record { answer = answerOf (s .reply); ledger = record { counts = counts; counters = counters; loaded = loaded; last = s .last } }
 
 -- a counter that a limit of sort 2 names is not full
 abbrev pub hasRoom : List ℕ → ℕ → ℕ → Bool

@@ -2,7 +2,8 @@
 ghost use mathlib.Core.Path.{_≡_};
 ghost use mathlib.Core.Bool.{true};
 ghost use mathlib.Core.Option.{none};
-ghost use Prim.Native.Nat.{_≤_, _<_};
+ghost use mathlib.Core.List.{List};
+ghost use Prim.Native.Nat.{ℕ, _≤_, _<_};
 ghost use lib.ListN.{length, getD, set};
 ghost use Rattle.rules.specs.Sizes.{recordBytes, groupsMax, countersMax, fullCount};
 ghost use Rattle.rules.specs.Basics.{records};
@@ -12,8 +13,8 @@ ghost use Rattle.rules.specs.Ledger.{freshLedger, raised, raisedBy};
 ghost use Rattle.rules.specs.Gate.{load, clear, request, lengthsFit, requestFiles, refused, permitted, settle, judge, narrowFiles, narrowed, narrow, expandFiles, expanded, expand};
 ghost use Rattle.refusals.specs.Refusals.{refusalNumber};
 ghost use Rattle.files.specs.Faults.{faultOf};
-ghost use Rattle.judging.specs.Standings.{judgedAs, tablesOf};
-ghost use Rattle.gate.specs.Outcomes.{ledgerOf, answerOf, outcomeOf, hasRoom, raisedOnce, Chargeable, permitIf, decided, CountersRoom, countersCharged, CountRoom, countsCharged, isPermit, lastAfter, countsAfter, carriedFrom, carriedOf, noCounts};
+ghost use Rattle.judging.specs.Standings.{tablesOf};
+ghost use Rattle.gate.specs.Outcomes.{ledgerOf, answerOf, outcomeOf, settledOf, hasRoom, raisedOnce, Chargeable, permitIf, decided, CountersRoom, countersCharged, CountRoom, countsCharged, isPermit, lastAfter, countsAfter, carriedFrom, carriedOf, noCounts};
 use files::Checked;
 use judging::Judged;
 use refusals::Denial;
@@ -41,6 +42,12 @@ pub enum Reply {
 pub struct Outcome {
     pub ledger: Ledger,
     pub reply: Reply,
+}
+
+// What a call on lent tables came to: the reply, and the last time after it.
+pub struct Settled {
+    pub reply: Reply,
+    pub last: u64,
 }
 
 // A limit of sort 2 raises its counter by 1. Another limit, or a number past the table, raises nothing.
@@ -153,6 +160,16 @@ fn grant(place: usize, shown: bool) -> Reply
     Reply::Permit(place)
 }
 
+// What a judgement comes to: a grant as above, or the denial. `shown` is whether the hints show a narrowing, true where there are none.
+fn decide(judged: Judged, shown: bool) -> Reply
+    ensures { λ r. ⌜ answerOf r ≡ decided shown judged ⌝ }
+{
+    match judged {
+        Judged::Granted(k) => grant(k, shown),
+        Judged::Denied(d) => Reply::Deny(d),
+    }
+}
+
 // The counters after a reply: where it permits, each that the group names is raised where it stands. The group is unspent, so that none is full.
 fn charge_counters(counters: &mut [u32; Ledger::COUNTERS], reply: Reply, acl: &[u8])
     requires { ⌜ (length (now counters) ≡ countersMax) × CountersRoom (now counters) (aclOf (now acl)) (answerOf reply) ⌝ }
@@ -202,28 +219,6 @@ fn request_files(km0: &[u8], acl: &[u8], req: &[u8]) -> Checked
     }
 }
 
-// The reply to a request whose files are sound, from the ledger's tables, lent for reading: what a grant comes to, or the denial. `shown` is whether the
-// hints show a narrowing, true where there are none.
-fn decide<'a>(
-    counts: &'a [u32; Ledger::GROUPS],
-    counters: &'a [u32; Ledger::COUNTERS],
-    loaded: u64,
-    last: u64,
-    shown: bool,
-    km0: &[u8],
-    acl: &[u8],
-    req: &[u8],
-) -> Reply
-    requires { ⌜ (recordBytes ≤ length (now req)) × (length (now req) ≤ 4032) ⌝ }
-    ensures { λ r. ⌜ answerOf r ≡ decided shown (judgedAs (judge (tablesOf (now (counts .entry)) (now (counters .entry)) loaded last) (now (km0 .entry)) (aclOf (now (acl .entry))) (requestOf (now (req .entry))))) ⌝ }
-{
-    let judged = judging::judge_request(counts, counters, loaded, last, km0, acl, req);
-    match judged {
-        Judged::Granted(k) => grant(k, shown),
-        Judged::Denied(d) => Reply::Deny(d),
-    }
-}
-
 // Whether a reply permits.
 fn permits(reply: Reply) -> bool
     ensures { λ r. ⌜ r ≡ isPermit (answerOf reply) ⌝ }
@@ -246,41 +241,73 @@ fn last_after(reply: Reply, last: u64, when: u64) -> u64
     last
 }
 
+// A refusal on lent tables: they stand, and so does the last time.
+pub fn refuse_on(why: Refusal, last: u64) -> Settled
+    ensures { λ r. ⌜ ((counts counters : List ℕ) (loaded : ℕ) → settledOf r counts counters loaded ≡ refused (tablesOf counts counters loaded last) (refusalNumber why)) ⌝ }
+{
+    Settled {
+        reply: Reply::Refuse(why),
+        last,
+    }
+}
+
+// What becomes of a use or a blob whose files are sound: it is judged, then the tables are charged where they stand.
+fn used(
+    counts: &mut [u32; Ledger::GROUPS],
+    counters: &mut [u32; Ledger::COUNTERS],
+    loaded: u64,
+    last: u64,
+    km0: &[u8],
+    acl: &[u8],
+    req: &[u8],
+) -> Settled
+    requires { ⌜ ((recordBytes ≤ length (now req)) × (length (now req) ≤ 4032)) × (aclFault (records (now acl)) ≡ none) ⌝ }
+    ensures { λ r. ⌜ settledOf r (now (counts .exit)) (now (counters .exit)) loaded ≡ settle (tablesOf (now (counts .entry)) (now (counters .entry)) loaded last) (requestOf (now (req .entry)) .time) permitted (judge (tablesOf (now (counts .entry)) (now (counters .entry)) loaded last) (now (km0 .entry)) (aclOf (now (acl .entry))) (requestOf (now (req .entry)))) ⌝ }
+{
+    let judged = judging::judge_request(counts, counters, loaded, last, km0, acl, req);
+    let reply = decide(judged, true);
+    charge_counters(counters, reply, acl);
+    charge_count(counts, reply);
+    Settled {
+        reply,
+        last: last_after(reply, last, request::time(req)),
+    }
+}
+
+// A request for a use or a blob, on lent tables: for whoever does not hold them in a ledger. A refusal leaves them.
+pub fn request_on(
+    counts: &mut [u32; Ledger::GROUPS],
+    counters: &mut [u32; Ledger::COUNTERS],
+    loaded: u64,
+    last: u64,
+    km0: &[u8],
+    acl: &[u8],
+    req: &[u8],
+) -> Settled
+    ensures { λ r. ⌜ settledOf r (now (counts .exit)) (now (counters .exit)) loaded ≡ request (tablesOf (now (counts .entry)) (now (counters .entry)) loaded last) (now (km0 .entry)) (now (acl .entry)) (now (req .entry)) ⌝ }
+{
+    let fault = request_files(km0, acl, req);
+    match fault {
+        Checked::Refused(r) => refuse_on(r, last),
+        Checked::Sound => used(counts, counters, loaded, last, km0, acl, req),
+    }
+}
+
 impl Ledger {
-    // What becomes of a use or a blob whose files are sound: it is judged, then the tables are charged where they stand.
-    fn used(mut self, km0: &[u8], acl: &[u8], req: &[u8]) -> Outcome
-        requires { ⌜ ((recordBytes ≤ length (now req)) × (length (now req) ≤ 4032)) × (aclFault (records (now acl)) ≡ none) ⌝ }
-        ensures { λ r. ⌜ outcomeOf r ≡ settle (ledgerOf self) (requestOf (now (req .entry)) .time) permitted (judge (ledgerOf self) (now (km0 .entry)) (aclOf (now (acl .entry))) (requestOf (now (req .entry)))) ⌝ }
+    // A request for a use or a blob: KM0, the ACL, the request with its certificates. Any bytes get a reply; a refusal hands the ledger back as it was.
+    pub fn request(mut self, km0: &[u8], acl: &[u8], req: &[u8]) -> Outcome
+        ensures { λ r. ⌜ outcomeOf r ≡ request (ledgerOf self) (now (km0 .entry)) (now (acl .entry)) (now (req .entry)) ⌝ }
     {
+        let mut counts = self.counts;
         let loaded = self.loaded;
         let last = self.last;
-        let reply = decide(
-            &self.counts,
-            &self.counters,
-            loaded,
-            last,
-            true,
-            km0,
-            acl,
-            req,
-        );
-        charge_counters(&mut self.counters, reply, acl);
-        charge_count(&mut self.counts, reply);
-        self.last = last_after(reply, last, request::time(req));
+        let settled = request_on(&mut counts, &mut self.counters, loaded, last, km0, acl, req);
+        let reply = settled.reply;
+        self.counts = counts;
+        self.last = settled.last;
         Outcome {
             ledger: self,
             reply,
-        }
-    }
-
-    // A request for a use or a blob: KM0, the ACL, the request with its certificates. Any bytes get a reply; a refusal hands the ledger back as it was.
-    pub fn request(self, km0: &[u8], acl: &[u8], req: &[u8]) -> Outcome
-        ensures { λ r. ⌜ outcomeOf r ≡ request (ledgerOf self) (now (km0 .entry)) (now (acl .entry)) (now (req .entry)) ⌝ }
-    {
-        let fault = request_files(km0, acl, req);
-        match fault {
-            Checked::Refused(r) => self.refuse(r),
-            Checked::Sound => self.used(km0, acl, req),
         }
     }
 }
@@ -377,82 +404,150 @@ fn expand_files(km0: &[u8], acl: &[u8], req: &[u8], new: &[u8]) -> Checked
     files::first_fault(acl::acl_records(acl), rest)
 }
 
+// What becomes of a narrowing whose files are sound. The hints are tested before anything is charged.
+fn narrowed(
+    counts: &mut [u32; Ledger::GROUPS],
+    counters: &mut [u32; Ledger::COUNTERS],
+    loaded: u64,
+    last: u64,
+    km0: &[u8],
+    acl: &[u8],
+    req: &[u8],
+    new: &[u8],
+    hints: &[u8],
+) -> Settled
+    requires { ⌜ ((recordBytes ≤ length (now req)) × (length (now req) ≤ 4032)) × (aclFault (records (now acl)) ≡ none) × (length (hintsOf (now hints)) ≤ groupsMax) ⌝ }
+    ensures { λ r. ⌜ settledOf r (now (counts .exit)) (now (counters .exit)) loaded ≡ settle (tablesOf (now (counts .entry)) (now (counters .entry)) loaded last) (requestOf (now (req .entry)) .time) (narrowed (tablesOf (now (counts .entry)) (now (counters .entry)) loaded last) (aclOf (now (acl .entry))) (aclOf (now (new .entry))) (hintsOf (now (hints .entry)))) (judge (tablesOf (now (counts .entry)) (now (counters .entry)) loaded last) (now (km0 .entry)) (aclOf (now (acl .entry))) (requestOf (now (req .entry)))) ⌝ }
+{
+    let shown = narrowing::shows_narrowing(acl, new, hints);
+    let judged = judging::judge_request(counts, counters, loaded, last, km0, acl, req);
+    let reply = decide(judged, shown);
+    charge_counters(counters, reply, acl);
+    charge_count(counts, reply);
+    carry_counts(counts, reply, hints);
+    Settled {
+        reply,
+        last: last_after(reply, last, request::time(req)),
+    }
+}
+
+// What becomes of an expansion whose files are sound.
+fn expanded(
+    counts: &mut [u32; Ledger::GROUPS],
+    counters: &mut [u32; Ledger::COUNTERS],
+    loaded: u64,
+    last: u64,
+    km0: &[u8],
+    acl: &[u8],
+    req: &[u8],
+) -> Settled
+    requires { ⌜ ((recordBytes ≤ length (now req)) × (length (now req) ≤ 4032)) × (aclFault (records (now acl)) ≡ none) ⌝ }
+    ensures { λ r. ⌜ settledOf r (now (counts .exit)) (now (counters .exit)) loaded ≡ settle (tablesOf (now (counts .entry)) (now (counters .entry)) loaded last) (requestOf (now (req .entry)) .time) expanded (judge (tablesOf (now (counts .entry)) (now (counters .entry)) loaded last) (now (km0 .entry)) (aclOf (now (acl .entry))) (requestOf (now (req .entry)))) ⌝ }
+{
+    let judged = judging::judge_request(counts, counters, loaded, last, km0, acl, req);
+    let reply = decide(judged, true);
+    charge_counters(counters, reply, acl);
+    charge_count(counts, reply);
+    zero_counts(counts, reply);
+    Settled {
+        reply,
+        last: last_after(reply, last, request::time(req)),
+    }
+}
+
+// A narrowing on lent tables.
+pub fn narrow_on(
+    counts: &mut [u32; Ledger::GROUPS],
+    counters: &mut [u32; Ledger::COUNTERS],
+    loaded: u64,
+    last: u64,
+    km0: &[u8],
+    acl: &[u8],
+    req: &[u8],
+    new: &[u8],
+    hints: &[u8],
+) -> Settled
+    ensures { λ r. ⌜ settledOf r (now (counts .exit)) (now (counters .exit)) loaded ≡ narrow (tablesOf (now (counts .entry)) (now (counters .entry)) loaded last) (now (km0 .entry)) (now (acl .entry)) (now (req .entry)) (now (new .entry)) (now (hints .entry)) ⌝ }
+{
+    let fault = narrow_files(km0, acl, req, new, hints);
+    match fault {
+        Checked::Refused(r) => refuse_on(r, last),
+        Checked::Sound => narrowed(counts, counters, loaded, last, km0, acl, req, new, hints),
+    }
+}
+
+// An expansion on lent tables.
+pub fn expand_on(
+    counts: &mut [u32; Ledger::GROUPS],
+    counters: &mut [u32; Ledger::COUNTERS],
+    loaded: u64,
+    last: u64,
+    km0: &[u8],
+    acl: &[u8],
+    req: &[u8],
+    new: &[u8],
+) -> Settled
+    ensures { λ r. ⌜ settledOf r (now (counts .exit)) (now (counters .exit)) loaded ≡ expand (tablesOf (now (counts .entry)) (now (counters .entry)) loaded last) (now (km0 .entry)) (now (acl .entry)) (now (req .entry)) (now (new .entry)) ⌝ }
+{
+    let fault = expand_files(km0, acl, req, new);
+    match fault {
+        Checked::Refused(r) => refuse_on(r, last),
+        Checked::Sound => expanded(counts, counters, loaded, last, km0, acl, req),
+    }
+}
+
 impl Ledger {
-    // What becomes of a narrowing whose files are sound. The hints are tested before anything is charged.
-    fn narrowed(mut self, km0: &[u8], acl: &[u8], req: &[u8], new: &[u8], hints: &[u8]) -> Outcome
-        requires { ⌜ ((recordBytes ≤ length (now req)) × (length (now req) ≤ 4032)) × (aclFault (records (now acl)) ≡ none) × (length (hintsOf (now hints)) ≤ groupsMax) ⌝ }
-        ensures { λ r. ⌜ outcomeOf r ≡ settle (ledgerOf self) (requestOf (now (req .entry)) .time) (narrowed (ledgerOf self) (aclOf (now (acl .entry))) (aclOf (now (new .entry))) (hintsOf (now (hints .entry)))) (judge (ledgerOf self) (now (km0 .entry)) (aclOf (now (acl .entry))) (requestOf (now (req .entry)))) ⌝ }
-    {
-        let shown = narrowing::shows_narrowing(acl, new, hints);
-        let loaded = self.loaded;
-        let last = self.last;
-        let reply = decide(
-            &self.counts,
-            &self.counters,
-            loaded,
-            last,
-            shown,
-            km0,
-            acl,
-            req,
-        );
-        charge_counters(&mut self.counters, reply, acl);
-        charge_count(&mut self.counts, reply);
-        carry_counts(&mut self.counts, reply, hints);
-        self.last = last_after(reply, last, request::time(req));
-        Outcome {
-            ledger: self,
-            reply,
-        }
-    }
-
-    // What becomes of an expansion whose files are sound.
-    fn expanded(mut self, km0: &[u8], acl: &[u8], req: &[u8]) -> Outcome
-        requires { ⌜ ((recordBytes ≤ length (now req)) × (length (now req) ≤ 4032)) × (aclFault (records (now acl)) ≡ none) ⌝ }
-        ensures { λ r. ⌜ outcomeOf r ≡ settle (ledgerOf self) (requestOf (now (req .entry)) .time) expanded (judge (ledgerOf self) (now (km0 .entry)) (aclOf (now (acl .entry))) (requestOf (now (req .entry)))) ⌝ }
-    {
-        let loaded = self.loaded;
-        let last = self.last;
-        let reply = decide(
-            &self.counts,
-            &self.counters,
-            loaded,
-            last,
-            true,
-            km0,
-            acl,
-            req,
-        );
-        charge_counters(&mut self.counters, reply, acl);
-        charge_count(&mut self.counts, reply);
-        zero_counts(&mut self.counts, reply);
-        self.last = last_after(reply, last, request::time(req));
-        Outcome {
-            ledger: self,
-            reply,
-        }
-    }
-
     // A narrowing, a use of ReduceACL: KM0, the ACL, the request with its certificates, the new ACL, a hint for each new group. A refusal hands the
     // ledger back as it was.
-    pub fn narrow(self, km0: &[u8], acl: &[u8], req: &[u8], new: &[u8], hints: &[u8]) -> Outcome
+    pub fn narrow(mut self, km0: &[u8], acl: &[u8], req: &[u8], new: &[u8], hints: &[u8]) -> Outcome
         ensures { λ r. ⌜ outcomeOf r ≡ narrow (ledgerOf self) (now (km0 .entry)) (now (acl .entry)) (now (req .entry)) (now (new .entry)) (now (hints .entry)) ⌝ }
     {
-        let fault = narrow_files(km0, acl, req, new, hints);
-        match fault {
-            Checked::Refused(r) => self.refuse(r),
-            Checked::Sound => self.narrowed(km0, acl, req, new, hints),
+        let mut counts = self.counts;
+        let loaded = self.loaded;
+        let last = self.last;
+        let settled = narrow_on(
+            &mut counts,
+            &mut self.counters,
+            loaded,
+            last,
+            km0,
+            acl,
+            req,
+            new,
+            hints,
+        );
+        let reply = settled.reply;
+        self.counts = counts;
+        self.last = settled.last;
+        Outcome {
+            ledger: self,
+            reply,
         }
     }
 
     // An expansion, a use of ExpandACL: KM0, the ACL, the request with its certificates, the new ACL. A refusal hands the ledger back as it was.
-    pub fn expand(self, km0: &[u8], acl: &[u8], req: &[u8], new: &[u8]) -> Outcome
+    pub fn expand(mut self, km0: &[u8], acl: &[u8], req: &[u8], new: &[u8]) -> Outcome
         ensures { λ r. ⌜ outcomeOf r ≡ expand (ledgerOf self) (now (km0 .entry)) (now (acl .entry)) (now (req .entry)) (now (new .entry)) ⌝ }
     {
-        let fault = expand_files(km0, acl, req, new);
-        match fault {
-            Checked::Refused(r) => self.refuse(r),
-            Checked::Sound => self.expanded(km0, acl, req),
+        let mut counts = self.counts;
+        let loaded = self.loaded;
+        let last = self.last;
+        let settled = expand_on(
+            &mut counts,
+            &mut self.counters,
+            loaded,
+            last,
+            km0,
+            acl,
+            req,
+            new,
+        );
+        let reply = settled.reply;
+        self.counts = counts;
+        self.last = settled.last;
+        Outcome {
+            ledger: self,
+            reply,
         }
     }
 }

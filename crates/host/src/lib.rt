@@ -2,121 +2,21 @@
 ghost use mathlib.Core.Path.{_≡_};
 ghost use Rattle.rules.specs.Ledger.{freshLedger};
 ghost use Rattle.rules.specs.Gate.{load, clear, request, narrow, expand};
+ghost use Rattle.rules.specs.Cabinet.{freshCabinet, cabinetLoad, cabinetClear, cabinetRequest, cabinetNarrow, cabinetExpand};
 ghost use Rattle.rules.specs.Desk.{desk};
 ghost use Rattle.rules.specs.Subject.{subjectReply, subjectBuffer};
-ghost use Rattle.refusals.specs.Refusals.{denialGroup};
 ghost use Rattle.listings.specs.Listing.{writeListing, readListingInto};
-ghost use Rattle.listing.specs.Answers as answers;
 ghost use Rattle.desk.specs.Replies as replies;
-ghost use Rattle.gate.specs.Outcomes.{ledgerOf, answerOf, outcomeOf};
-ghost use Rattle.subject.specs.Writing as writing;
-ghost use Rattle.host.specs.Surface.{toldBy, answerCode, answerNumber, orNoGroup, answerGroup, toldFor, wroteBy, wroteFor, judgedBy, judgedIn, otherwise, listedBy, listingNumbers, listedFor};
-use desk::Acceptance;
-use desk::Verdict;
+ghost use Rattle.gate.specs.Outcomes.{ledgerOf};
+ghost use Rattle.cabinet.specs.Kept.{cabinetOf};
+ghost use Rattle.surface.specs.Surface.{toldBy, toldFor, cabinetToldBy, cabinetToldFor, wroteBy, wroteFor, judgedBy, judgedIn, listedBy, listedFor};
+use cabinet::Cabinet;
 use gate::Ledger;
-use gate::Outcome;
-use gate::Reply;
-use refusals::Denial;
-use subject::Written;
-
-// No group is named: all ones.
-const NO_GROUP: u64 = 18446744073709551615;
-
-// The ledger handed back, what the answer is (0 done, 1 permitted, 2 refused), its number: the group, or the refusal; and the group that permits, or that
-// came nearest, all ones where none is named.
-#[repr(C)]
-pub struct HostOutcome {
-    pub ledger: Ledger,
-    pub answer: u64,
-    pub number: u64,
-    pub group: u64,
-}
-
-// A verdict: 1 accepted, 2 a step failed, 3 refused; what an acceptance names; the step's number from 1, or the refusal's.
-#[repr(C)]
-pub struct HostVerdict {
-    pub answer: u64,
-    pub approach: u64,
-    pub protection: u64,
-    pub recoverable: bool,
-    pub number: u64,
-}
-
-// A subject: 1 and its length, or 2 and the refusal.
-#[repr(C)]
-pub struct HostWritten {
-    pub answer: u64,
-    pub number: u64,
-}
-
-// A listing written or read: 1 and the result's length, or 2 and the refusal's number; with 15 the number of the first bad line, from 1.
-#[repr(C)]
-pub struct HostListing {
-    pub answer: u64,
-    pub number: u64,
-    pub line: u64,
-}
-
-// What a reply is, and its number.
-fn answer_code(reply: Reply) -> u64
-    ensures { λ r. ⌜ r ≡ answerCode (answerOf reply) ⌝ }
-{
-    match reply {
-        Reply::Done => 0,
-        Reply::Permit(_) => 1,
-        Reply::Refuse(_) => 2,
-        Reply::Deny(_) => 2,
-    }
-}
-
-fn answer_number(reply: Reply) -> u64
-    ensures { λ r. ⌜ r ≡ answerNumber (answerOf reply) ⌝ }
-{
-    match reply {
-        Reply::Done => 0,
-        Reply::Permit(place) => place as u64,
-        Reply::Refuse(why) => refusals::number(why) as u64,
-        Reply::Deny(why) => refusals::denial_number(why) as u64,
-    }
-}
-
-// The group that came nearest, where a denial names one.
-fn nearest(d: Denial) -> u64
-    ensures { λ r. ⌜ r ≡ orNoGroup (denialGroup d) ⌝ }
-{
-    match d {
-        Denial::Early => NO_GROUP,
-        Denial::Unadmitted => NO_GROUP,
-        Denial::Uncertified(place) => place as u64,
-        Denial::Exhausted(place) => place as u64,
-    }
-}
-
-// The group that a reply names.
-fn answer_group(reply: Reply) -> u64
-    ensures { λ r. ⌜ r ≡ answerGroup (answerOf reply) ⌝ }
-{
-    match reply {
-        Reply::Done => NO_GROUP,
-        Reply::Permit(place) => place as u64,
-        Reply::Refuse(_) => NO_GROUP,
-        Reply::Deny(why) => nearest(why),
-    }
-}
-
-// An outcome as the host gets it.
-fn told(o: Outcome) -> HostOutcome
-    ensures { λ r. ⌜ toldBy r ≡ toldFor (outcomeOf o) ⌝ }
-{
-    let reply = o.reply;
-    let ledger = o.ledger;
-    HostOutcome {
-        ledger,
-        answer: answer_code(reply),
-        number: answer_number(reply),
-        group: answer_group(reply),
-    }
-}
+use surface::HostCabinetOutcome;
+use surface::HostListing;
+use surface::HostOutcome;
+use surface::HostVerdict;
+use surface::HostWritten;
 
 // The fresh ledger.
 #[no_mangle]
@@ -131,7 +31,7 @@ pub extern "C" fn akubolinfe_fresh() -> Ledger
 pub extern "C" fn akubolinfe_load(ledger: Ledger, time: u64) -> HostOutcome
     ensures { λ r. ⌜ toldBy r ≡ toldFor (load (ledgerOf ledger) time) ⌝ }
 {
-    told(ledger.load(time))
+    surface::told(ledger.load(time))
 }
 
 // A clear of one named counter.
@@ -139,7 +39,7 @@ pub extern "C" fn akubolinfe_load(ledger: Ledger, time: u64) -> HostOutcome
 pub extern "C" fn akubolinfe_clear(ledger: Ledger, counter: usize) -> HostOutcome
     ensures { λ r. ⌜ toldBy r ≡ toldFor (clear (ledgerOf ledger) counter) ⌝ }
 {
-    told(ledger.clear(counter))
+    surface::told(ledger.clear(counter))
 }
 
 // A request for a use or a blob.
@@ -152,7 +52,7 @@ pub extern "C" fn akubolinfe_request(
 ) -> HostOutcome
     ensures { λ r. ⌜ toldBy r ≡ toldFor (request (ledgerOf ledger) (now (km0 .entry)) (now (acl .entry)) (now (req .entry))) ⌝ }
 {
-    told(ledger.request(km0, acl, req))
+    surface::told(ledger.request(km0, acl, req))
 }
 
 // A narrowing.
@@ -167,7 +67,7 @@ pub extern "C" fn akubolinfe_narrow(
 ) -> HostOutcome
     ensures { λ r. ⌜ toldBy r ≡ toldFor (narrow (ledgerOf ledger) (now (km0 .entry)) (now (acl .entry)) (now (req .entry)) (now (new .entry)) (now (hints .entry))) ⌝ }
 {
-    told(ledger.narrow(km0, acl, req, new, hints))
+    surface::told(ledger.narrow(km0, acl, req, new, hints))
 }
 
 // An expansion.
@@ -181,45 +81,80 @@ pub extern "C" fn akubolinfe_expand(
 ) -> HostOutcome
     ensures { λ r. ⌜ toldBy r ≡ toldFor (expand (ledgerOf ledger) (now (km0 .entry)) (now (acl .entry)) (now (req .entry)) (now (new .entry))) ⌝ }
 {
-    told(ledger.expand(km0, acl, req, new))
+    surface::told(ledger.expand(km0, acl, req, new))
 }
 
-// An acceptance as the host gets it.
-fn acceptance(a: Acceptance) -> HostVerdict
-    ensures { λ r. ⌜ judgedBy r ≡ judgedIn (replies.accepting (replies.namedBy a)) ⌝ }
+// The fresh cabinet.
+#[no_mangle]
+pub extern "C" fn akubolinfe_cabinet_fresh() -> Cabinet
+    ensures { λ r. ⌜ cabinetOf r ≡ freshCabinet ⌝ }
 {
-    let protection = a.protection;
-    HostVerdict {
-        answer: 1,
-        approach: a.approach as u64,
-        protection: desk::protection_number(protection) as u64,
-        recoverable: a.recoverable,
-        number: 0,
-    }
+    Cabinet::fresh()
 }
 
-// A verdict that is no acceptance.
-fn other(answer: u64, number: u64) -> HostVerdict
-    ensures { λ r. ⌜ judgedBy r ≡ otherwise answer number ⌝ }
+// A load of a slot, at any time.
+#[no_mangle]
+pub extern "C" fn akubolinfe_cabinet_load(
+    cabinet: Cabinet,
+    slot: usize,
+    time: u64,
+) -> HostCabinetOutcome
+    ensures { λ r. ⌜ cabinetToldBy r ≡ cabinetToldFor (cabinetLoad (cabinetOf cabinet) slot time) ⌝ }
 {
-    HostVerdict {
-        answer,
-        approach: 0,
-        protection: 0,
-        recoverable: false,
-        number,
-    }
+    surface::cabinet_told(cabinet.load(slot, time))
 }
 
-// A verdict as the host gets it.
-fn judged(v: Verdict) -> HostVerdict
-    ensures { λ r. ⌜ judgedBy r ≡ judgedIn (replies.replyOf v) ⌝ }
+// A clear of one named counter, for every slot.
+#[no_mangle]
+pub extern "C" fn akubolinfe_cabinet_clear(cabinet: Cabinet, counter: usize) -> HostCabinetOutcome
+    ensures { λ r. ⌜ cabinetToldBy r ≡ cabinetToldFor (cabinetClear (cabinetOf cabinet) counter) ⌝ }
 {
-    match v {
-        Verdict::Accepted(a) => acceptance(a),
-        Verdict::Failed(s) => other(2, steps::number(s)),
-        Verdict::Refused(why) => other(3, refusals::number(why) as u64),
-    }
+    surface::cabinet_told(cabinet.clear(counter))
+}
+
+// A request to a slot.
+#[no_mangle]
+pub extern "C" fn akubolinfe_cabinet_request(
+    cabinet: Cabinet,
+    slot: usize,
+    km0: &[u8],
+    acl: &[u8],
+    req: &[u8],
+) -> HostCabinetOutcome
+    ensures { λ r. ⌜ cabinetToldBy r ≡ cabinetToldFor (cabinetRequest (cabinetOf cabinet) slot (now (km0 .entry)) (now (acl .entry)) (now (req .entry))) ⌝ }
+{
+    surface::cabinet_told(cabinet.request(slot, km0, acl, req))
+}
+
+// A narrowing in a slot.
+#[no_mangle]
+pub extern "C" fn akubolinfe_cabinet_narrow(
+    cabinet: Cabinet,
+    slot: usize,
+    km0: &[u8],
+    acl: &[u8],
+    req: &[u8],
+    new: &[u8],
+    hints: &[u8],
+) -> HostCabinetOutcome
+    ensures { λ r. ⌜ cabinetToldBy r ≡ cabinetToldFor (cabinetNarrow (cabinetOf cabinet) slot (now (km0 .entry)) (now (acl .entry)) (now (req .entry)) (now (new .entry)) (now (hints .entry))) ⌝ }
+{
+    surface::cabinet_told(cabinet.narrow(slot, km0, acl, req, new, hints))
+}
+
+// An expansion in a slot.
+#[no_mangle]
+pub extern "C" fn akubolinfe_cabinet_expand(
+    cabinet: Cabinet,
+    slot: usize,
+    km0: &[u8],
+    acl: &[u8],
+    req: &[u8],
+    new: &[u8],
+) -> HostCabinetOutcome
+    ensures { λ r. ⌜ cabinetToldBy r ≡ cabinetToldFor (cabinetExpand (cabinetOf cabinet) slot (now (km0 .entry)) (now (acl .entry)) (now (req .entry)) (now (new .entry))) ⌝ }
+{
+    surface::cabinet_told(cabinet.expand(slot, km0, acl, req, new))
 }
 
 // The desk's verdict on a bundle and an ACL.
@@ -227,23 +162,7 @@ fn judged(v: Verdict) -> HostVerdict
 pub extern "C" fn akubolinfe_desk(bundle: &[u8], acl: &[u8]) -> HostVerdict
     ensures { λ r. ⌜ judgedBy r ≡ judgedIn (replies.replyFor (desk (now (bundle .entry)) (now (acl .entry)))) ⌝ }
 {
-    judged(desk::assess(bundle, acl))
-}
-
-// What the subject writer answered.
-fn wrote(w: Written) -> HostWritten
-    ensures { λ r. ⌜ wroteBy r ≡ wroteFor (writing.replyOf w) ⌝ }
-{
-    match w {
-        Written::Length(n) => HostWritten {
-            answer: 1,
-            number: n as u64,
-        },
-        Written::Refused(why) => HostWritten {
-            answer: 2,
-            number: refusals::number(why) as u64,
-        },
-    }
+    surface::judged(desk::assess(bundle, acl))
 }
 
 // The subject of a world certificate, at the front of the buffer.
@@ -257,29 +176,7 @@ pub extern "C" fn akubolinfe_subject(
     ensures reply { λ r. ⌜ wroteBy r ≡ wroteFor (subjectReply certificate suite (now (hashes .entry)) (now (buffer .entry))) ⌝ }
     ensures bytes { λ _. ⌜ now (buffer .exit) ≡ subjectBuffer certificate suite (now (hashes .entry)) (now (buffer .entry)) ⌝ }
 {
-    wrote(subject::write_subject(certificate, suite, hashes, buffer))
-}
-
-// A listing's reply in its three numbers.
-fn listing_numbers(answer: u64, number: u64, line: u64) -> HostListing
-    ensures { λ r. ⌜ listedBy r ≡ listingNumbers answer number line ⌝ }
-{
-    HostListing {
-        answer,
-        number,
-        line,
-    }
-}
-
-// What the writer or the reader of listings answered.
-fn listed(reply: listing::Reply) -> HostListing
-    ensures { λ r. ⌜ listedBy r ≡ listedFor (answers.replyOf reply) ⌝ }
-{
-    match reply {
-        listing::Reply::Produced(n) => listing_numbers(1, n as u64, 0),
-        listing::Reply::Refused(why) => listing_numbers(2, refusals::number(why) as u64, 0),
-        listing::Reply::BadLine(n) => listing_numbers(2, 15, n as u64),
-    }
+    surface::wrote(subject::write_subject(certificate, suite, hashes, buffer))
 }
 
 // An ACL's listing, at the front of the buffer.
@@ -288,7 +185,7 @@ pub extern "C" fn akubolinfe_write_listing(acl: &[u8], buffer: &mut [u8]) -> Hos
     ensures reply { λ r. ⌜ listedBy r ≡ listedFor (writeListing (now (acl .entry)) (now (buffer .entry)) .reply) ⌝ }
     ensures bytes { λ _. ⌜ now (buffer .exit) ≡ writeListing (now (acl .entry)) (now (buffer .entry)) .buffer ⌝ }
 {
-    listed(listing::write_listing(acl, buffer))
+    surface::listed(listing::write_listing(acl, buffer))
 }
 
 // A listing's ACL, at the front of the buffer.
@@ -297,5 +194,5 @@ pub extern "C" fn akubolinfe_read_listing(text: &[u8], buffer: &mut [u8]) -> Hos
     ensures reply { λ r. ⌜ listedBy r ≡ listedFor (readListingInto (now (text .entry)) (now (buffer .entry)) .reply) ⌝ }
     ensures bytes { λ _. ⌜ now (buffer .exit) ≡ readListingInto (now (text .entry)) (now (buffer .entry)) .buffer ⌝ }
 {
-    listed(listing::read_listing(text, buffer))
+    surface::listed(listing::read_listing(text, buffer))
 }

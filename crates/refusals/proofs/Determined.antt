@@ -6,7 +6,7 @@ use mathlib.Core.Bool.{Bool, true, false, _&&_}
 use lib.Dec.{eqb, leb}
 use Rattle.rules.specs.Basics.{if_then_else_}
 use Rattle.refusals.specs.declared.Refusal.{Refusal}
-use Rattle.refusals.specs.declared.Refusal.the-variants.{BadLength, Malformed, TooMany, NotNarrower, ShortBuffer, OutOfRange, UnknownSuite, OpenArchive}
+use Rattle.refusals.specs.declared.Refusal.the-variants.{BadLength, Malformed, TooMany, NotNarrower, ShortBuffer, OutOfRange, UnknownSuite, OpenArchive, NoSlot}
 use Rattle.refusals.specs.declared.Denial.{Denial}
 use Rattle.refusals.specs.declared.Denial.the-variants.{Early, Unadmitted, Uncertified, Exhausted}
 use Rattle.refusals.specs.Refusals.{refusalNumber, denialNumber, denialGroup}
@@ -21,7 +21,8 @@ refusalBack n =
     else if eqb n 9 then ShortBuffer
     else if eqb n 10 then OutOfRange
     else if eqb n 11 then UnknownSuite
-    else OpenArchive
+    else if eqb n 12 then OpenArchive
+    else NoSlot
 
 -- .. it is what was read
 pub refusal-back : (r : Refusal) → refusalBack (refusalNumber r) ≡ r
@@ -33,6 +34,7 @@ refusal-back ShortBuffer = refl
 refusal-back OutOfRange = refl
 refusal-back UnknownSuite = refl
 refusal-back OpenArchive = refl
+refusal-back NoSlot = refl
 
 -- .. with its group, of a denial
 abbrev pub denialBack : ℕ → Option ℕ → Denial
@@ -58,6 +60,7 @@ refusal-not-denied ShortBuffer = refl
 refusal-not-denied OutOfRange = refl
 refusal-not-denied UnknownSuite = refl
 refusal-not-denied OpenArchive = refl
+refusal-not-denied NoSlot = refl
 
 pub denial-denied : (d : Denial) → denies (denialNumber d) ≡ true
 denial-denied Early = refl

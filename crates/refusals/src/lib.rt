@@ -13,6 +13,7 @@ pub enum Refusal {
     OutOfRange,
     UnknownSuite,
     OpenArchive,
+    NoSlot,
 }
 
 // Why no group grants: the time goes back; none admits; none that admits is certified, with the lowest that admits; none of those is unspent, with the
@@ -37,6 +38,7 @@ pub fn number(r: Refusal) -> u8
         Refusal::OutOfRange => 10,
         Refusal::UnknownSuite => 11,
         Refusal::OpenArchive => 12,
+        Refusal::NoSlot => 13,
     }
 }
 

@@ -9,6 +9,7 @@ use Rattle.rules.specs.Ledger.{raisedBy, charge}
 use Rattle.rules.specs.Grant.{admitsUse, admitsWorking, admitsRecovery, admits, limitLeft}
 use Rattle.rules.specs.Narrow.{noWider, actionsNoWider, answers, isAnswered, narrowsFrom}
 use Rattle.rules.specs.Gate.{lowest, judge, request, clear, narrow, expand}
+use Rattle.rules.specs.Cabinet.{cabinetRequest, cabinetLoad, cabinetClear, cabinetNarrow, cabinetExpand}
 use Rattle.rules.specs.Suites.{suite}
 use Rattle.rules.specs.Bundle.{orderOf, bundleRecordLaidOut, bundleInPlace, bundleHasRoom, bundleRecordFault, listedAfter, bundleEnd, bundleFault, firstRecord, numbered, field, lists, listed, signatureOutcome, policyRecord, policyOf}
 use Rattle.rules.specs.Desk.{kmVouched, kmFipsVouched, kreVouched, moduleKey, recoveryKey, classOf, policyAdmits, failureUnder, aclFailure, actionProtection, smallest, keyProtection, recoverableKey, fullFailure, basicFailure, deskFault, desk}
@@ -17,5 +18,5 @@ use Rattle.rules.specs.Day.{dayFault, digits, linesFrom, dayLines}
 
 -- what it is does not matter; its next line does
 unfoldable pub computing : ℕ
-unfolding any all allZero same numberFrom ascii allBelow within setOf chunks records fits firstFault recordFault eachFault scan fileFault header zeroUnless mechanismAt tokenParametersAt tokenParametersIf certifierMechanism groupLaidOut counterUnder limitUnder permissionsLaidOut blobActionLaidOut archiveActionLaidOut useLaidOut blobRequestLaidOut recoveryLaidOut certificateLaidOut factLaidOut signatureLaidOut policyLaidOut hintLaidOut delegationLaidOut actionOf limitsOf actionsOf groupsOf among limitInPlace actionLaidOut inPlaceUnder hasRoomUnder keyed afterRecord recordFaultUnder aclFaultUnder wantedOf certificatesOf delegationsOf requestFrom requestLaidOut requestRecordFault useOf certificateRecord delegationRecord certificateFault delegationFault presentedRecordFault afterPresented presentedFault requestFault hintRecord hintFault hintsFault serves anyIn leadsTo leadsToPresented startsAt holds continues nextLevel level chained delegated vouched raisedBy charge admitsUse admitsWorking admitsRecovery admits limitLeft noWider actionsNoWider answers isAnswered narrowsFrom lowest judge request clear narrow expand suite orderOf bundleRecordLaidOut bundleInPlace bundleHasRoom bundleRecordFault listedAfter bundleEnd bundleFault firstRecord numbered field lists listed signatureOutcome policyRecord policyOf kmVouched kmFipsVouched kreVouched moduleKey recoveryKey classOf policyAdmits failureUnder aclFailure actionProtection smallest keyProtection recoverableKey fullFailure basicFailure deskFault desk subject subjectFault subjectReply subjectBuffer dayFault digits linesFrom dayLines
+unfolding any all allZero same numberFrom ascii allBelow within setOf chunks records fits firstFault recordFault eachFault scan fileFault header zeroUnless mechanismAt tokenParametersAt tokenParametersIf certifierMechanism groupLaidOut counterUnder limitUnder permissionsLaidOut blobActionLaidOut archiveActionLaidOut useLaidOut blobRequestLaidOut recoveryLaidOut certificateLaidOut factLaidOut signatureLaidOut policyLaidOut hintLaidOut delegationLaidOut actionOf limitsOf actionsOf groupsOf among limitInPlace actionLaidOut inPlaceUnder hasRoomUnder keyed afterRecord recordFaultUnder aclFaultUnder wantedOf certificatesOf delegationsOf requestFrom requestLaidOut requestRecordFault useOf certificateRecord delegationRecord certificateFault delegationFault presentedRecordFault afterPresented presentedFault requestFault hintRecord hintFault hintsFault serves anyIn leadsTo leadsToPresented startsAt holds continues nextLevel level chained delegated vouched raisedBy charge admitsUse admitsWorking admitsRecovery admits limitLeft noWider actionsNoWider answers isAnswered narrowsFrom lowest judge request clear narrow expand cabinetRequest cabinetLoad cabinetClear cabinetNarrow cabinetExpand suite orderOf bundleRecordLaidOut bundleInPlace bundleHasRoom bundleRecordFault listedAfter bundleEnd bundleFault firstRecord numbered field lists listed signatureOutcome policyRecord policyOf kmVouched kmFipsVouched kreVouched moduleKey recoveryKey classOf policyAdmits failureUnder aclFailure actionProtection smallest keyProtection recoverableKey fullFailure basicFailure deskFault desk subject subjectFault subjectReply subjectBuffer dayFault digits linesFrom dayLines
 computing = 0

@@ -12,3 +12,4 @@ pub mod GateGuards
 pub mod FileGuards
 pub mod DayGuards
 pub mod SubjectGuards
+pub mod CabinetExamples

@@ -16,6 +16,9 @@ pub const ACTIONS: usize = 8;
 // Named counters.
 pub const COUNTERS: usize = 256;
 
+// Slots of a cabinet.
+pub const SLOTS: usize = 8;
+
 // Certificates of a request, and listed module keys of a bundle.
 pub const CERTIFICATES: usize = 32;
 

@@ -1,11 +1,7 @@
-use mathlib.Core.Path.{sym, _∙_, ap}
-use Rattle.gate.specs.Outcomes.{decided}
+use mathlib.Core.Path.{sym, _∙_}
 use borrow.Author.Needs.{needs}
 use Rattle.gate.proofs.decide.Statement.{statement}
 use Rattle.gate.proofs.decide.Tie as tie
-
-judge-request-requires : tie.Need-judge-request-requires
-judge-request-requires c κs = search needs
 
 enum-known-judged : tie.Need-enum-known-judged
 enum-known-judged c = search needs
@@ -17,14 +13,10 @@ enum-known-judged-2 : tie.Need-enum-known-judged-2
 enum-known-judged-2 c = search needs
 
 returns : tie.Need-returns
-returns c =
-    let d = c .before .before in
-    c .grant .ensures ∙ ap (decided _) (sym (d .judged .given .1) ∙ d .before .before .judge-request .ensures)
+returns c = c .grant .ensures ∙ sym (rw (c .before .before .judged .given .1))
 
 returns-2 : tie.Need-returns-2
-returns-2 c =
-    let d = c .before in
-    ap (decided _) (sym (d .judged2 .given .1) ∙ d .before .before .judge-request .ensures)
+returns-2 c = rw (c .before .judged2 .given .1)
 
 pub decide-spec : {M : Type 1} → statement M
-decide-spec = tie.close (tie.spec judge-request-requires enum-known-judged grant-requires enum-known-judged-2 returns returns-2)
+decide-spec = tie.close (tie.spec enum-known-judged grant-requires enum-known-judged-2 returns returns-2)

@@ -1,5 +1,5 @@
 use mathlib.Core.Path.{_∙_, ap}
-use Rattle.host.specs.Surface.{judgedIn}
+use Rattle.surface.specs.Surface.{judgedIn}
 use borrow.Author.Needs.{needs}
 use Rattle.host.proofs.akubolinfe_desk.Statement.{statement}
 use Rattle.host.proofs.akubolinfe_desk.Tie as tie

@@ -1,5 +1,5 @@
 use mathlib.Core.Path.{_∙_, ap}
-use Rattle.host.specs.Surface.{toldFor}
+use Rattle.surface.specs.Surface.{toldFor}
 use borrow.Author.Needs.{needs}
 use Rattle.host.proofs.akubolinfe_request.Statement.{statement}
 use Rattle.host.proofs.akubolinfe_request.Tie as tie

@@ -1,5 +1,5 @@
 use mathlib.Core.Path.{_∙_, ap}
-use Rattle.host.specs.Surface.{wroteFor}
+use Rattle.surface.specs.Surface.{wroteFor}
 use borrow.Author.Needs.{needs}
 use Rattle.host.proofs.akubolinfe_subject.Statement.{statement}
 use Rattle.host.proofs.akubolinfe_subject.Tie as tie

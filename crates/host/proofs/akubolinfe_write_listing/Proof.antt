@@ -1,5 +1,5 @@
 use mathlib.Core.Path.{_∙_, ap}
-use Rattle.host.specs.Surface.{listedFor}
+use Rattle.surface.specs.Surface.{listedFor}
 use borrow.Author.Needs.{needs}
 use Rattle.host.proofs.akubolinfe_write_listing.Statement.{statement}
 use Rattle.host.proofs.akubolinfe_write_listing.Tie as tie

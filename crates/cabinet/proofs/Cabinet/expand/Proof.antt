@@ -1,0 +1,46 @@
+use Rattle.rules.specs.Ledger.{Ledger}
+use Rattle.rules.specs.Gate.{expand}
+use Rattle.rules.specs.Cabinet.{cabinetExpand}
+use Rattle.cabinet.proofs.Laws.{slot-called}
+use borrow.Author.Needs.{needs}
+use Rattle.cabinet.proofs.Cabinet.expand.Statement.{statement}
+use Rattle.cabinet.proofs.Cabinet.expand.Tie as tie
+
+is-slot-requires : tie.Need-is-slot-requires
+is-slot-requires c κs = search needs
+
+place-requires : tie.Need-place-requires
+place-requires c κs = search needs
+
+mul-s : tie.Need-mul-s
+mul-s c = search needs
+
+element-copy-out-s : tie.Need-element-copy-out-s
+element-copy-out-s c = search needs
+
+expand-in-requires : tie.Need-expand-in-requires
+expand-in-requires c κs = search needs
+
+hand-back-requires : tie.Need-hand-back-requires
+hand-back-requires c κs = search needs
+
+returns : tie.Need-returns
+unfolding cabinetExpand
+returns c =
+    let q = c .before in
+    let p = q .before .before .before .before .before in
+    let i = p .before in
+    let a = i .before .before .before .before .before .args in
+    slot-called (a .t1 .slots) (a .t1 .counters) (a .slot) _ _ (λ (l : Ledger). expand l (a .km0 .now) (a .acl .now) (a .req .now) (a .new .now)) _ _ (i .is-slot .ensures) (p .place .ensures .1) (q .expand-in .ensures) (c .hand-back .ensures)
+
+pub expand-spec : {M : Type 1} → statement M
+expand-spec =
+    tie.close
+    (tie.spec
+    is-slot-requires
+    place-requires
+    mul-s
+    element-copy-out-s
+    expand-in-requires
+    hand-back-requires
+    returns)

@@ -1,0 +1,24 @@
+use Rattle.gate.specs.Outcomes.{answerOf}
+use Rattle.cabinet.proofs.Laws.{handed}
+use borrow.Author.Needs.{needs}
+use Rattle.cabinet.proofs.Cabinet.hand_back.Statement.{statement}
+use Rattle.cabinet.proofs.Cabinet.hand_back.Tie as tie
+
+mul-s : tie.Need-mul-s
+mul-s c = search needs
+
+element-set-from-s : tie.Need-element-set-from-s
+element-set-from-s c = search needs
+
+returns : tie.Need-returns
+returns c =
+    let a = c .args in
+    handed (a .t1 .slots) (a .t1 .counters) (a .at) (record { counts = a .counts; loaded = a .loaded; last = a .settled .last }) (answerOf (a .settled .reply))
+
+pub hand-back-spec : {M : Type 1} → statement M
+hand-back-spec =
+    tie.close
+    (tie.spec
+    mul-s
+    element-set-from-s
+    returns)

@@ -1,0 +1,46 @@
+use Rattle.rules.specs.Ledger.{Ledger}
+use Rattle.rules.specs.Gate.{narrow}
+use Rattle.rules.specs.Cabinet.{cabinetNarrow}
+use Rattle.cabinet.proofs.Laws.{slot-called}
+use borrow.Author.Needs.{needs}
+use Rattle.cabinet.proofs.Cabinet.narrow.Statement.{statement}
+use Rattle.cabinet.proofs.Cabinet.narrow.Tie as tie
+
+is-slot-requires : tie.Need-is-slot-requires
+is-slot-requires c κs = search needs
+
+place-requires : tie.Need-place-requires
+place-requires c κs = search needs
+
+mul-s : tie.Need-mul-s
+mul-s c = search needs
+
+element-copy-out-s : tie.Need-element-copy-out-s
+element-copy-out-s c = search needs
+
+narrow-in-requires : tie.Need-narrow-in-requires
+narrow-in-requires c κs = search needs
+
+hand-back-requires : tie.Need-hand-back-requires
+hand-back-requires c κs = search needs
+
+returns : tie.Need-returns
+unfolding cabinetNarrow
+returns c =
+    let q = c .before in
+    let p = q .before .before .before .before .before in
+    let i = p .before in
+    let a = i .before .before .before .before .before .before .args in
+    slot-called (a .t1 .slots) (a .t1 .counters) (a .slot) _ _ (λ (l : Ledger). narrow l (a .km0 .now) (a .acl .now) (a .req .now) (a .new .now) (a .hints .now)) _ _ (i .is-slot .ensures) (p .place .ensures .1) (q .narrow-in .ensures) (c .hand-back .ensures)
+
+pub narrow-spec : {M : Type 1} → statement M
+narrow-spec =
+    tie.close
+    (tie.spec
+    is-slot-requires
+    place-requires
+    mul-s
+    element-copy-out-s
+    narrow-in-requires
+    hand-back-requires
+    returns)

@@ -1,0 +1,35 @@
+-- The cabinet's types, as the definitions have them.
+use Prim.Native.Nat.{ℕ}
+use mathlib.Core.List.{map}
+use mathlib.Core.Bool.{Bool}
+use lib.Dec.{ltb}
+use Rattle.rules.specs.Sizes.{slotsMax}
+use Rattle.rules.specs.Numbers.{noSlot}
+use Rattle.rules.specs.Basics.{if_then_else_}
+use Rattle.rules.specs.Ledger.{Ledger}
+use Rattle.rules.specs.Gate.{Outcome, refused}
+use Rattle.rules.specs.Cabinet as rules
+use Rattle.gate.specs.Outcomes.{answerOf}
+use Rattle.cabinet.specs.declared.Slot.{Slot}
+use Rattle.cabinet.specs.declared.Cabinet.{Cabinet}
+use Rattle.cabinet.specs.declared.CabinetOutcome.{CabinetOutcome}
+
+-- a slot
+abbrev pub slotOf : Slot → rules.Slot
+slotOf s = record { counts = s .counts; loaded = s .loaded; last = s .last }
+
+-- the cabinet
+abbrev pub cabinetOf : Cabinet → rules.Cabinet
+cabinetOf c = record { slots = map slotOf (c .slots); counters = c .counters }
+
+-- what is handed back
+abbrev pub cabinetOutcomeOf : CabinetOutcome → rules.CabinetOutcome
+cabinetOutcomeOf o = record { answer = answerOf (o .reply); cabinet = cabinetOf (o .cabinet) }
+
+-- the place that a call reads and writes: the slot's, or 0 where there is no such slot
+abbrev pub placeOf : ℕ → ℕ
+placeOf slot = if ltb slot slotsMax then slot else 0
+
+-- a call on a slot's ledger, where there is such a slot; else 13, and the ledger stands
+abbrev pub ifThere : Bool → Ledger → Outcome → Outcome
+ifThere there l o = if there then o else refused l noSlot

@@ -1,0 +1,289 @@
+// The cabinet: eight slots, each with its group counts and times, over one table of named counters. A call to a slot is the gate's own call on the
+// slot's counts and times and the shared counters. Of the cabinet that is handed in, a call copies one slot's counts, and lends them and the counters.
+ghost use mathlib.Core.Path.{_≡_};
+ghost use Prim.Native.Nat.{_<_};
+ghost use lib.Dec.{ltb};
+ghost use Rattle.rules.specs.Sizes.{slotsMax};
+ghost use Rattle.rules.specs.Gate.{request, narrow, expand};
+ghost use Rattle.rules.specs.Cabinet.{freshCabinet, asGate, cabinetRefused, cabinetLoad, cabinetClear, cabinetRequest, cabinetNarrow, cabinetExpand};
+ghost use Rattle.judging.specs.Standings.{tablesOf};
+ghost use Rattle.gate.specs.Outcomes.{settledOf};
+ghost use Rattle.refusals.specs.Refusals.{refusalNumber};
+ghost use Rattle.cabinet.specs.Kept.{placeOf, ifThere, cabinetOf, cabinetOutcomeOf};
+use gate::Ledger;
+use gate::Reply;
+use gate::Settled;
+use refusals::Refusal;
+
+// What a slot has of a ledger: group counts, the load time and the last time.
+#[repr(C)]
+pub struct Slot {
+    pub counts: [u32; Ledger::GROUPS],
+    pub loaded: u64,
+    pub last: u64,
+}
+
+// The slots and the counters that they share.
+#[repr(C)]
+pub struct Cabinet {
+    pub slots: [Slot; Cabinet::SLOTS],
+    pub counters: [u32; Ledger::COUNTERS],
+}
+
+// The cabinet handed back, with the reply.
+pub struct CabinetOutcome {
+    pub cabinet: Cabinet,
+    pub reply: Reply,
+}
+
+// Whether there is a slot of this number.
+fn is_slot(slot: usize) -> bool
+    ensures { λ r. ⌜ r ≡ ltb slot slotsMax ⌝ }
+{
+    slot < Cabinet::SLOTS
+}
+
+// The place that a call reads and writes: the slot's, or 0 where there is no such slot, and then what stands there is written back as it is. So a call to
+// no slot goes the way of all others: where two ways met, the whole cabinet would be copied once more.
+fn place(slot: usize) -> usize
+    ensures { λ r. ⌜ (r < slotsMax) × (r ≡ placeOf slot) ⌝ }
+{
+    if Cabinet::SLOTS <= slot {
+        return 0;
+    }
+    slot
+}
+
+// A request, where there is the slot that it is made to; else 13, before anything else is looked at.
+fn request_in(
+    there: bool,
+    counts: &mut [u32; Ledger::GROUPS],
+    counters: &mut [u32; Ledger::COUNTERS],
+    loaded: u64,
+    last: u64,
+    km0: &[u8],
+    acl: &[u8],
+    req: &[u8],
+) -> Settled
+    ensures { λ r. ⌜ settledOf r (now (counts .exit)) (now (counters .exit)) loaded ≡ ifThere there (tablesOf (now (counts .entry)) (now (counters .entry)) loaded last) (request (tablesOf (now (counts .entry)) (now (counters .entry)) loaded last) (now (km0 .entry)) (now (acl .entry)) (now (req .entry))) ⌝ }
+{
+    if !there {
+        return gate::refuse_on(Refusal::NoSlot, last);
+    }
+    gate::request_on(counts, counters, loaded, last, km0, acl, req)
+}
+
+// A narrowing, in the same way.
+fn narrow_in(
+    there: bool,
+    counts: &mut [u32; Ledger::GROUPS],
+    counters: &mut [u32; Ledger::COUNTERS],
+    loaded: u64,
+    last: u64,
+    km0: &[u8],
+    acl: &[u8],
+    req: &[u8],
+    new: &[u8],
+    hints: &[u8],
+) -> Settled
+    ensures { λ r. ⌜ settledOf r (now (counts .exit)) (now (counters .exit)) loaded ≡ ifThere there (tablesOf (now (counts .entry)) (now (counters .entry)) loaded last) (narrow (tablesOf (now (counts .entry)) (now (counters .entry)) loaded last) (now (km0 .entry)) (now (acl .entry)) (now (req .entry)) (now (new .entry)) (now (hints .entry))) ⌝ }
+{
+    if !there {
+        return gate::refuse_on(Refusal::NoSlot, last);
+    }
+    gate::narrow_on(counts, counters, loaded, last, km0, acl, req, new, hints)
+}
+
+// An expansion, in the same way.
+fn expand_in(
+    there: bool,
+    counts: &mut [u32; Ledger::GROUPS],
+    counters: &mut [u32; Ledger::COUNTERS],
+    loaded: u64,
+    last: u64,
+    km0: &[u8],
+    acl: &[u8],
+    req: &[u8],
+    new: &[u8],
+) -> Settled
+    ensures { λ r. ⌜ settledOf r (now (counts .exit)) (now (counters .exit)) loaded ≡ ifThere there (tablesOf (now (counts .entry)) (now (counters .entry)) loaded last) (expand (tablesOf (now (counts .entry)) (now (counters .entry)) loaded last) (now (km0 .entry)) (now (acl .entry)) (now (req .entry)) (now (new .entry))) ⌝ }
+{
+    if !there {
+        return gate::refuse_on(Refusal::NoSlot, last);
+    }
+    gate::expand_on(counts, counters, loaded, last, km0, acl, req, new)
+}
+
+impl Cabinet {
+    // Slots of a cabinet.
+    pub const SLOTS: usize = sizes::SLOTS;
+
+    // The fresh cabinet: all zero.
+    pub fn fresh() -> Self
+        ensures { λ r. ⌜ cabinetOf r ≡ freshCabinet ⌝ }
+    {
+        let slot = Slot {
+            counts: [0u32; Ledger::GROUPS],
+            loaded: 0,
+            last: 0,
+        };
+        Self {
+            slots: [slot; Cabinet::SLOTS],
+            counters: [0u32; Ledger::COUNTERS],
+        }
+    }
+
+    // A refusal: the cabinet stands.
+    fn refuse(self, why: Refusal) -> CabinetOutcome
+        ensures { λ r. ⌜ cabinetOutcomeOf r ≡ cabinetRefused (cabinetOf self) (refusalNumber why) ⌝ }
+    {
+        CabinetOutcome {
+            cabinet: self,
+            reply: Reply::Refuse(why),
+        }
+    }
+
+    // What a call came to, put into its places; the counters stand there already.
+    fn hand_back(
+        mut self,
+        at: usize,
+        counts: [u32; Ledger::GROUPS],
+        loaded: u64,
+        settled: Settled,
+    ) -> CabinetOutcome
+        requires { ⌜ at < slotsMax ⌝ }
+        ensures { λ r. ⌜ cabinetOutcomeOf r ≡ asGate (cabinetOf self) at (settledOf settled counts (self .counters) loaded) ⌝ }
+    {
+        let reply = settled.reply;
+        let s = Slot {
+            counts,
+            loaded,
+            last: settled.last,
+        };
+        self.slots[at] = s;
+        CabinetOutcome {
+            cabinet: self,
+            reply,
+        }
+    }
+
+    // A load of a slot, at any time: its group counts zero, both times set to it.
+    pub fn load(mut self, slot: usize, time: u64) -> CabinetOutcome
+        ensures { λ r. ⌜ cabinetOutcomeOf r ≡ cabinetLoad (cabinetOf self) slot time ⌝ }
+    {
+        if Cabinet::SLOTS <= slot {
+            return self.refuse(Refusal::NoSlot);
+        }
+        let s = Slot {
+            counts: [0u32; Ledger::GROUPS],
+            loaded: time,
+            last: time,
+        };
+        self.slots[slot] = s;
+        CabinetOutcome {
+            cabinet: self,
+            reply: Reply::Done,
+        }
+    }
+
+    // A clear of one named counter: it takes no slot.
+    pub fn clear(mut self, counter: usize) -> CabinetOutcome
+        ensures { λ r. ⌜ cabinetOutcomeOf r ≡ cabinetClear (cabinetOf self) counter ⌝ }
+    {
+        if Ledger::COUNTERS <= counter {
+            return self.refuse(Refusal::OutOfRange);
+        }
+        self.counters[counter] = 0;
+        CabinetOutcome {
+            cabinet: self,
+            reply: Reply::Done,
+        }
+    }
+
+    // A request to a slot. A refusal hands the cabinet back as it was.
+    pub fn request(mut self, slot: usize, km0: &[u8], acl: &[u8], req: &[u8]) -> CabinetOutcome
+        ensures { λ r. ⌜ cabinetOutcomeOf r ≡ cabinetRequest (cabinetOf self) slot (now (km0 .entry)) (now (acl .entry)) (now (req .entry)) ⌝ }
+    {
+        let there = is_slot(slot);
+        let at = place(slot);
+        let s = self.slots[at];
+        let mut counts = s.counts;
+        let loaded = s.loaded;
+        let last = s.last;
+        let settled = request_in(
+            there,
+            &mut counts,
+            &mut self.counters,
+            loaded,
+            last,
+            km0,
+            acl,
+            req,
+        );
+        self.hand_back(at, counts, loaded, settled)
+    }
+
+    // A narrowing in a slot.
+    pub fn narrow(
+        mut self,
+        slot: usize,
+        km0: &[u8],
+        acl: &[u8],
+        req: &[u8],
+        new: &[u8],
+        hints: &[u8],
+    ) -> CabinetOutcome
+        ensures { λ r. ⌜ cabinetOutcomeOf r ≡ cabinetNarrow (cabinetOf self) slot (now (km0 .entry)) (now (acl .entry)) (now (req .entry)) (now (new .entry)) (now (hints .entry)) ⌝ }
+    {
+        let there = is_slot(slot);
+        let at = place(slot);
+        let s = self.slots[at];
+        let mut counts = s.counts;
+        let loaded = s.loaded;
+        let last = s.last;
+        let settled = narrow_in(
+            there,
+            &mut counts,
+            &mut self.counters,
+            loaded,
+            last,
+            km0,
+            acl,
+            req,
+            new,
+            hints,
+        );
+        self.hand_back(at, counts, loaded, settled)
+    }
+
+    // An expansion in a slot.
+    pub fn expand(
+        mut self,
+        slot: usize,
+        km0: &[u8],
+        acl: &[u8],
+        req: &[u8],
+        new: &[u8],
+    ) -> CabinetOutcome
+        ensures { λ r. ⌜ cabinetOutcomeOf r ≡ cabinetExpand (cabinetOf self) slot (now (km0 .entry)) (now (acl .entry)) (now (req .entry)) (now (new .entry)) ⌝ }
+    {
+        let there = is_slot(slot);
+        let at = place(slot);
+        let s = self.slots[at];
+        let mut counts = s.counts;
+        let loaded = s.loaded;
+        let last = s.last;
+        let settled = expand_in(
+            there,
+            &mut counts,
+            &mut self.counters,
+            loaded,
+            last,
+            km0,
+            acl,
+            req,
+            new,
+        );
+        self.hand_back(at, counts, loaded, settled)
+    }
+}

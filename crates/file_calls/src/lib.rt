@@ -1,0 +1,57 @@
+// The calls of a replay script (docs/REPLAY.md) that know of no ledger: the desk, the subject writer and the listings. Each makes the call and prints its
+// line.
+use printing::print;
+use subject::Written;
+
+// The desk's verdict, in its own line.
+pub fn desk_call(k: u64, bundle: &[u8], acl: &[u8]) {
+    let mut line = [0u8; verdicts::LINE];
+    let n = verdicts::verdict_line(desk::assess(bundle, acl), &mut line);
+    printing::print_line(k);
+    print(&line[..n]);
+}
+
+fn print_length(n: usize) {
+    print(b"length");
+    printing::print_spaced(n);
+}
+
+fn print_written(w: Written) {
+    match w {
+        Written::Length(n) => print_length(n),
+        Written::Refused(why) => printing::print_refusal(refusals::number(why) as u64),
+    }
+}
+
+fn print_listed(reply: listing::Reply) {
+    match reply {
+        listing::Reply::Produced(n) => print_length(n),
+        listing::Reply::Refused(why) => printing::print_refusal(refusals::number(why) as u64),
+        listing::Reply::BadLine(n) => {
+            printing::print_refusal(15);
+            printing::print_spaced(n);
+        }
+    }
+}
+
+// The answer to a letter: a subject, or a listing written or read.
+fn answer(letter: u8, first: u64, second: u64, given: &[u8], buffer: &mut [u8]) {
+    if letter == b'S' {
+        print_written(subject::write_subject(first, second, given, buffer));
+        return;
+    }
+    if letter == b'W' {
+        print_listed(listing::write_listing(given, buffer));
+        return;
+    }
+    print_listed(listing::read_listing(given, buffer));
+}
+
+// A call that writes into a lent buffer, and the whole buffer after it.
+pub fn buffer_call(k: u64, letter: u8, first: u64, second: u64, given: &[u8], buffer: &mut [u8]) {
+    printing::print_line(k);
+    answer(letter, first, second, given, buffer);
+    print(b" ");
+    printing::print_hex(buffer);
+    print(b"\n");
+}

@@ -1,0 +1,87 @@
+// Prints what the gate and the cabinet answer: the reply, and the ledger or the slot as it now is.
+use cabinet::Cabinet;
+use cabinet::CabinetOutcome;
+use cabinet::Slot;
+use gate::Ledger;
+use gate::Outcome;
+use gate::Reply;
+use printing::print;
+use refusals::Denial;
+
+// A fresh ledger, as the outcome of a call.
+pub fn fresh_ledger() -> Outcome {
+    Outcome {
+        ledger: Ledger::fresh(),
+        reply: Reply::Done,
+    }
+}
+
+// A fresh cabinet, as the outcome of a call.
+pub fn fresh_cabinet() -> CabinetOutcome {
+    CabinetOutcome {
+        cabinet: Cabinet::fresh(),
+        reply: Reply::Done,
+    }
+}
+
+pub fn print_reply(reply: Reply) {
+    match reply {
+        Reply::Done => print(b"done"),
+        Reply::Permit(place) => {
+            print(b"permit");
+            printing::print_spaced(place);
+        }
+        Reply::Refuse(why) => printing::print_refusal(refusals::number(why) as u64),
+        Reply::Deny(why) => print_denial(why),
+    }
+}
+
+// A denial: its number and, where it names one, the group that came nearest.
+fn print_denial(why: Denial) {
+    printing::print_refusal(refusals::denial_number(why) as u64);
+    match why {
+        Denial::Early => {}
+        Denial::Unadmitted => {}
+        Denial::Uncertified(place) => printing::print_spaced(place),
+        Denial::Exhausted(place) => printing::print_spaced(place),
+    }
+}
+
+// The line of a ledger call, and the ledger handed back.
+pub fn ledger_line(k: u64, o: Outcome) -> Ledger {
+    let reply = o.reply;
+    let ledger = o.ledger;
+    let counts = ledger.counts;
+    let counters = ledger.counters;
+    printing::print_line(k);
+    print_reply(reply);
+    printing::print_used(ledger.loaded, ledger.last, &counts);
+    printing::print_counters(&counters);
+    ledger
+}
+
+fn print_slot(slot: usize, s: Slot) {
+    let counts = s.counts;
+    print(b" slot");
+    printing::print_spaced(slot);
+    printing::print_used(s.loaded, s.last, &counts);
+}
+
+// The slot of a number, where there is one.
+fn print_slot_of(cabinet: Cabinet, slot: usize) {
+    if slot < Cabinet::SLOTS {
+        print_slot(slot, cabinet.slots[slot]);
+    }
+}
+
+// The line of a cabinet call, and the cabinet handed back. The slot is past the last where the call takes none.
+pub fn cabinet_line(k: u64, o: CabinetOutcome, slot: usize) -> Cabinet {
+    let reply = o.reply;
+    let cabinet = o.cabinet;
+    let counters = cabinet.counters;
+    printing::print_line(k);
+    print_reply(reply);
+    print_slot_of(cabinet, slot);
+    printing::print_counters(&counters);
+    cabinet
+}

@@ -1,0 +1,75 @@
+// Prints numbers, tables and bytes on standard output, as the programs show them.
+use libc::STDOUT_FILENO;
+
+pub fn print(text: &[u8]) {
+    io::write_all(STDOUT_FILENO, text);
+}
+
+pub fn print_number(n: u64) {
+    io::print_decimal(STDOUT_FILENO, n);
+}
+
+// The beginning of a line: its number and a space.
+pub fn print_line(k: u64) {
+    print_number(k);
+    print(b" ");
+}
+
+pub fn print_refusal(number: u64) {
+    print(b"refuse ");
+    print_number(number);
+}
+
+// A space and a number.
+pub fn print_spaced(n: usize) {
+    print(b" ");
+    print_number(n as u64);
+}
+
+// The entries of a table that are not zero, with their places.
+fn print_table(table: &[u32]) {
+    let mut i = 0;
+    while i < table.len() {
+        print_entry(i, table[i]);
+        i += 1;
+    }
+}
+
+fn print_entry(i: usize, n: u32) {
+    if n == 0 {
+        return;
+    }
+    print_spaced(i);
+    print(b":");
+    print_number(n as u64);
+}
+
+// Load time, last time and group counts.
+pub fn print_used(loaded: u64, last: u64, counts: &[u32]) {
+    print(b" load ");
+    print_number(loaded);
+    print(b" last ");
+    print_number(last);
+    print(b" counts");
+    print_table(counts);
+}
+
+// The named counters, which end a line.
+pub fn print_counters(counters: &[u32]) {
+    print(b" counters");
+    print_table(counters);
+    print(b"\n");
+}
+
+// Bytes, two lower-case digits for each.
+pub fn print_hex(s: &[u8]) {
+    let mut i = 0;
+    while i < s.len() {
+        print_byte(s[i]);
+        i += 1;
+    }
+}
+
+fn print_byte(b: u8) {
+    io::print_hex(STDOUT_FILENO, b as u64, 2);
+}

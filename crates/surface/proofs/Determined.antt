@@ -1,0 +1,140 @@
+-- The numbers of the C surface lose nothing. Structs that read the same are the same, so that a promise determines what the host gets; and outcomes,
+-- replies and verdicts with the same numbers are the same, so that the host can tell from the numbers what was answered.
+use Prim.Native.Nat.{ℕ}
+use mathlib.Core.Path.{_≡_, refl, sym, _∙_, ap}
+use mathlib.Core.Logic.{_≢_}
+use mathlib.Core.List.{List, [], _∷_}
+use mathlib.Core.Option.{Option, none, some}
+use lib.ListN.{getD}
+use lib.Dec.{eqb}
+use borrow.Author.Tests.{ne-eqb}
+use Rattle.rules.specs.Basics.{if_then_else_}
+use Rattle.rules.specs.Gate.{Answer, done, permit, refuse, Outcome}
+use Rattle.rules.specs.Desk.{Step, WV1, MSCV1, MSCV2, MSCV3, MSCV4, MSCV5, WBCV1, WBCV2, WBCV3, KGCV1, KGCV2, ACLV3, WB1, WB2, WB3, WB6, RB1, RB2, RB3, KV3, CSRL1}
+use Rattle.rules.specs.Subject.{SubjectReply, written, unwritten}
+use Rattle.steps.specs.Steps.{stepNumber}
+use Rattle.desk.specs.Replies.{Reply, accepting, failing, refusing}
+use Rattle.gate.proofs.Determined.{ledgerBack}
+use Rattle.rules.specs.Cabinet as cabinet
+use Rattle.cabinet.specs.declared.Cabinet.{Cabinet}
+use Rattle.cabinet.proofs.Determined.{cabinetBack, cabinet-back}
+use Rattle.surface.specs.declared.HostOutcome.{HostOutcome}
+use Rattle.surface.specs.declared.HostCabinetOutcome.{HostCabinetOutcome}
+use Rattle.surface.specs.declared.HostVerdict.{HostVerdict}
+use Rattle.surface.specs.declared.HostWritten.{HostWritten}
+use Rattle.surface.specs.Surface.{Told, toldBy, answerCode, answerNumber, noGroup, answerGroup, toldFor, CabinetTold, cabinetToldBy, cabinetToldFor, Wrote, wroteBy, wroteFor, Judged, judgedBy, judgedIn}
+
+-- The structs.
+pub told-determined : (o p : HostOutcome) → toldBy o ≡ toldBy p → o ≡ p
+told-determined o p e = ap (λ (t : Told). record { ledger = ledgerBack (t .ledger); answer = t .answer; number = t .number; group = t .group }) e
+
+abbrev cabinetHost : Cabinet → ℕ → ℕ → ℕ → HostCabinetOutcome
+cabinetHost c answer number group = record { cabinet = c; answer = answer; number = number; group = group }
+
+abbrev cabinetHostBack : CabinetTold → HostCabinetOutcome
+cabinetHostBack t = cabinetHost (cabinetBack (t .cabinet)) (t .answer) (t .number) (t .group)
+
+cabinet-host-back : (o : HostCabinetOutcome) → cabinetHostBack (cabinetToldBy o) ≡ o
+cabinet-host-back o = ap (λ (c : Cabinet). cabinetHost c (o .answer) (o .number) (o .group)) (cabinet-back (o .cabinet))
+
+pub cabinet-told-determined : (o p : HostCabinetOutcome) → cabinetToldBy o ≡ cabinetToldBy p → o ≡ p
+cabinet-told-determined o p e = sym (cabinet-host-back o) ∙ ap cabinetHostBack e ∙ cabinet-host-back p
+
+pub judged-determined : (v w : HostVerdict) → judgedBy v ≡ judgedBy w → v ≡ w
+judged-determined v w e =
+    ap (λ (j : Judged). record { answer = j .answer; approach = j .approach; protection = j .protection; recoverable = j .recoverable; number = j .number }) e
+
+pub wrote-determined : (w v : HostWritten) → wroteBy w ≡ wroteBy v → w ≡ v
+wrote-determined w v e = ap (λ (n : Wrote). record { answer = n .answer; number = n .number }) e
+
+-- What the numbers stand for: an outcome. No group has the number that says that none is named: the gate names places in an ACL, and an ACL has far fewer groups.
+abbrev pub Nameable : Answer → Type 0
+Nameable done = Unit {0}
+Nameable (permit place) = Unit {0}
+Nameable (refuse n none) = Unit {0}
+Nameable (refuse n (some place)) = place ≢ noGroup
+
+abbrev groupBack : ℕ → Option ℕ
+groupBack g = if eqb g noGroup then none else some g
+
+abbrev answerBack : ℕ → ℕ → ℕ → Answer
+answerBack code n g = if eqb code 0 then done else if eqb code 1 then permit n else refuse n (groupBack g)
+
+answer-back : (a : Answer) → Nameable a → answerBack (answerCode a) (answerNumber a) (answerGroup a) ≡ a
+answer-back done h = refl
+answer-back (permit place) h = refl
+answer-back (refuse n none) h = refl
+answer-back (refuse n (some place)) h = rw (ne-eqb place noGroup h)
+
+abbrev outcomeBack : Told → Outcome
+outcomeBack t = record { answer = answerBack (t .answer) (t .number) (t .group); ledger = t .ledger }
+
+outcome-back : (o : Outcome) → Nameable (o .answer) → outcomeBack (toldFor o) ≡ o
+outcome-back o h = ap (λ (a : Answer). record { answer = a; ledger = o .ledger }) (answer-back (o .answer) h)
+
+pub outcome-told : (o p : Outcome) → Nameable (o .answer) → Nameable (p .answer) → toldFor o ≡ toldFor p → o ≡ p
+outcome-told o p h k e = sym (outcome-back o h) ∙ ap outcomeBack e ∙ outcome-back p k
+
+-- .. of the cabinet ..
+abbrev cabinetOutcomeBack : CabinetTold → cabinet.CabinetOutcome
+cabinetOutcomeBack t = record { answer = answerBack (t .answer) (t .number) (t .group); cabinet = t .cabinet }
+
+cabinet-outcome-back : (o : cabinet.CabinetOutcome) → Nameable (o .answer) → cabinetOutcomeBack (cabinetToldFor o) ≡ o
+cabinet-outcome-back o h = ap (λ (a : Answer). record { answer = a; cabinet = o .cabinet }) (answer-back (o .answer) h)
+
+pub cabinet-outcome-told :
+    (o p : cabinet.CabinetOutcome) → Nameable (o .answer) → Nameable (p .answer) → cabinetToldFor o ≡ cabinetToldFor p → o ≡ p
+cabinet-outcome-told o p h k e = sym (cabinet-outcome-back o h) ∙ ap cabinetOutcomeBack e ∙ cabinet-outcome-back p k
+
+-- .. a subject's reply ..
+abbrev replyBack : Wrote → SubjectReply
+replyBack w = if eqb (w .answer) 1 then written (w .number) else unwritten (w .number)
+
+reply-back : (r : SubjectReply) → replyBack (wroteFor r) ≡ r
+reply-back (written n) = refl
+reply-back (unwritten n) = refl
+
+pub reply-wrote : (r s : SubjectReply) → wroteFor r ≡ wroteFor s → r ≡ s
+reply-wrote r s e = sym (reply-back r) ∙ ap replyBack e ∙ reply-back s
+
+-- .. a verdict. No step has the number 0.
+abbrev steps : List Step
+steps =
+    WV1 ∷ WV1 ∷ MSCV1 ∷ MSCV2 ∷ MSCV3 ∷ MSCV4 ∷ MSCV5 ∷ WBCV1 ∷ WBCV2 ∷ WBCV3 ∷ KGCV1 ∷ KGCV2 ∷ ACLV3 ∷ WB1 ∷ WB2 ∷ WB3 ∷ WB6 ∷ RB1 ∷ RB2 ∷ RB3 ∷ KV3 ∷ CSRL1 ∷ []
+
+step-back : (s : Step) → getD steps (stepNumber s) WV1 ≡ s
+step-back WV1 = refl
+step-back MSCV1 = refl
+step-back MSCV2 = refl
+step-back MSCV3 = refl
+step-back MSCV4 = refl
+step-back MSCV5 = refl
+step-back WBCV1 = refl
+step-back WBCV2 = refl
+step-back WBCV3 = refl
+step-back KGCV1 = refl
+step-back KGCV2 = refl
+step-back ACLV3 = refl
+step-back WB1 = refl
+step-back WB2 = refl
+step-back WB3 = refl
+step-back WB6 = refl
+step-back RB1 = refl
+step-back RB2 = refl
+step-back RB3 = refl
+step-back KV3 = refl
+step-back CSRL1 = refl
+
+abbrev verdictBack : Judged → Reply
+verdictBack j =
+    if eqb (j .answer) 1 then accepting (record { approach = j .approach; protection = j .protection; recoverable = j .recoverable })
+    else if eqb (j .answer) 2 then failing (getD steps (j .number) WV1)
+    else refusing (j .number)
+
+verdict-back : (r : Reply) → verdictBack (judgedIn r) ≡ r
+verdict-back (accepting a) = refl
+verdict-back (failing s) = ap failing (step-back s)
+verdict-back (refusing n) = refl
+
+pub verdict-judged : (r s : Reply) → judgedIn r ≡ judgedIn s → r ≡ s
+verdict-judged r s e = sym (verdict-back r) ∙ ap verdictBack e ∙ verdict-back s

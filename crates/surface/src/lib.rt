@@ -1,0 +1,216 @@
+// The answers of the C surface: what the entry points answer, in plain structs of numbers. The exported functions are in `host`.
+ghost use mathlib.Core.Path.{_≡_};
+ghost use Rattle.refusals.specs.Refusals.{denialGroup};
+ghost use Rattle.listing.specs.Answers as answers;
+ghost use Rattle.desk.specs.Replies as replies;
+ghost use Rattle.gate.specs.Outcomes.{answerOf, outcomeOf};
+ghost use Rattle.cabinet.specs.Kept.{cabinetOutcomeOf};
+ghost use Rattle.subject.specs.Writing as writing;
+ghost use Rattle.surface.specs.Surface.{toldBy, answerCode, answerNumber, orNoGroup, answerGroup, toldFor, cabinetToldBy, cabinetToldFor, wroteBy, wroteFor, judgedBy, judgedIn, otherwise, listedBy, listingNumbers, listedFor};
+use cabinet::Cabinet;
+use cabinet::CabinetOutcome;
+use desk::Acceptance;
+use desk::Verdict;
+use gate::Ledger;
+use gate::Outcome;
+use gate::Reply;
+use refusals::Denial;
+use subject::Written;
+
+// No group is named: all ones.
+const NO_GROUP: u64 = 18446744073709551615;
+
+// The ledger handed back, what the answer is (0 done, 1 permitted, 2 refused), its number: the group, or the refusal; and the group that permits, or that
+// came nearest, all ones where none is named.
+#[repr(C)]
+pub struct HostOutcome {
+    pub ledger: Ledger,
+    pub answer: u64,
+    pub number: u64,
+    pub group: u64,
+}
+
+// The cabinet handed back, and the answer as the ledger's.
+#[repr(C)]
+pub struct HostCabinetOutcome {
+    pub cabinet: Cabinet,
+    pub answer: u64,
+    pub number: u64,
+    pub group: u64,
+}
+
+// A verdict: 1 accepted, 2 a step failed, 3 refused; what an acceptance names; the step's number from 1, or the refusal's.
+#[repr(C)]
+pub struct HostVerdict {
+    pub answer: u64,
+    pub approach: u64,
+    pub protection: u64,
+    pub recoverable: bool,
+    pub number: u64,
+}
+
+// A subject: 1 and its length, or 2 and the refusal.
+#[repr(C)]
+pub struct HostWritten {
+    pub answer: u64,
+    pub number: u64,
+}
+
+// A listing written or read: 1 and the result's length, or 2 and the refusal's number; with 15 the number of the first bad line, from 1.
+#[repr(C)]
+pub struct HostListing {
+    pub answer: u64,
+    pub number: u64,
+    pub line: u64,
+}
+
+// What a reply is, and its number.
+fn answer_code(reply: Reply) -> u64
+    ensures { λ r. ⌜ r ≡ answerCode (answerOf reply) ⌝ }
+{
+    match reply {
+        Reply::Done => 0,
+        Reply::Permit(_) => 1,
+        Reply::Refuse(_) => 2,
+        Reply::Deny(_) => 2,
+    }
+}
+
+fn answer_number(reply: Reply) -> u64
+    ensures { λ r. ⌜ r ≡ answerNumber (answerOf reply) ⌝ }
+{
+    match reply {
+        Reply::Done => 0,
+        Reply::Permit(place) => place as u64,
+        Reply::Refuse(why) => refusals::number(why) as u64,
+        Reply::Deny(why) => refusals::denial_number(why) as u64,
+    }
+}
+
+// The group that came nearest, where a denial names one.
+fn nearest(d: Denial) -> u64
+    ensures { λ r. ⌜ r ≡ orNoGroup (denialGroup d) ⌝ }
+{
+    match d {
+        Denial::Early => NO_GROUP,
+        Denial::Unadmitted => NO_GROUP,
+        Denial::Uncertified(place) => place as u64,
+        Denial::Exhausted(place) => place as u64,
+    }
+}
+
+// The group that a reply names.
+fn answer_group(reply: Reply) -> u64
+    ensures { λ r. ⌜ r ≡ answerGroup (answerOf reply) ⌝ }
+{
+    match reply {
+        Reply::Done => NO_GROUP,
+        Reply::Permit(place) => place as u64,
+        Reply::Refuse(_) => NO_GROUP,
+        Reply::Deny(why) => nearest(why),
+    }
+}
+
+// An outcome as the host gets it.
+pub fn told(o: Outcome) -> HostOutcome
+    ensures { λ r. ⌜ toldBy r ≡ toldFor (outcomeOf o) ⌝ }
+{
+    let reply = o.reply;
+    let ledger = o.ledger;
+    HostOutcome {
+        ledger,
+        answer: answer_code(reply),
+        number: answer_number(reply),
+        group: answer_group(reply),
+    }
+}
+
+// An outcome of the cabinet as the host gets it.
+pub fn cabinet_told(o: CabinetOutcome) -> HostCabinetOutcome
+    ensures { λ r. ⌜ cabinetToldBy r ≡ cabinetToldFor (cabinetOutcomeOf o) ⌝ }
+{
+    let reply = o.reply;
+    let cabinet = o.cabinet;
+    HostCabinetOutcome {
+        cabinet,
+        answer: answer_code(reply),
+        number: answer_number(reply),
+        group: answer_group(reply),
+    }
+}
+
+// An acceptance as the host gets it.
+fn acceptance(a: Acceptance) -> HostVerdict
+    ensures { λ r. ⌜ judgedBy r ≡ judgedIn (replies.accepting (replies.namedBy a)) ⌝ }
+{
+    let protection = a.protection;
+    HostVerdict {
+        answer: 1,
+        approach: a.approach as u64,
+        protection: desk::protection_number(protection) as u64,
+        recoverable: a.recoverable,
+        number: 0,
+    }
+}
+
+// A verdict that is no acceptance.
+fn other(answer: u64, number: u64) -> HostVerdict
+    ensures { λ r. ⌜ judgedBy r ≡ otherwise answer number ⌝ }
+{
+    HostVerdict {
+        answer,
+        approach: 0,
+        protection: 0,
+        recoverable: false,
+        number,
+    }
+}
+
+// A verdict as the host gets it.
+pub fn judged(v: Verdict) -> HostVerdict
+    ensures { λ r. ⌜ judgedBy r ≡ judgedIn (replies.replyOf v) ⌝ }
+{
+    match v {
+        Verdict::Accepted(a) => acceptance(a),
+        Verdict::Failed(s) => other(2, steps::number(s)),
+        Verdict::Refused(why) => other(3, refusals::number(why) as u64),
+    }
+}
+
+// What the subject writer answered.
+pub fn wrote(w: Written) -> HostWritten
+    ensures { λ r. ⌜ wroteBy r ≡ wroteFor (writing.replyOf w) ⌝ }
+{
+    match w {
+        Written::Length(n) => HostWritten {
+            answer: 1,
+            number: n as u64,
+        },
+        Written::Refused(why) => HostWritten {
+            answer: 2,
+            number: refusals::number(why) as u64,
+        },
+    }
+}
+
+// A listing's reply in its three numbers.
+fn listing_numbers(answer: u64, number: u64, line: u64) -> HostListing
+    ensures { λ r. ⌜ listedBy r ≡ listingNumbers answer number line ⌝ }
+{
+    HostListing {
+        answer,
+        number,
+        line,
+    }
+}
+
+// What the writer or the reader of listings answered.
+pub fn listed(reply: listing::Reply) -> HostListing
+    ensures { λ r. ⌜ listedBy r ≡ listedFor (answers.replyOf reply) ⌝ }
+{
+    match reply {
+        listing::Reply::Produced(n) => listing_numbers(1, n as u64, 0),
+        listing::Reply::Refused(why) => listing_numbers(2, refusals::number(why) as u64, 0),
+        listing::Reply::BadLine(n) => listing_numbers(2, 15, n as u64),
+    }
+}

@@ -1,0 +1,276 @@
+//! Answers a whole script, one line for each call, or counts the answers by their kind.
+
+use std::collections::BTreeMap;
+use std::fmt::Write as _;
+use std::io::{self, Read, Write};
+
+use crate::answer::{Answer, State};
+use crate::cabinet::check_slot;
+use crate::call::Call;
+use crate::ledger::Ledger;
+use crate::script::{read_call, Next};
+
+/// Answers a whole script.
+pub fn answer_script(
+    input: &mut impl Read,
+    output: &mut impl Write,
+    kinds: &str,
+) -> io::Result<()> {
+    let mut state = State::fresh();
+    for number in 1.. {
+        match read_call(input, kinds)? {
+            Next::Call(mut call) => {
+                let answer = state.answer(&mut call);
+                writeln!(output, "{}", answer_line(number, &call, answer, &state))?;
+            }
+            Next::Stop => {
+                writeln!(output, "{number} stop")?;
+                break;
+            }
+            Next::End => break,
+        }
+    }
+    output.flush()
+}
+
+/// Counts the answers of a script by call letter and kind: one line "COUNT LETTER KIND" each.
+pub fn tally_script(input: &mut impl Read, output: &mut impl Write, kinds: &str) -> io::Result<()> {
+    let mut state = State::fresh();
+    let mut tally: BTreeMap<String, u64> = BTreeMap::new();
+    loop {
+        let name = match read_call(input, kinds)? {
+            Next::Call(mut call) => {
+                let answer = state.answer(&mut call);
+                format!("{} {}", call.letter(), answer.kind())
+            }
+            Next::Stop => "- stop".to_string(),
+            Next::End => break,
+        };
+        let stopped = name == "- stop";
+        *tally.entry(name).or_insert(0) += 1;
+        if stopped {
+            break;
+        }
+    }
+    for (name, count) in tally {
+        writeln!(output, "{count} {name}")?;
+    }
+    output.flush()
+}
+
+/// One line of output, without its newline.
+fn answer_line(number: u64, call: &Call, answer: Answer, state: &State) -> String {
+    let mut line = format!("{number} {}", answer.words());
+    match call {
+        Call::Desk { .. } => {}
+        Call::Subject { buffer, .. }
+        | Call::WriteListing { buffer, .. }
+        | Call::ReadListing { buffer, .. } => add_hex(&mut line, buffer),
+        Call::FreshCabinet | Call::ClearShared { .. } => {
+            add_counters(&mut line, &state.cabinet.counters)
+        }
+        Call::InSlot { slot, .. } => match check_slot(*slot) {
+            Ok(place) => {
+                let _ = write!(line, " slot {place}");
+                add_ledger(&mut line, &state.cabinet.ledger(place));
+            }
+            Err(_) => add_counters(&mut line, &state.cabinet.counters),
+        },
+        _ => add_ledger(&mut line, &state.ledger),
+    }
+    line
+}
+
+fn add_hex(line: &mut String, bytes: &[u8]) {
+    const DIGITS: &[u8; 16] = b"0123456789abcdef";
+    line.push(' ');
+    for byte in bytes {
+        line.push(char::from(DIGITS[usize::from(byte >> 4)]));
+        line.push(char::from(DIGITS[usize::from(byte & 15)]));
+    }
+}
+
+/// " load T last T counts I:V I:V counters I:V with only the entries that are not zero".
+fn add_ledger(line: &mut String, ledger: &Ledger) {
+    let _ = write!(
+        line,
+        " load {} last {} counts",
+        ledger.load_time, ledger.last_time
+    );
+    add_entries(line, &ledger.group_counts);
+    add_counters(line, &ledger.counters);
+}
+
+fn add_counters(line: &mut String, counters: &[u32]) {
+    line.push_str(" counters");
+    add_entries(line, counters);
+}
+
+fn add_entries(line: &mut String, entries: &[u32]) {
+    for (place, value) in entries.iter().enumerate().filter(|(_, &value)| value != 0) {
+        let _ = write!(line, " {place}:{value}");
+    }
+}
+
+#[cfg(test)]
+mod tests {
+    use super::*;
+    use crate::acl::{Acl, Action, Group, Limit, Sort};
+    use crate::encode;
+    use crate::request::{Asked, Presented, Request};
+    use crate::script::{call_bytes, ALL_KINDS};
+
+    fn answers(script: &[u8], kinds: &str) -> String {
+        let mut output = Vec::new();
+        answer_script(&mut &script[..], &mut output, kinds).unwrap();
+        String::from_utf8(output).unwrap()
+    }
+
+    fn sign(limits: &[Limit], time: u64) -> Call {
+        let group = |limits| Group {
+            limits,
+            actions: vec![Action::OpPermissions(0x10)],
+            ..Group::default()
+        };
+        let groups = match limits {
+            [] => vec![group(Vec::new())],
+            _ => limits.iter().map(|&limit| group(vec![limit])).collect(),
+        };
+        let request = encode::request(
+            &Request {
+                asked: Asked::Use(4),
+                time,
+            },
+            &Presented::default(),
+        );
+        Call::Request {
+            km0: vec![0; 20],
+            acl: encode::acl(&Acl { groups }),
+            request,
+        }
+    }
+
+    #[test]
+    fn the_example_of_the_script_format() {
+        let calls = [Call::Load { time: 100 }, sign(&[], 105)];
+        let script: Vec<u8> = calls.iter().flat_map(call_bytes).collect();
+        let lines = "1 done load 100 last 100 counts counters\n\
+                     2 permit 0 load 100 last 105 counts 0:1 counters\n";
+        assert_eq!(answers(&script, ALL_KINDS), lines);
+    }
+
+    #[test]
+    fn the_cabinet_example_of_the_script_format() {
+        let limit = Limit {
+            sort: Sort::Counter(3),
+            maximum: 9,
+        };
+        let in_slot = |slot, call| Call::InSlot {
+            slot,
+            call: Box::new(call),
+        };
+        let calls = [
+            Call::FreshCabinet,
+            in_slot(2, Call::Load { time: 100 }),
+            in_slot(2, sign(&[limit], 105)),
+            in_slot(9, sign(&[limit], 105)),
+            Call::ClearShared { counter: 256 },
+            in_slot(1, sign(&[limit], 7)),
+            Call::ClearShared { counter: 3 },
+            in_slot(8, Call::Load { time: 1 }),
+            Call::Load { time: 1 },
+        ];
+        let script: Vec<u8> = calls.iter().flat_map(call_bytes).collect();
+        let lines = "1 done counters\n\
+                     2 done slot 2 load 100 last 100 counts counters\n\
+                     3 permit 0 slot 2 load 100 last 105 counts 0:1 counters 3:1\n\
+                     4 refuse 13 counters 3:1\n\
+                     5 refuse 10 counters 3:1\n\
+                     6 permit 0 slot 1 load 0 last 7 counts 0:1 counters 3:2\n\
+                     7 done counters\n\
+                     8 refuse 13 counters\n\
+                     9 done load 1 last 1 counts counters\n";
+        assert_eq!(answers(&script, ALL_KINDS), lines);
+    }
+
+    #[test]
+    fn the_day_of_four_signs_line_by_line() {
+        let limits = [
+            Limit {
+                sort: Sort::UsesPerLoad,
+                maximum: 1,
+            },
+            Limit {
+                sort: Sort::Counter(3),
+                maximum: 2,
+            },
+        ];
+        let mut script = Vec::new();
+        for _ in 0..4 {
+            script.extend(call_bytes(&sign(&limits, 0)));
+        }
+        let lines = "1 permit 0 load 0 last 0 counts 0:1 counters\n\
+                     2 permit 1 load 0 last 0 counts 0:1 1:1 counters 3:1\n\
+                     3 permit 1 load 0 last 0 counts 0:1 1:2 counters 3:2\n\
+                     4 refuse 7 0 load 0 last 0 counts 0:1 1:2 counters 3:2\n";
+        assert_eq!(answers(&script, ALL_KINDS), lines);
+    }
+
+    #[test]
+    fn subjects_and_stops() {
+        let short = Call::Subject {
+            certificate: 5,
+            suite: 1,
+            hashes: vec![0; 60],
+            buffer: vec![0xab, 0x0c],
+        };
+        let empty = Call::Subject {
+            certificate: 2,
+            suite: 1,
+            hashes: Vec::new(),
+            buffer: Vec::new(),
+        };
+        let mut script = call_bytes(&short);
+        script.extend(call_bytes(&empty));
+        script.push(b'?');
+        script.push(b'F');
+        assert_eq!(
+            answers(&script, ALL_KINDS),
+            "1 refuse 9 ab0c\n2 refuse 10 \n3 stop\n"
+        );
+        assert_eq!(answers(&script, "FLCR"), "1 stop\n");
+        assert_eq!(answers(&[], ALL_KINDS), "");
+    }
+
+    #[test]
+    fn listings_show_the_whole_buffer() {
+        let mut acl = vec![0; 64];
+        acl[0] = 1;
+        let write = Call::WriteListing {
+            acl,
+            buffer: vec![0xee; 7],
+        };
+        let read = |text: &[u8], length| Call::ReadListing {
+            text: text.to_vec(),
+            buffer: vec![0xee; length],
+        };
+        let calls = [
+            write,
+            read(b"group\ngroup", 2),
+            read(b"group\n", 2),
+            read(b"", 0),
+        ];
+        let script: Vec<u8> = calls.iter().flat_map(call_bytes).collect();
+        let lines = "1 length 6 67726f75700aee\n2 refuse 15 2 eeee\n3 refuse 9 eeee\n4 length 0 \n";
+        assert_eq!(answers(&script, ALL_KINDS), lines);
+    }
+
+    #[test]
+    fn a_refused_clear_shows_the_ledger() {
+        let script = call_bytes(&Call::Clear { counter: 256 });
+        assert_eq!(
+            answers(&script, ALL_KINDS),
+            "1 refuse 10 load 0 last 0 counts counters\n"
+        );
+    }
+}
