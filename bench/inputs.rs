@@ -17,6 +17,10 @@ const LISTED: u8 = 32;
 const NEVER_SPENT: u32 = u32::MAX;
 const MECHANISM: u8 = 7;
 const DELEGATING: u8 = 150;
+const TEMPLATE: u8 = 90;
+
+// Flag 6 of a blob action or request.
+const STORED: u8 = 1 << 6;
 
 type Record = [u8; 64];
 
@@ -113,6 +117,33 @@ pub fn by_delegation(groups: u8) -> Vec<u8> {
         rows
     });
     file(&rows.collect::<Vec<_>>())
+}
+
+// A working blob under KM0 and a token, which is stored on a device of two, under the template of the given number; then its record of kind 15.
+fn stored_blob(template: u8) -> [Record; 2] {
+    let mut action = token_blob(0, 40);
+    action[3] |= STORED;
+    [action, record(15, 0b11, &[(4, &[0, 0, 0, 6]), (8, &hash(template))])]
+}
+
+/// As many records as there may be: full groups, whose eight actions store a blob. All admit the same, but for the template; only the last has that of
+/// `stored_request`.
+pub fn stored_last() -> Vec<u8> {
+    let last = |g, a| g == ALL - 1 && a == ACTIONS - 1;
+    let rows = (0..ALL).flat_map(|g| {
+        let head = full_group(g, 0, NEVER_SPENT).into_iter().take(5);
+        head.chain((0..ACTIONS).flat_map(move |a| stored_blob(if last(g, a) { TEMPLATE } else { TEMPLATE + 1 })))
+    });
+    file(&rows.collect::<Vec<_>>())
+}
+
+/// A working blob to be stored, with 32 certificates.
+pub fn stored_request() -> Vec<u8> {
+    let token = token_blob(0, 40);
+    let asked = record(7, 1 | STORED, &[(4, &token[4..52]), (56, &TIME.to_be_bytes())]);
+    let place = record(15, 0b11, &[(4, &[0, 0, 0, 4]), (8, &hash(TEMPLATE))]);
+    let shown = full_request(SIGN).split_off(64);
+    [&asked, &place, shown.as_slice()].concat()
 }
 
 /// A use of a permission, without certificates.

@@ -9,7 +9,11 @@ use std::time::Instant;
 const ROUNDS: usize = 200;
 const MEGABYTE: usize = 1 << 20;
 
-/// 64 full groups, each line as long as it can be, but for the eight actions, which are all this one.
+// The longest ACL and the longest listing.
+const ACL: usize = 86_016;
+const LISTING: usize = 164_416;
+
+/// 64 full groups, each line as long as it can be, but for the eight actions, which are all this one (with its second line, if it has one).
 fn longest(action: &str) -> String {
     let hash = "5a".repeat(20);
     let limits: String = (252..=255).map(|c| format!("limit counter {c} uses 4294967295\n")).collect();
@@ -21,7 +25,8 @@ fn longest_blob() -> String {
     let hash = "5a".repeat(20);
     format!(
         "MakeBlob AllowKmOnly AllowNonKm0 kmhash {hash} kthash {hash} \
-         ktparams AllowSoftSlots needed 10 total 64 seconds 4294967295 AllowNullKmToken"
+         ktparams AllowSoftSlots needed 10 total 64 seconds 4294967295 AllowNullKmToken blobfile\n\
+         blobfile devices 4294967295 template {hash}"
     )
 }
 
@@ -42,24 +47,24 @@ fn measure(name: &str, mut call: impl FnMut() -> Result<u64, NotListed>) {
 }
 
 fn both_ways(name: &str, text: &str) {
-    let mut acl = vec![0u8; 53_248];
+    let mut acl = vec![0u8; ACL];
     let length = read_listing(text.as_bytes(), &mut acl).expect("a listing") as usize;
     acl.truncate(length);
-    let mut again = vec![0u8; 119_872];
+    let mut again = vec![0u8; LISTING];
     measure(&format!("{name}, {} bytes: written", text.len()), || write_listing(black_box(&acl), black_box(&mut again)));
     assert_eq!(&again[..text.len()], text.as_bytes());
-    let mut buffer = vec![0u8; 53_248];
+    let mut buffer = vec![0u8; ACL];
     measure(&format!("{name}, {} bytes: read", text.len()), || read_listing(black_box(text.as_bytes()), black_box(&mut buffer)));
 }
 
 fn damaged(name: &str, text: &[u8]) {
-    let mut buffer = vec![0u8; 53_248];
+    let mut buffer = vec![0u8; ACL];
     measure(name, || read_listing(black_box(text), black_box(&mut buffer)));
 }
 
 fn main() {
     println!("{:<52} {:>9} {:>9}   answer", format!("microseconds, {ROUNDS} calls"), "least", "median");
-    both_ways("MakeBlob with all words", &longest(&longest_blob()));
+    both_ways("MakeBlob with all words, stored", &longest(&longest_blob()));
     both_ways("OpPermissions with all names", &longest(ALL_PERMISSIONS));
     damaged("a megabyte without a byte 10", &vec![b'x'; MEGABYTE]);
     damaged("a megabyte of digits after `group`", &[b"group certifier ".as_slice(), &vec![b'0'; MEGABYTE]].concat());

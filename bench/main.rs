@@ -119,6 +119,7 @@ fn request_cases() -> Vec<Case> {
         case("Sign, 64 full groups, all spent: 7", 250_000, "Refuse(7, Some(0))", asked(inputs::all_spent(ALL), inputs::full_request(SIGN))),
         case("Sign, 16 full groups, none certified: 6", 1_000_000, "Refuse(6, Some(0))", asked(inputs::by_delegation(SOME), inputs::full_request(SIGN))),
         case("Sign, 16 full groups, the last by four links", 1_000_000, "Permit(15)", asked(inputs::by_delegation(SOME), inputs::delegated_request(SIGN))),
+        case("stored blob, 64 full groups, the last permits", 250_000, "Permit(63)", asked(inputs::stored_last(), inputs::stored_request())),
     ]
 }
 

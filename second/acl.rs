@@ -1,12 +1,13 @@
 //! What an ACL says: groups, each with its limits and its actions.
 
+use crate::blobfile::BlobFile;
 use crate::record::{malformed_unless, Hash, Record, Refusal};
 
 pub const MOST_GROUPS: usize = 64;
 pub const MOST_LIMITS: usize = 4;
 pub const MOST_ACTIONS: usize = 8;
-/// "The longest ACL is 53,248 bytes."
-pub const MOST_ACL_RECORDS: usize = MOST_GROUPS * (1 + MOST_LIMITS + MOST_ACTIONS);
+/// "An ACL may then reach 86,016 bytes": each action of each group with its kind 15 record.
+pub const MOST_ACL_RECORDS: usize = MOST_GROUPS * (1 + MOST_LIMITS + 2 * MOST_ACTIONS);
 
 #[derive(Clone, Debug, Default, PartialEq)]
 pub struct Acl {
@@ -47,16 +48,31 @@ pub enum Action {
     /// Sixteen permission bits.
     OpPermissions(u16),
     MakeBlob(MakeBlob),
-    MakeArchiveBlob {
-        kahash: Option<Hash>,
-        mechanism: u16,
-    },
+    MakeArchiveBlob(MakeArchiveBlob),
 }
 
 impl Action {
     /// Whether it is a MakeArchiveBlob without kahash.
     pub fn lacks_kahash(&self) -> bool {
-        matches!(self, Action::MakeArchiveBlob { kahash: None, .. })
+        matches!(self, Action::MakeArchiveBlob(blob) if blob.kahash.is_none())
+    }
+
+    /// Its blobfile, where it is an action that may have one.
+    pub fn blobfile(&self) -> Option<BlobFile> {
+        match self {
+            Action::OpPermissions(_) => None,
+            Action::MakeBlob(blob) => blob.blobfile,
+            Action::MakeArchiveBlob(blob) => blob.blobfile,
+        }
+    }
+
+    /// The place of its blobfile, where it is an action that may have one.
+    pub fn blobfile_mut(&mut self) -> Option<&mut Option<BlobFile>> {
+        match self {
+            Action::OpPermissions(_) => None,
+            Action::MakeBlob(blob) => Some(&mut blob.blobfile),
+            Action::MakeArchiveBlob(blob) => Some(&mut blob.blobfile),
+        }
     }
 }
 
@@ -68,6 +84,14 @@ pub struct MakeBlob {
     pub kmhash: Option<Hash>,
     pub kthash: Option<Hash>,
     pub ktparams: Option<TokenParameters>,
+    pub blobfile: Option<BlobFile>,
+}
+
+#[derive(Clone, Debug, Default, PartialEq)]
+pub struct MakeArchiveBlob {
+    pub kahash: Option<Hash>,
+    pub mechanism: u16,
+    pub blobfile: Option<BlobFile>,
 }
 
 #[derive(Clone, Copy, Debug, PartialEq)]

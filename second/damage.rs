@@ -31,17 +31,18 @@ fn edges_of(kind: u8) -> (&'static [usize], &'static [u32]) {
         3 => (&[1, 6, 7, 63], &[0]),
         4 => (
             &[1, 4, 23, 24, 43, 44, 47, 51, 52, 63],
-            &[0, 1, 2, 3, 4, 5, 6],
+            &[0, 1, 2, 3, 4, 5, 6, 7, 7],
         ),
-        5 => (&[1, 4, 23, 26, 63], &[0, 1]),
+        5 => (&[1, 4, 23, 26, 63], &[0, 1, 6]),
         6 => (&[1, 5, 52, 55], &[0]),
-        7 => (&[1, 24, 43, 51, 52, 55], &[0, 1]),
-        8 => (&[1, 26, 55], &[0]),
+        7 => (&[1, 24, 43, 51, 52, 55], &[0, 1, 6]),
+        8 => (&[1, 26, 55], &[0, 6, 7]),
         9 => (&[1, 26, 55, 56, 63], &[0]),
         10 => (&[1, 5, 7, 28, 63], &[0]),
         11 => (&[1, 6, 8, 63], &[0]),
         12 => (&[1, 8, 63], &[0]),
         14 => (&[1, 46, 55, 56, 63], &[0]),
+        15 => (&[1, 4, 7, 8, 27, 28, 28, 63], &[0, 1, 2]),
         _ => (&[1, 5, 7, 16, 63], &[0]),
     }
 }
@@ -131,7 +132,9 @@ impl Maker {
         }
         let last = file.len() / RECORD_LENGTH - 1;
         let any = self.random.place(last + 1);
-        let start = self.random.pick_weighted(&[(70, any), (15, 0), (15, last)]) * RECORD_LENGTH;
+        let alike = self.record_of_some_kind(file);
+        let choices = [(35, any), (35, alike), (15, 0), (15, last)];
+        let start = self.random.pick_weighted(&choices) * RECORD_LENGTH;
         let record = &mut file[start..start + RECORD_LENGTH];
         let (bytes, flags) = edges_of(record[0]);
         match self.random.weighted(&[50, 40, 10]) {
@@ -143,6 +146,19 @@ impl Maker {
                     .pick(&[record[0].wrapping_sub(1), record[0].wrapping_add(1)])
             }
         }
+    }
+
+    /// The place of a record of any kind that the file has, the rare ones as likely as the others.
+    fn record_of_some_kind(&mut self, file: &[u8]) -> usize {
+        let kinds: Vec<u8> = split(file).iter().map(|record| record[0]).collect();
+        let mut different = kinds.clone();
+        different.sort_unstable();
+        different.dedup();
+        let kind = self.random.pick(&different);
+        let places: Vec<usize> = (0..kinds.len())
+            .filter(|place| kinds[*place] == kind)
+            .collect();
+        self.random.pick(&places)
     }
 
     /// One bit or one byte of one record, anywhere or where it matters most.
@@ -189,7 +205,7 @@ impl Maker {
 
     /// A well-formed record of any kind.
     fn any_record(&mut self) -> RecordBytes {
-        match self.random.below(9) {
+        match self.random.below(10) {
             0 => encode::group_record(&self.group(0)),
             1 => encode::limit_record(&Limit {
                 sort: self.sort(),
@@ -199,6 +215,7 @@ impl Maker {
             4 => encode::request_record(&Request {
                 asked: self.anything(),
                 time: self.ledger.last_time,
+                blobfile: None,
             }),
             5 => encode::certificate_record(&Certificate {
                 key: self.certifier(),
@@ -209,7 +226,8 @@ impl Maker {
                 to: self.certifier(),
                 mask: 0xffff,
             }),
-            7 => {
+            7 => encode::blobfile_record(&self.blobfile()),
+            8 => {
                 let field = self.random.between(1, 14) as u8;
                 encode::fact_record(field, &stock(b'f', field))
             }

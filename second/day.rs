@@ -5,12 +5,14 @@ use std::fmt::Write as _;
 use crate::answer::Answer;
 use crate::gate::{check_km0_length, grant};
 use crate::ledger::Ledger;
-use crate::read_acl::{check_acl_length, read_acl};
+use crate::read_acl::read_acl;
 use crate::record::{check_length, Refusal, RECORD_LENGTH};
 use crate::request::{read_request, Presented, Request};
 
 /// "0 to 1,000 request records without certificates".
 const MOST_REQUESTS: usize = 1000;
+/// "The day program still takes ACL files up to 53,248 bytes".
+const MOST_ACL_RECORDS: usize = 832;
 
 /// What the day program prints.
 pub fn day(km0: &[u8], acl: &[u8], requests: &[u8]) -> String {
@@ -21,7 +23,7 @@ pub fn day(km0: &[u8], acl: &[u8], requests: &[u8]) -> String {
 /// A line per request; a fault of a file answers for all of them.
 fn lines(km0: &[u8], acl: &[u8], requests: &[u8]) -> Result<String, Refusal> {
     check_km0_length(km0)?;
-    check_acl_length(acl)?;
+    check_length(acl, MOST_ACL_RECORDS)?;
     check_length(requests, MOST_REQUESTS)?;
     let acl = read_acl(acl)?;
     let requests = read_requests(requests)?;
@@ -41,6 +43,7 @@ fn lines(km0: &[u8], acl: &[u8], requests: &[u8]) -> Result<String, Refusal> {
     Ok(text)
 }
 
+/// One record each: "`0 refuse 2` to a request with flag 6".
 fn read_requests(file: &[u8]) -> Result<Vec<Request>, Refusal> {
     file.chunks(RECORD_LENGTH)
         .map(|record| Ok(read_request(record, None)?.0))
@@ -66,7 +69,15 @@ mod tests {
 
     fn signs(number: usize) -> Vec<u8> {
         let asked = Asked::Use(4);
-        encode::request(&Request { asked, time: 0 }, &Presented::default()).repeat(number)
+        encode::request(
+            &Request {
+                asked,
+                time: 0,
+                blobfile: None,
+            },
+            &Presented::default(),
+        )
+        .repeat(number)
     }
 
     #[test]
@@ -92,6 +103,15 @@ mod tests {
         });
         let beside = [signs(1), certificate.to_vec()].concat();
         assert_eq!(day(&[0; 20], &acl, &beside), "0 refuse 2\n");
+        let mut stored = [0; 64];
+        stored[..4].copy_from_slice(&[8, 0, 0, 1 << 6]);
+        stored[25] = 1;
+        assert_eq!(day(&[0; 20], &acl, &stored), "0 refuse 2\n");
+        stored[3] = 0;
+        assert_eq!(day(&[0; 20], &acl, &stored), "1 refuse 5\n");
+        let longest = [0; 53_248 + 64];
+        assert_eq!(day(&[0; 20], &longest, &[]), "0 refuse 1\n");
+        assert_eq!(day(&[0; 20], &longest[64..], &[]), "0 refuse 2\n");
         let four = day(&[0; 20], &[], &signs(1000));
         assert!(four.ends_with("1000 refuse 5\n"));
     }

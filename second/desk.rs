@@ -1,6 +1,6 @@
 //! The desk: attestation steps over the reported facts of a bundle and the key's ACL.
 
-use crate::acl::{Acl, Action, MakeBlob, ALLOW_SOFT_SLOTS};
+use crate::acl::{Acl, Action, MakeArchiveBlob, MakeBlob, ALLOW_SOFT_SLOTS};
 use crate::read_acl::{check_acl_length, read_acl};
 use crate::record::{check_length, malformed_unless, push_up_to, records, Hash, Record, Refusal};
 use crate::subject::recovery_mechanism;
@@ -327,12 +327,8 @@ fn check_acl(bundle: &Bundle, acl: &Acl, mechanism: u16) -> Result<(u8, bool), &
                     // "The key's is the smallest."
                     protection = protection.min(protection_of(blob));
                 }
-                Action::MakeArchiveBlob {
-                    kahash,
-                    mechanism: named,
-                } => {
-                    check_archive_blob(bundle, kahash)?;
-                    step("RB3", *named == mechanism)?;
+                Action::MakeArchiveBlob(blob) => {
+                    check_archive_blob(bundle, blob, mechanism)?;
                     // RB5
                     recoverable = true;
                 }
@@ -366,11 +362,17 @@ fn check_make_blob(bundle: &Bundle, blob: &MakeBlob) -> Result<(), &'static str>
     step("WB6", blob.kthash.is_none() || blob.ktparams.is_some())
 }
 
-/// "RB1 hkre trusted; RB2 kahash present and equal".
-fn check_archive_blob(bundle: &Bundle, kahash: &Option<Hash>) -> Result<(), &'static str> {
+/// "RB1 hkre trusted; RB2 kahash present and equal; RB3 the mechanism that each ciphersuite calls
+/// for".
+fn check_archive_blob(
+    bundle: &Bundle,
+    blob: &MakeArchiveBlob,
+    mechanism: u16,
+) -> Result<(), &'static str> {
     let hkre = bundle.trusted_hkre();
     step("RB1", hkre.is_some())?;
-    step("RB2", *kahash == hkre)
+    step("RB2", blob.kahash == hkre)?;
+    step("RB3", blob.mechanism == mechanism)
 }
 
 /// "An action's protection: 1 module if AllowKmOnly; else 2 softcard if ktparams has
@@ -392,6 +394,7 @@ pub fn protection_of(blob: &MakeBlob) -> u8 {
 mod tests {
     use super::*;
     use crate::acl::{Group, TokenParameters};
+    use crate::blobfile::BlobFile;
     use crate::encode;
 
     const OFFICER: Hash = [4; 20];
@@ -490,6 +493,16 @@ mod tests {
     }
 
     #[test]
+    fn protection_grading_does_not_look_at_blobfile() {
+        let stored = MakeBlob {
+            blobfile: Some(BlobFile::default()),
+            ..cardset()
+        };
+        let acl = blobs(&[stored]);
+        assert_eq!(verdict(&good_bundle(), &acl), accepted(3, false));
+    }
+
+    #[test]
     fn clerk_weak_blobs() {
         let without_parameters = MakeBlob {
             ktparams: None,
@@ -557,10 +570,11 @@ mod tests {
         let mut bundle = good_bundle();
         bundle.policy.suite = 5;
         let archive = |mechanism| {
-            one_group(vec![Action::MakeArchiveBlob {
+            one_group(vec![Action::MakeArchiveBlob(MakeArchiveBlob {
                 kahash: Some([HKRE as u8; 20]),
                 mechanism,
-            }])
+                blobfile: None,
+            })])
         };
         assert_eq!(verdict(&bundle, &archive(4)), accepted(4, true));
         assert_eq!(verdict(&bundle, &archive(3)), Verdict::Fail("RB3"));

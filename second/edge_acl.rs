@@ -2,7 +2,8 @@
 //! bad.
 
 use crate::acl::{
-    Acl, Action, Group, Limit, MakeBlob, Sort, TokenParameters, MOST_ACTIONS, MOST_GROUPS,
+    Acl, Action, Group, Limit, MakeArchiveBlob, MakeBlob, Sort, TokenParameters, MOST_ACTIONS,
+    MOST_GROUPS,
 };
 use crate::call::Bytes;
 use crate::encode;
@@ -13,13 +14,52 @@ impl Maker {
     /// An ACL at an edge: one thing too many, one out of place, one barely good or barely bad.
     pub fn edge_acl(&mut self) -> Bytes {
         let acl = self.edge_groups();
-        match self.random.below(15) {
+        match self.random.below(18) {
             0 => self.edge_sort(&acl),
             1 | 2 => self.limit_out_of_place(&acl),
             3 => encode::acl(&acl)[RECORD_LENGTH..].to_vec(),
             4 => self.two_before_three(&acl),
+            5..=8 => self.edge_blobfile(acl),
             _ => encode::acl(&acl),
         }
+    }
+
+    /// A kind 15 record missing, twice, out of place, malformed or barely good, or an end where it
+    /// is due.
+    fn edge_blobfile(&mut self, mut acl: Acl) -> Bytes {
+        acl.groups.truncate(3);
+        let stored = MakeBlob {
+            blobfile: Some(self.blobfile()),
+            ..self.make_blob()
+        };
+        let place = self.random.place(acl.groups.len());
+        let group = &mut acl.groups[place];
+        group.actions.truncate(MOST_ACTIONS - 1);
+        let at = self.random.place(group.actions.len() + 1);
+        group.actions.insert(at, Action::MakeBlob(stored));
+        let mut records = encode::acl_records(&acl);
+        let files: Vec<usize> = (0..records.len())
+            .filter(|place| records[*place][0] == 15)
+            .collect();
+        let place = self.random.pick(&files);
+        let any = self.random.place(records.len() + 1);
+        match self.random.weighted(&[1, 1, 1, 1, 1, 1, 2, 4, 1]) {
+            0 => {
+                records.remove(place);
+            }
+            1 => records.insert(place, records[place]),
+            2 => records.insert(any, records[place]),
+            3 => records.truncate(place),
+            4 => records[place - 1][3] ^= 1 << 6,
+            5 => records[any.min(place)][3] ^= 1 << 6,
+            6 => records[place][3] ^= self.random.pick(&[1, 2, 4, 4, 128]),
+            7 => {
+                let byte = self.random.pick(&[1, 2, 4, 7, 8, 27, 28, 28, 28, 63]);
+                records[place][byte] ^= self.random.pick(&[1, 128]);
+            }
+            _ => records.swap(place - 1, place),
+        }
+        records.concat()
     }
 
     /// Groups with one thing too many, or one barely good or barely bad.
@@ -62,10 +102,11 @@ impl Maker {
         self.actions_up_to(group, before);
         group.actions.truncate(before);
         self.name_keys(group);
-        group.actions.push(Action::MakeArchiveBlob {
+        group.actions.push(Action::MakeArchiveBlob(MakeArchiveBlob {
             kahash: None,
             mechanism: self.random.pick(&[0, 1, 1, 2, 256]),
-        });
+            blobfile: self.maybe_blobfile(),
+        }));
     }
 
     /// A 65th group, a ninth action or a fifth limit.
@@ -155,10 +196,11 @@ impl Maker {
     /// An action barely good or barely bad.
     fn edge_action(&mut self) -> Action {
         match self.random.below(4) {
-            0 => Action::MakeArchiveBlob {
+            0 => Action::MakeArchiveBlob(MakeArchiveBlob {
                 kahash: None,
                 mechanism: self.random.pick(&[0, 1, 256]),
-            },
+                blobfile: None,
+            }),
             _ => {
                 let ktparams = Some(self.edge_parameters());
                 Action::MakeBlob(MakeBlob {

@@ -2,6 +2,7 @@
 //! written too.
 
 use crate::acl::{Acl, Action, Group, Limit, MakeBlob, Sort, TokenParameters};
+use crate::blobfile::{BlobFile, BLOBFILE_FLAG};
 use crate::desk::{Bundle, Policy, LISTED_FIELD};
 use crate::record::{Hash, RECORD_LENGTH};
 use crate::replace::Hint;
@@ -51,7 +52,10 @@ pub fn acl_records(acl: &Acl) -> Vec<RecordBytes> {
     for group in &acl.groups {
         list.push(group_record(group));
         list.extend(group.limits.iter().map(limit_record));
-        list.extend(group.actions.iter().map(action_record));
+        for action in &group.actions {
+            list.push(action_record(action));
+            list.extend(action.blobfile().iter().map(blobfile_record));
+        }
     }
     list
 }
@@ -78,21 +82,36 @@ pub fn limit_record(limit: &Limit) -> RecordBytes {
     bytes
 }
 
+/// An action's own record, without its kind 15.
 pub fn action_record(action: &Action) -> RecordBytes {
-    match action {
+    let mut bytes = match action {
         Action::OpPermissions(bits) => {
             let mut bytes = record(3);
             put(&mut bytes, 4, &bits.to_be_bytes());
             bytes
         }
         Action::MakeBlob(blob) => make_blob_record(blob),
-        Action::MakeArchiveBlob { kahash, mechanism } => {
+        Action::MakeArchiveBlob(blob) => {
             let mut bytes = record(5);
-            put_optional_hash(&mut bytes, 0, 4, kahash);
-            put(&mut bytes, 24, &mechanism.to_be_bytes());
+            put_optional_hash(&mut bytes, 0, 4, &blob.kahash);
+            put(&mut bytes, 24, &blob.mechanism.to_be_bytes());
             bytes
         }
+    };
+    if action.blobfile().is_some() {
+        set_flag(&mut bytes, BLOBFILE_FLAG);
     }
+    bytes
+}
+
+pub fn blobfile_record(file: &BlobFile) -> RecordBytes {
+    let mut bytes = record(15);
+    if let Some(devices) = file.devices {
+        set_flag(&mut bytes, 0);
+        put(&mut bytes, 4, &devices.to_be_bytes());
+    }
+    put_optional_hash(&mut bytes, 1, 8, &file.template);
+    bytes
 }
 
 fn make_blob_record(blob: &MakeBlob) -> RecordBytes {
@@ -117,11 +136,13 @@ fn make_blob_record(blob: &MakeBlob) -> RecordBytes {
 
 pub fn request(request: &Request, presented: &Presented) -> Vec<u8> {
     let mut file = request_record(request).to_vec();
+    file.extend(request.blobfile.iter().flat_map(blobfile_record));
     file.extend(presented.certificates.iter().flat_map(certificate_record));
     file.extend(presented.delegations.iter().flat_map(delegation_record));
     file
 }
 
+/// The request's own record, without its kind 15.
 pub fn request_record(request: &Request) -> RecordBytes {
     let mut bytes = match &request.asked {
         Asked::Use(permission) => {
@@ -146,6 +167,9 @@ pub fn request_record(request: &Request) -> RecordBytes {
             bytes
         }
     };
+    if request.blobfile.is_some() {
+        set_flag(&mut bytes, BLOBFILE_FLAG);
+    }
     put(&mut bytes, 56, &request.time.to_be_bytes());
     bytes
 }

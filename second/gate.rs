@@ -1,6 +1,7 @@
 //! The gate: when a group of an ACL grants a request.
 
 use crate::acl::{Acl, Action, Group, Limit, MakeBlob, Sort};
+use crate::blobfile::blobfile_admits;
 use crate::certify::is_certified;
 use crate::ledger::Ledger;
 use crate::read_acl::{check_acl_length, read_acl};
@@ -50,7 +51,7 @@ pub fn grant(
         return Err(Refusal::TooEarly);
     }
     let mut places: Vec<usize> = (0..acl.groups.len()).collect();
-    places.retain(|&place| admits(&acl.groups[place], km0, &request.asked));
+    places.retain(|&place| admits(&acl.groups[place], km0, request));
     let nearest = *places.first().ok_or(Refusal::NotAdmitted)?;
     places.retain(|&place| is_certified(&acl.groups[place], &request.asked, presented));
     let nearest = *places.first().ok_or(Refusal::NotCertified { nearest })?;
@@ -63,23 +64,27 @@ pub fn grant(
 }
 
 /// "It admits if one of its actions does."
-fn admits(group: &Group, km0: &[u8], asked: &Asked) -> bool {
-    group.actions.iter().any(|action| match (action, asked) {
+fn admits(group: &Group, km0: &[u8], request: &Request) -> bool {
+    group.actions.iter().any(|action| {
+        action_admits(action, km0, &request.asked)
+            && blobfile_admits(&action.blobfile(), &request.blobfile)
+    })
+}
+
+/// Whether an action admits what is asked, wherever the blob goes.
+fn action_admits(action: &Action, km0: &[u8], asked: &Asked) -> bool {
+    match (action, asked) {
         // "Use: the bit is set."
         (Action::OpPermissions(bits), Asked::Use(permission)) => bits >> permission & 1 == 1,
         (Action::MakeBlob(blob), Asked::Blob { module_key, token }) => {
             blob_admits(blob, km0, module_key, token)
         }
         // "Recovery blob: same mechanism, and same key hash if kahash is present."
-        (
-            Action::MakeArchiveBlob { kahash, mechanism },
-            Asked::Recovery {
-                key,
-                mechanism: asked_mechanism,
-            },
-        ) => mechanism == asked_mechanism && holds(kahash, key),
+        (Action::MakeArchiveBlob(blob), Asked::Recovery { key, mechanism }) => {
+            blob.mechanism == *mechanism && holds(&blob.kahash, key)
+        }
         _ => false,
-    })
+    }
 }
 
 /// A hash restriction holds if it is absent or names this very hash.

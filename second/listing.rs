@@ -1,6 +1,7 @@
 //! The text form of an ACL: one line per record, each ended by one byte 10.
 
 use crate::acl::{Acl, Action, Group, Limit, MakeBlob, Sort, TokenParameters, ALLOW_SOFT_SLOTS};
+use crate::blobfile::BlobFile;
 use crate::read_acl::{check_acl_length, read_acl};
 use crate::record::{write_front, Hash, Refusal};
 
@@ -37,7 +38,7 @@ pub fn listing(acl: &Acl) -> String {
     let mut text = String::new();
     for group in &acl.groups {
         let limits = group.limits.iter().map(limit_words);
-        let actions = group.actions.iter().map(action_words);
+        let actions = group.actions.iter().flat_map(action_lines);
         for words in std::iter::once(group_words(group))
             .chain(limits)
             .chain(actions)
@@ -94,6 +95,27 @@ fn limit_words(limit: &Limit) -> Words {
     words
 }
 
+/// An action's line, and that of its blobfile.
+fn action_lines(action: &Action) -> Vec<Words> {
+    let mut words = action_words(action);
+    match action.blobfile() {
+        Some(file) => {
+            words.push(word("blobfile"));
+            vec![words, blobfile_words(&file)]
+        }
+        None => vec![words],
+    }
+}
+
+fn blobfile_words(file: &BlobFile) -> Words {
+    let mut words = vec![word("blobfile")];
+    if let Some(devices) = file.devices {
+        add_number(&mut words, "devices", devices);
+    }
+    add_hash(&mut words, "template", &file.template);
+    words
+}
+
 fn action_words(action: &Action) -> Words {
     match action {
         Action::OpPermissions(bits) => {
@@ -104,10 +126,10 @@ fn action_words(action: &Action) -> Words {
             words
         }
         Action::MakeBlob(blob) => make_blob_words(blob),
-        Action::MakeArchiveBlob { kahash, mechanism } => {
+        Action::MakeArchiveBlob(blob) => {
             let mut words = vec![word("MakeArchiveBlob")];
-            add_hash(&mut words, "kahash", kahash);
-            add_number(&mut words, "mechanism", (*mechanism).into());
+            add_hash(&mut words, "kahash", &blob.kahash);
+            add_number(&mut words, "mechanism", blob.mechanism.into());
             words
         }
     }
@@ -138,6 +160,7 @@ fn add_parameters(words: &mut Words, parameters: &TokenParameters) {
 #[cfg(test)]
 mod tests {
     use super::*;
+    use crate::acl::MakeArchiveBlob;
     use crate::encode;
 
     fn sign_group(sort: Sort, maximum: u32) -> Group {
@@ -183,6 +206,10 @@ mod tests {
             kmhash: Some([0xab; 20]),
             kthash: Some([0; 20]),
             ktparams: Some(parameters),
+            blobfile: Some(BlobFile {
+                devices: Some(5),
+                template: Some([1; 20]),
+            }),
         };
         let group = Group {
             certifier: Some([9; 20]),
@@ -194,20 +221,23 @@ mod tests {
             actions: vec![
                 Action::OpPermissions(0x8001),
                 Action::MakeBlob(blob),
-                Action::MakeArchiveBlob {
+                Action::MakeArchiveBlob(MakeArchiveBlob {
                     kahash: Some([0x10; 20]),
                     mechanism: 3,
-                },
+                    blobfile: Some(BlobFile::default()),
+                }),
             ],
         };
         let text = format!(
             "group certifier {} mechanism 65535\nlimit seconds 4294967295\n\
              OpPermissions DuplicateHandle UseAsLoaderKey\n\
              MakeBlob AllowKmOnly AllowNonKm0 kmhash {} kthash {} ktparams AllowSoftSlots needed 2 total 64 \
-             seconds 0 AllowNullKmToken\nMakeArchiveBlob kahash {} mechanism 3\n",
+             seconds 0 AllowNullKmToken blobfile\nblobfile devices 5 template {}\n\
+             MakeArchiveBlob kahash {} mechanism 3 blobfile\nblobfile\n",
             "09".repeat(20),
             "ab".repeat(20),
             "00".repeat(20),
+            "01".repeat(20),
             "10".repeat(20)
         );
         let groups = vec![group];

@@ -4,6 +4,7 @@
 
 mod acl;
 mod answer;
+mod blobfile;
 mod cabinet;
 mod call;
 mod certify;
@@ -20,6 +21,8 @@ mod generate;
 mod ledger;
 mod listing;
 mod make_acl;
+mod make_blobfile;
+mod make_breach;
 mod make_desk;
 mod make_listing;
 mod make_narrowing;

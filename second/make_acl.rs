@@ -2,9 +2,10 @@
 //! match.
 
 use crate::acl::{
-    Acl, Action, Group, Limit, MakeBlob, Sort, TokenParameters, MOST_ACTIONS, MOST_GROUPS,
-    MOST_LIMITS,
+    Acl, Action, Group, Limit, MakeArchiveBlob, MakeBlob, Sort, TokenParameters, MOST_ACTIONS,
+    MOST_GROUPS, MOST_LIMITS,
 };
+use crate::blobfile::BlobFile;
 use crate::gate::NULL_MODULE_KEY;
 use crate::ledger::Ledger;
 use crate::random::Random;
@@ -162,15 +163,17 @@ impl Maker {
             kmhash: optional(3).then(|| self.module_key()),
             kthash: (about_token && optional(4)).then(|| self.token_hash()),
             ktparams: (about_token && optional(5)).then(|| self.token_parameters()),
+            blobfile: self.maybe_blobfile(),
         }
     }
 
     pub fn archive_action(&mut self) -> Action {
         let kahash = self.random.chance(60).then(|| self.recovery_key());
-        Action::MakeArchiveBlob {
+        Action::MakeArchiveBlob(MakeArchiveBlob {
             kahash,
             mechanism: self.mechanism(),
-        }
+            blobfile: self.maybe_blobfile(),
+        })
     }
 
     pub fn action(&mut self) -> Action {
@@ -260,9 +263,9 @@ impl Maker {
     pub fn name_keys(&mut self, group: &mut Group) {
         let open = group.is_open();
         for action in &mut group.actions {
-            if let Action::MakeArchiveBlob { kahash, .. } = action {
-                if open && kahash.is_none() {
-                    *kahash = Some(self.recovery_key());
+            if let Action::MakeArchiveBlob(blob) = action {
+                if open && blob.kahash.is_none() {
+                    blob.kahash = Some(self.recovery_key());
                 }
             }
         }
@@ -298,16 +301,18 @@ impl Maker {
         acl
     }
 
-    /// Sixty-four groups of four limits and eight actions: the longest file.
+    /// Sixty-four groups of four limits and eight actions; where every action has a blobfile it is
+    /// the longest file.
     pub fn full_acl(&mut self) -> Acl {
+        let all_stored = self.random.chance(50);
         Acl {
             groups: (0..MOST_GROUPS)
-                .map(|place| self.full_group(place))
+                .map(|place| self.full_group(place, all_stored))
                 .collect(),
         }
     }
 
-    fn full_group(&mut self, place: usize) -> Group {
+    fn full_group(&mut self, place: usize, all_stored: bool) -> Group {
         let mut group = self.group(place);
         while group.limits.len() < MOST_LIMITS {
             self.add_limit(&mut group, place);
@@ -315,6 +320,15 @@ impl Maker {
         while group.actions.len() < MOST_ACTIONS {
             let action = self.action();
             group.actions.push(action);
+        }
+        if all_stored {
+            for action in &mut group.actions {
+                let stored = MakeBlob {
+                    blobfile: Some(self.blobfile()),
+                    ..self.make_blob()
+                };
+                *action = Action::MakeBlob(stored);
+            }
         }
         self.name_keys(&mut group);
         group
@@ -335,19 +349,29 @@ impl Maker {
             kmhash: Some(self.module_key()),
             kthash: Some(self.token_hash()),
             ktparams: Some(self.token_parameters()),
+            blobfile: self.random.chance(50).then(|| self.full_blobfile()),
             ..self.make_blob()
         };
         group.actions = vec![
             Action::OpPermissions(self.permissions()),
             Action::MakeBlob(blob),
             Action::MakeBlob(self.make_blob()),
-            Action::MakeArchiveBlob {
+            Action::MakeArchiveBlob(MakeArchiveBlob {
                 kahash: Some(self.recovery_key()),
                 mechanism: self.mechanism(),
-            },
+                blobfile: Some(self.full_blobfile()),
+            }),
         ];
         self.random.shuffle(&mut group.actions);
         group
+    }
+
+    fn full_blobfile(&mut self) -> BlobFile {
+        let BlobFile { devices, template } = self.blobfile();
+        BlobFile {
+            devices: devices.or(Some(6)),
+            template: template.or(Some(ZERO_HASH)),
+        }
     }
 
     /// Sees to it that some group allows that permission.
@@ -385,8 +409,10 @@ mod tests {
             let acl = maker.acl();
             assert_eq!(read_acl(&encode::acl(&acl)), Ok(acl));
         }
-        let full = maker.full_acl();
-        assert_eq!(encode::acl(&full).len(), 53_248);
+        let full = Acl {
+            groups: vec![maker.full_group(0, true); MOST_GROUPS],
+        };
+        assert_eq!(encode::acl(&full).len(), 86_016);
         assert_eq!(read_acl(&encode::acl(&full)), Ok(full));
     }
 }

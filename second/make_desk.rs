@@ -1,7 +1,7 @@
 //! Makes bundles and ACLs that the desk accepts, and faults of which each makes exactly one step
 //! fail.
 
-use crate::acl::{Acl, Action, Group, MakeBlob, MOST_ACTIONS, MOST_GROUPS};
+use crate::acl::{Acl, Action, Group, MakeArchiveBlob, MakeBlob, MOST_ACTIONS, MOST_GROUPS};
 use crate::desk::{
     class_of, protection_of, Bundle, Class, Policy, CERT_KM_KMC, CERT_KM_KMC_KFIPS, CERT_KRE_KRA,
     CSR_IN_USE, CSR_KEY, ENCRYPTION_ADMITTED, ESN_OF_STATE, ESN_OF_WARRANT, HKFIPS, HKM, HKMC,
@@ -223,10 +223,11 @@ impl Maker {
         }
         let archive = case.hkre().filter(|_| self.random.chance(40));
         if let Some(hkre) = archive {
-            return Action::MakeArchiveBlob {
+            return Action::MakeArchiveBlob(MakeArchiveBlob {
                 kahash: Some(hkre),
                 mechanism: right_mechanism(case),
-            };
+                blobfile: self.maybe_blobfile(),
+            });
         }
         Action::OpPermissions(self.random.next() as u16 & admitted_bits(case.bundle.policy.bits))
     }
@@ -242,6 +243,7 @@ impl Maker {
             kmhash: Some(hkm),
             kthash: with_token.then(|| self.token_hash()),
             ktparams: with_parameters.then(|| self.token_parameters()),
+            blobfile: self.maybe_blobfile(),
         }
     }
 
@@ -427,7 +429,11 @@ impl Maker {
                 mechanism = self.random.pick(&wrong);
             }
         }
-        Some(Action::MakeArchiveBlob { kahash, mechanism })
+        Some(Action::MakeArchiveBlob(MakeArchiveBlob {
+            kahash,
+            mechanism,
+            blobfile: self.maybe_blobfile(),
+        }))
     }
 
     /// Adds an action that may fail several steps at once.
@@ -448,10 +454,11 @@ impl Maker {
             } else {
                 Some(self.recovery_key())
             };
-            Action::MakeArchiveBlob {
+            Action::MakeArchiveBlob(MakeArchiveBlob {
                 kahash,
                 mechanism: self.random.between(1, 4) as u16,
-            }
+                blobfile: self.maybe_blobfile(),
+            })
         };
         self.add_action(case, action);
     }

@@ -69,14 +69,32 @@ impl Maker {
 
     /// An unfinished last line, an empty one, or other bytes at the end.
     fn change_end(&mut self, text: &mut Bytes) {
-        match self.random.below(5) {
+        match self.random.below(8) {
             0 => {
                 text.pop();
             }
             1 => text.push(b'\n'),
             2 => text.extend(b"group"),
             3 => text.truncate(self.random.place(text.len() + 1)),
+            4..=6 => self.cut_where_blobfile_is_due(text),
             _ => text.push(self.random.pick(b" \r\0\xff")),
+        }
+    }
+
+    /// An end, or any line, where the line of a blobfile is due.
+    fn cut_where_blobfile_is_due(&mut self, text: &mut Bytes) {
+        let word = b" blobfile\n";
+        let ends: Vec<usize> = (0..text.len())
+            .filter(|place| text[*place..].starts_with(word))
+            .map(|place| place + word.len())
+            .collect();
+        if ends.is_empty() {
+            text.extend(b"group\nMakeBlob blobfile\n");
+        } else {
+            text.truncate(self.random.pick(&ends));
+        }
+        if self.random.chance(40) {
+            text.extend(self.any_line());
         }
     }
 
@@ -109,7 +127,7 @@ impl Maker {
     }
 
     fn any_line(&mut self) -> Bytes {
-        let lines: [&[u8]; 8] = [
+        let lines: [&[u8]; 11] = [
             b"group\n",
             b"limit uses 5\n",
             b"limit counter 7 uses 4294967295\n",
@@ -117,6 +135,9 @@ impl Maker {
             b"OpPermissions\n",
             b"MakeBlob\n",
             b"MakeArchiveBlob mechanism 1\n",
+            b"blobfile\n",
+            b"blobfile devices 4294967295\n",
+            b"MakeBlob AllowKmOnly blobfile\n",
             b"# group\n",
         ];
         self.random.pick(&lines).to_vec()
@@ -171,6 +192,10 @@ impl Maker {
             "uses",
             "seconds",
             "needed",
+            "blobfile",
+            "blobfile",
+            "devices",
+            "template",
             "0",
             "1",
             permission,

@@ -31,6 +31,7 @@ impl Maker {
                 request: Request {
                     asked: self.anything(),
                     time: self.time(acl),
+                    blobfile: None,
                 },
                 presented,
             };
@@ -39,10 +40,15 @@ impl Maker {
         let action = self.random.pick(&group.actions);
         let asked = self.aimed_at(&action);
         let presented = self.presented_for(group, &asked);
+        let blobfile = match asked {
+            Asked::Use(_) => None,
+            _ => self.asked_blobfile(action.blobfile()),
+        };
         Asking {
             request: Request {
                 asked,
                 time: self.time(acl),
+                blobfile,
             },
             presented,
         }
@@ -66,6 +72,7 @@ impl Maker {
             request: Request {
                 asked,
                 time: self.time(acl),
+                blobfile: None,
             },
             presented,
         }
@@ -99,9 +106,7 @@ impl Maker {
         match action {
             Action::OpPermissions(bits) => Asked::Use(self.permission_of(*bits)),
             Action::MakeBlob(blob) => self.aimed_at_blob(blob),
-            Action::MakeArchiveBlob { kahash, mechanism } => {
-                self.aimed_at_archive(*kahash, *mechanism)
-            }
+            Action::MakeArchiveBlob(blob) => self.aimed_at_archive(blob.kahash, blob.mechanism),
         }
     }
 

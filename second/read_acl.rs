@@ -1,9 +1,10 @@
 //! Reading ACLs: groups, each followed by its limits, then its actions.
 
 use crate::acl::{
-    Acl, Action, Group, Limit, MakeBlob, Sort, TokenParameters, MOST_ACL_RECORDS, MOST_ACTIONS,
-    MOST_GROUPS, MOST_LIMITS,
+    Acl, Action, Group, Limit, MakeArchiveBlob, MakeBlob, Sort, TokenParameters, MOST_ACL_RECORDS,
+    MOST_ACTIONS, MOST_GROUPS, MOST_LIMITS,
 };
+use crate::blobfile::{BlobFile, BLOBFILE_BIT, BLOBFILE_FLAG};
 use crate::record::{
     check_length, malformed_unless, part_if, push_up_to, records, Record, Refusal,
 };
@@ -19,23 +20,34 @@ pub fn read_acl(file: &[u8]) -> Result<Acl, Refusal> {
     for record in records(file) {
         reader.add(record)?;
     }
-    Ok(reader.acl)
+    reader.end()
 }
 
 /// Takes an ACL's records one by one, whether they come from a file or from a listing.
 #[derive(Default)]
 pub struct AclReader {
     acl: Acl,
+    /// Whether the last action's flag 6 says that a kind 15 record comes next.
+    blobfile_due: bool,
 }
 
 impl AclReader {
     pub fn add(&mut self, record: Record) -> Result<(), Refusal> {
+        if self.blobfile_due {
+            return self.add_blobfile(record);
+        }
         match record.kind() {
             1 => self.add_group(record),
             2 => self.add_limit(record),
             3..=5 => self.add_action(record),
             _ => Err(Refusal::Malformed),
         }
+    }
+
+    /// "An end where kind 15 is due gives 2."
+    pub fn end(self) -> Result<Acl, Refusal> {
+        malformed_unless(!self.blobfile_due)?;
+        Ok(self.acl)
     }
 
     fn add_group(&mut self, record: Record) -> Result<(), Refusal> {
@@ -66,10 +78,24 @@ impl AclReader {
         // "A MakeArchiveBlob entry lacking kahash in an open group is a loophole [...] given while
         // the action record is read, after 2 and 3."
         let loophole = group.is_open() && action.lacks_kahash();
+        let blobfile_due = action.blobfile().is_some();
         push_up_to(&mut group.actions, action, MOST_ACTIONS)?;
         if loophole {
             return Err(Refusal::OpenArchive);
         }
+        self.blobfile_due = blobfile_due;
+        Ok(())
+    }
+
+    /// "A record of kind 15 directly after a MakeBlob or MakeArchiveBlob action whose new flag 6
+    /// says it is present".
+    fn add_blobfile(&mut self, record: Record) -> Result<(), Refusal> {
+        let file = BlobFile::read(record)?;
+        let action = self.group()?.actions.last_mut();
+        if let Some(place) = action.and_then(Action::blobfile_mut) {
+            *place = Some(file);
+        }
+        self.blobfile_due = false;
         Ok(())
     }
 }
@@ -112,6 +138,7 @@ fn read_limit(record: Record) -> Result<Limit, Refusal> {
     })
 }
 
+/// An action's own record. Where its flag 6 is set, its blobfile is still to be read.
 fn read_action(record: Record) -> Result<Action, Refusal> {
     match record.kind() {
         3 => read_op_permissions(record),
@@ -127,12 +154,15 @@ fn read_op_permissions(record: Record) -> Result<Action, Refusal> {
 }
 
 /// "4 MakeBlob: flags 0 AllowKmOnly, 1 AllowNonKm0, 2 kmhash (4-23), 3 kthash (24-43), 4 ktparams
-/// (44-51), 5 AllowNullKmToken."
+/// (44-51), 5 AllowNullKmToken"; flag 6 blobfile.
 fn read_make_blob(record: Record) -> Result<Action, Refusal> {
     let kmhash_part = part_if(record.flag(2), (4, 23));
     let kthash_part = part_if(record.flag(3), (24, 43));
     let ktparams_part = part_if(record.flag(4), (44, 51));
-    record.check_zeros(0b11_1111, &[kmhash_part, kthash_part, ktparams_part])?;
+    record.check_zeros(
+        0b11_1111 | BLOBFILE_BIT,
+        &[kmhash_part, kthash_part, ktparams_part],
+    )?;
     let ktparams = if record.flag(4) {
         Some(TokenParameters::read(record, 44)?)
     } else {
@@ -145,18 +175,21 @@ fn read_make_blob(record: Record) -> Result<Action, Refusal> {
         kmhash: record.hash_if(2, 4),
         kthash: record.hash_if(3, 24),
         ktparams,
+        blobfile: record.flag(BLOBFILE_FLAG).then(BlobFile::default),
     }))
 }
 
-/// "5 MakeArchiveBlob: flag 0 kahash (4-23); mechanism 24-25, not zero."
+/// "5 MakeArchiveBlob: flag 0 kahash (4-23); mechanism 24-25, not zero"; flag 6 blobfile.
 fn read_make_archive_blob(record: Record) -> Result<Action, Refusal> {
-    record.check_zeros(0b1, &[part_if(record.flag(0), (4, 23)), (24, 25)])?;
+    let kahash_part = part_if(record.flag(0), (4, 23));
+    record.check_zeros(0b1 | BLOBFILE_BIT, &[kahash_part, (24, 25)])?;
     let mechanism = record.number16(24);
     malformed_unless(mechanism != 0)?;
-    Ok(Action::MakeArchiveBlob {
+    Ok(Action::MakeArchiveBlob(MakeArchiveBlob {
         kahash: record.hash_if(0, 4),
         mechanism,
-    })
+        blobfile: record.flag(BLOBFILE_FLAG).then(BlobFile::default),
+    }))
 }
 
 #[cfg(test)]
@@ -182,6 +215,10 @@ mod tests {
             kmhash: Some([3; 20]),
             kthash: None,
             ktparams: Some(parameters(1, 1, 64, 9)),
+            blobfile: Some(BlobFile {
+                devices: Some(0),
+                template: None,
+            }),
         };
         let group = Group {
             certifier: Some([0; 20]),
@@ -199,10 +236,14 @@ mod tests {
             actions: vec![
                 Action::MakeBlob(blob),
                 Action::OpPermissions(0x8001),
-                Action::MakeArchiveBlob {
+                Action::MakeArchiveBlob(MakeArchiveBlob {
                     kahash: Some([9; 20]),
                     mechanism: 0x1234,
-                },
+                    blobfile: Some(BlobFile {
+                        devices: None,
+                        template: Some([0; 20]),
+                    }),
+                }),
             ],
         };
         let acl = Acl {
@@ -257,10 +298,11 @@ mod tests {
     fn an_open_archive_action_without_a_key() {
         let file = |certifier, before, mechanism| {
             let mut actions = vec![Action::OpPermissions(16); before];
-            actions.push(Action::MakeArchiveBlob {
+            actions.push(Action::MakeArchiveBlob(MakeArchiveBlob {
                 kahash: None,
                 mechanism,
-            });
+                blobfile: None,
+            }));
             let group = Group {
                 certifier,
                 actions,
@@ -280,5 +322,38 @@ mod tests {
         assert_eq!(read_acl(&file(None, 8, 0)), Err(Refusal::Malformed));
         let certified = file(Some([0; 20]), 7, 1);
         assert!(read_acl(&certified[..certified.len() - 64]).is_ok());
+    }
+
+    #[test]
+    fn a_blobfile_record_where_it_is_due_and_nowhere_else() {
+        let file = BlobFile {
+            devices: Some(3),
+            template: None,
+        };
+        let blob = Action::MakeBlob(MakeBlob {
+            blobfile: Some(file),
+            ..MakeBlob::default()
+        });
+        let group = encode::group_record(&Group::default());
+        let (action, stored) = (encode::action_record(&blob), encode::blobfile_record(&file));
+        let read = |records: &[[u8; 64]]| read_acl(&records.concat()).map(|_| ());
+        assert_eq!(read(&[group, action, stored]), Ok(()));
+        for bad in [
+            &[group, action][..],
+            &[group, action, action, stored],
+            &[group, action, group],
+            &[group, action, stored, stored],
+            &[group, stored],
+            &[stored],
+        ] {
+            assert_eq!(read(bad), Err(Refusal::Malformed));
+        }
+        // Kind 15 does not count as an action.
+        let eight = [vec![group], [action, stored].repeat(8)].concat();
+        assert_eq!(read(&eight), Ok(()));
+        assert_eq!(
+            read(&[&eight[..], &[action]].concat()),
+            Err(Refusal::TooMany)
+        );
     }
 }

@@ -1,6 +1,7 @@
 //! Reading a listing back: each line is taken word by word into the record it tells of, and the
 //! record is then read like that of a file.
 
+use crate::blobfile::BLOBFILE_FLAG;
 use crate::call::Bytes;
 use crate::encode::{put, put_hash, record, set_flag, RecordBytes};
 use crate::listing::PERMISSIONS;
@@ -17,12 +18,15 @@ pub fn read_listing(text: &[u8], buffer: &mut [u8]) -> Result<usize, Refusal> {
 fn acl_of(text: &[u8]) -> Result<Bytes, Refusal> {
     let mut reader = AclReader::default();
     let mut file = Bytes::new();
+    let mut next = 1;
     for (place, line) in text.split_inclusive(|byte| *byte == b'\n').enumerate() {
         let not_a_line = Refusal::NotALine { line: place + 1 };
         let record = record_of(line).ok_or(not_a_line)?;
         reader.add(Record::of(&record)).or(Err(not_a_line))?;
         file.extend(record);
+        next = place + 2;
     }
+    reader.end().or(Err(Refusal::NotALine { line: next }))?;
     Ok(file)
 }
 
@@ -42,6 +46,7 @@ fn record_of(line: &[u8]) -> Option<RecordBytes> {
         b"OpPermissions" => op_permissions_record(&mut words),
         b"MakeBlob" => make_blob_record(&mut words),
         b"MakeArchiveBlob" => make_archive_blob_record(&mut words),
+        b"blobfile" => blobfile_record(&mut words),
         _ => None,
     };
     record.filter(|_| words.rest.is_empty())
@@ -177,7 +182,7 @@ fn op_permissions_record(words: &mut Words) -> Option<RecordBytes> {
 }
 
 /// `MakeBlob [AllowKmOnly] [AllowNonKm0] [kmhash HASH] [kthash HASH] [ktparams ..]
-/// [AllowNullKmToken]`
+/// [AllowNullKmToken] [blobfile]`
 fn make_blob_record(words: &mut Words) -> Option<RecordBytes> {
     let mut bytes = record(4);
     optional_flag(words, "AllowKmOnly", &mut bytes, 0);
@@ -197,10 +202,11 @@ fn make_blob_record(words: &mut Words) -> Option<RecordBytes> {
         );
     }
     optional_flag(words, "AllowNullKmToken", &mut bytes, 5);
+    optional_flag(words, "blobfile", &mut bytes, BLOBFILE_FLAG);
     Some(bytes)
 }
 
-/// `MakeArchiveBlob [kahash HASH] mechanism N`
+/// `MakeArchiveBlob [kahash HASH] mechanism N [blobfile]`
 fn make_archive_blob_record(words: &mut Words) -> Option<RecordBytes> {
     let mut bytes = record(5);
     optional_hash(words, "kahash", &mut bytes, 0, 4)?;
@@ -209,6 +215,18 @@ fn make_archive_blob_record(words: &mut Words) -> Option<RecordBytes> {
         24,
         &words.named_number16("mechanism")?.to_be_bytes(),
     );
+    optional_flag(words, "blobfile", &mut bytes, BLOBFILE_FLAG);
+    Some(bytes)
+}
+
+/// `blobfile [devices N] [template HASH]`
+fn blobfile_record(words: &mut Words) -> Option<RecordBytes> {
+    let mut bytes = record(15);
+    if words.rest.front() == Some(&b"devices".as_slice()) {
+        set_flag(&mut bytes, 0);
+        put(&mut bytes, 4, &words.named_number("devices")?.to_be_bytes());
+    }
+    optional_hash(words, "template", &mut bytes, 1, 8)?;
     Some(bytes)
 }
 
@@ -237,7 +255,7 @@ mod tests {
     #[test]
     fn every_listing_reads_back() {
         let mut maker = Maker::new(11, true);
-        let mut buffer = vec![0; 53_248];
+        let mut buffer = vec![0; 86_016];
         for _ in 0..300 {
             let acl = maker.acl();
             let file = encode::acl(&acl);
@@ -264,6 +282,20 @@ mod tests {
         assert_eq!(bad_line("group\nlimit uses 1\nlimit uses 2\n"), 3);
         assert_eq!(bad_line("group\nlimit counter 256 uses 1\n"), 2);
         assert_eq!(bad_line("group\nMakeArchiveBlob mechanism 1\n"), 2);
+    }
+
+    #[test]
+    fn a_blobfile_line_where_it_is_due_and_nowhere_else() {
+        let action = "group\nMakeBlob blobfile\n";
+        let good = format!("{action}blobfile devices 4294967295\nMakeBlob\n");
+        assert_eq!(read(&good).map(|file| file.len()), Ok(256));
+        assert_eq!(bad_line(action), 3);
+        assert_eq!(bad_line(&format!("{action}MakeBlob\n")), 3);
+        assert_eq!(bad_line(&format!("{action}blobfile devices 01\n")), 3);
+        assert_eq!(bad_line(&format!("{action}blobfile devices\n")), 3);
+        assert_eq!(bad_line(&format!("{action}blobfile\nblobfile\n")), 4);
+        assert_eq!(bad_line("group\nblobfile\n"), 2);
+        assert_eq!(bad_line("group\nOpPermissions blobfile\nblobfile\n"), 2);
     }
 
     #[test]

@@ -1,10 +1,11 @@
 //! Replacing the ACL in force: narrowing, which hints must show to be one, and expansion.
 
 use crate::acl::{Acl, Action, Group, Limit, MakeBlob, MOST_ACTIONS, MOST_GROUPS};
+use crate::blobfile::blobfile_is_narrower;
 use crate::gate::{check_km0_length, grant};
 use crate::ledger::Ledger;
 use crate::read_acl::{check_acl_length, read_acl};
-use crate::record::{check_length, malformed_unless, records, Hash, Record, Refusal};
+use crate::record::{check_length, malformed_unless, records, Record, Refusal};
 use crate::request::{check_request_length, read_request, EXPAND_ACL, REDUCE_ACL};
 
 /// "Hints grow to 64 records": one for each new group.
@@ -142,20 +143,17 @@ fn actions_are_narrower(new: &Group, source: &Group, hint: &Hint) -> bool {
 }
 
 fn action_is_narrower(new: &Action, source: &Action) -> bool {
-    match (new, source) {
+    let no_wider = match (new, source) {
         // "Subset of permission bits."
         (Action::OpPermissions(new), Action::OpPermissions(old)) => new & !old == 0,
         (Action::MakeBlob(new), Action::MakeBlob(old)) => blob_is_narrower(new, old),
         // "Restrictions kept equal or added [...] same mechanism."
-        (
-            Action::MakeArchiveBlob { kahash, mechanism },
-            Action::MakeArchiveBlob {
-                kahash: old_kahash,
-                mechanism: old_mechanism,
-            },
-        ) => kept::<Hash>(old_kahash, kahash) && mechanism == old_mechanism,
+        (Action::MakeArchiveBlob(new), Action::MakeArchiveBlob(old)) => {
+            kept(&old.kahash, &new.kahash) && new.mechanism == old.mechanism
+        }
         _ => false,
-    }
+    };
+    no_wider && blobfile_is_narrower(&new.blobfile(), &source.blobfile())
 }
 
 /// "Allowing flags a subset; restrictions kept equal or added, ktparams kept or tighter."
@@ -179,6 +177,7 @@ mod tests {
     use super::*;
     use crate::acl::Sort;
     use crate::encode;
+    use crate::record::Hash;
     use crate::request::{Asked, Presented, Request};
 
     const KM0: Hash = [0; 20];
@@ -202,6 +201,7 @@ mod tests {
             &Request {
                 asked: Asked::Use(permission),
                 time,
+                blobfile: None,
             },
             &Presented::default(),
         )

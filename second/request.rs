@@ -1,12 +1,14 @@
 //! Request files: one request record, then what is presented: certificates, then delegations.
 
 use crate::acl::TokenParameters;
+use crate::blobfile::{BlobFile, BLOBFILE_BIT, BLOBFILE_FLAG};
 use crate::record::{
     check_length, malformed_unless, part_if, push_up_to, records, Hash, Record, Refusal,
 };
 
-/// "A request is at most 49 records": the request itself, 32 certificates and 16 delegations.
-pub const MOST_REQUEST_RECORDS: usize = 49;
+/// "A request 50 records": the request itself, its kind 15 record, 32 certificates and 16
+/// delegations.
+pub const MOST_REQUEST_RECORDS: usize = 50;
 pub const MOST_CERTIFICATES: usize = 32;
 pub const MOST_DELEGATIONS: usize = 16;
 const LAST_PERMISSION: u8 = 15;
@@ -18,6 +20,8 @@ pub const EXPAND_ACL: u8 = 12;
 pub struct Request {
     pub asked: Asked,
     pub time: u64,
+    /// Where a blob is to be stored; without it the blob is returned to the host.
+    pub blobfile: Option<BlobFile>,
 }
 
 #[derive(Clone, Debug, PartialEq)]
@@ -71,9 +75,15 @@ pub fn check_request_length(file: &[u8]) -> Result<(), Refusal> {
 pub fn read_request(file: &[u8], only_use: Option<u8>) -> Result<(Request, Presented), Refusal> {
     let mut rest = records(file);
     // "A missing request record [...] gives 2."
-    let request = read_request_record(rest.next().ok_or(Refusal::Malformed)?)?;
+    let first = rest.next().ok_or(Refusal::Malformed)?;
+    let mut request = read_request_record(first)?;
     if let Some(permission) = only_use {
         malformed_unless(request.asked == Asked::Use(permission))?;
+    }
+    // "Requests of kinds 7 and 8 get flag 6 and a kind 15 record next".
+    if first.flag(BLOBFILE_FLAG) {
+        let next = rest.next().ok_or(Refusal::Malformed)?;
+        request.blobfile = Some(BlobFile::read_asked(next)?);
     }
     let mut presented = Presented::default();
     for record in rest {
@@ -111,6 +121,7 @@ fn read_request_record(record: Record) -> Result<Request, Refusal> {
     Ok(Request {
         asked,
         time: record.number64(56),
+        blobfile: None,
     })
 }
 
@@ -124,7 +135,10 @@ fn read_use(record: Record) -> Result<Asked, Refusal> {
 /// "7 blob, flag 0 token used, 4-23 module key hash, 24-43 token hash, 44-51 token parameters".
 fn read_blob(record: Record) -> Result<Asked, Refusal> {
     let token_used = record.flag(0);
-    record.check_zeros(0b1, &[(4, 23), part_if(token_used, (24, 51)), (56, 63)])?;
+    record.check_zeros(
+        0b1 | BLOBFILE_BIT,
+        &[(4, 23), part_if(token_used, (24, 51)), (56, 63)],
+    )?;
     let token = if token_used {
         Some(Token {
             hash: record.hash(24),
@@ -141,7 +155,7 @@ fn read_blob(record: Record) -> Result<Asked, Refusal> {
 
 /// "8 recovery blob, 4-23 key hash, 24-25 mechanism, not zero."
 fn read_recovery(record: Record) -> Result<Asked, Refusal> {
-    record.check_zeros(0, &[(4, 23), (24, 25), (56, 63)])?;
+    record.check_zeros(BLOBFILE_BIT, &[(4, 23), (24, 25), (56, 63)])?;
     let mechanism = record.number16(24);
     malformed_unless(mechanism != 0)?;
     Ok(Asked::Recovery {
@@ -201,6 +215,7 @@ mod tests {
             let request = Request {
                 asked: Asked::Use(4),
                 time: 0,
+                blobfile: None,
             };
             read_request(&encode::request(&request, &presented), None).map(|_| ())
         };
@@ -262,10 +277,53 @@ mod tests {
             let request = Request {
                 asked,
                 time: u64::MAX - 1,
+                blobfile: None,
             };
-            let file = encode::request(&request, &presented);
-            assert_eq!(file.len(), 49 * 64);
-            assert_eq!(read_request(&file, None), Ok((request, presented.clone())));
+            let mut requests = vec![request.clone()];
+            if !matches!(request.asked, Asked::Use(_)) {
+                let blobfile = Some(BlobFile {
+                    devices: Some(1 << 31),
+                    template: Some([7; 20]),
+                });
+                requests.push(Request {
+                    blobfile,
+                    ..request
+                });
+            }
+            for request in requests {
+                let file = encode::request(&request, &presented);
+                let records = 49 + usize::from(request.blobfile.is_some());
+                assert_eq!(file.len(), records * 64);
+                assert_eq!(read_request(&file, None), Ok((request, presented.clone())));
+            }
+        }
+    }
+
+    #[test]
+    fn a_blobfile_record_comes_directly_after_the_request() {
+        let stored = encode::blobfile_record(&BlobFile {
+            devices: Some(4),
+            template: None,
+        });
+        let certificate = encode::certificate_record(&certificate());
+        let mut recovery = [0; 64];
+        recovery[0] = 8;
+        recovery[25] = 1;
+        let plain = recovery;
+        recovery[3] = 1 << 6;
+        let reply = |records: &[[u8; 64]]| read_request(&records.concat(), None).map(|_| ());
+        assert_eq!(reply(&[recovery, stored, certificate]), Ok(()));
+        let mut sign = [0; 64];
+        sign[0] = 6;
+        sign[3] = 1 << 6;
+        for bad in [
+            &[recovery][..],
+            &[recovery, certificate, stored],
+            &[recovery, stored, stored],
+            &[plain, stored],
+            &[sign, stored],
+        ] {
+            assert_eq!(reply(bad), Err(Refusal::Malformed));
         }
     }
 
@@ -275,6 +333,7 @@ mod tests {
             &Request {
                 asked: Asked::Use(REDUCE_ACL),
                 time: 0,
+                blobfile: None,
             },
             &Presented::default(),
         );

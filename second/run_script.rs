@@ -140,6 +140,7 @@ mod tests {
             &Request {
                 asked: Asked::Use(4),
                 time,
+                blobfile: None,
             },
             &Presented::default(),
         );

@@ -12,14 +12,14 @@
 #include <stddef.h>
 #include <stdint.h>
 
-/* Sizes in bytes and records. */
+/* Sizes in bytes and records. The longest ACL has a record of kind 15 (where blobs are stored) after each of its actions. */
 #define AKUBOLINFE_RECORD 64
 #define AKUBOLINFE_HASH 20
 #define AKUBOLINFE_GROUPS 64
 #define AKUBOLINFE_COUNTERS 256
 #define AKUBOLINFE_SLOTS 8
-#define AKUBOLINFE_ACL_BYTES 53248
-#define AKUBOLINFE_LISTING_BYTES 119872
+#define AKUBOLINFE_ACL_BYTES 86016
+#define AKUBOLINFE_LISTING_BYTES 164416
 
 /* What was used: a count for each group, the named counters, the load time and the last time, in seconds. A ledger that was kept
  * with 16 counts and 96 counters (464 bytes) is carried over into a fresh one: its counts and its counters, each to the front of
@@ -73,8 +73,9 @@ akubolinfe_outcome akubolinfe_load(akubolinfe_ledger ledger, uint64_t time);
 /* A clear of one named counter, 0 to 255. */
 akubolinfe_outcome akubolinfe_clear(akubolinfe_ledger ledger, size_t counter);
 
-/* A request for a use or a blob: the KM0 hash, the ACL in force, the request record with up to 32 certificates (kind 9),
- * then up to 16 delegations (kind 14): at most 49 records. */
+/* A request for a use or a blob: the KM0 hash, the ACL in force, the request record; directly after it, if it asks for a blob
+ * that is stored (flag 6), a record of kind 15 with the one device and, if used, the hash of the ACL template; then up to 32
+ * certificates (kind 9), then up to 16 delegations (kind 14): at most 50 records. */
 akubolinfe_outcome akubolinfe_request(akubolinfe_ledger ledger, const uint8_t *km0, size_t km0_length, const uint8_t *acl,
                                       size_t acl_length, const uint8_t *request, size_t request_length);
 

@@ -174,8 +174,9 @@ impl Ledger {
         told(unsafe { akubolinfe_clear(self, counter) })
     }
 
-    /// A request for a use or a blob: `req` is the request record, then up to 32 certificates (kind 9), then up to 16 delegations
-    /// (kind 14), at most 49 records.
+    /// A request for a use or a blob: `req` is the request record; directly after it, if it asks for a blob that is stored (flag 6),
+    /// a record of kind 15 with the one device and, if used, the hash of the ACL template; then up to 32 certificates (kind 9), then up
+    /// to 16 delegations (kind 14), at most 50 records.
     pub fn request(self, km0: &[u8], acl: &[u8], req: &[u8]) -> (Ledger, Reply) {
         told(unsafe { akubolinfe_request(self, ptr(km0), km0.len(), ptr(acl), acl.len(), ptr(req), req.len()) })
     }

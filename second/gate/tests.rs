@@ -12,6 +12,7 @@ fn use_at(permission: u8, time: u64) -> Vec<u8> {
         &Request {
             asked: Asked::Use(permission),
             time,
+            blobfile: None,
         },
         &Presented::default(),
     )
@@ -88,6 +89,7 @@ fn clerk_certifier() {
     let asked = Request {
         asked: Asked::Use(SIGN),
         time: 0,
+        blobfile: None,
     };
     let present = |mechanism| {
         encode::request(
@@ -215,6 +217,7 @@ fn blob_reply(
     let asked = Request {
         asked: Asked::Blob { module_key, token },
         time: 0,
+        blobfile: None,
     };
     number(request(
         &Ledger::fresh(),

@@ -5,6 +5,7 @@ use native.Mathlib.Numerals.{add-one}
 use mathlib.Core.Path.{_≡_, refl, sym, _∙_, ap}
 use mathlib.Core.List.{List, [], _∷_, _++_}
 use mathlib.Core.Option.{none, some}
+use Rattle.rules.specs.Numbers.{malformed, tooMany, openArchive}
 use mathlib.Core.Bool.{Bool, true, false, not, _&&_, _||_}
 use lib.ListN.{length, take, drop, getD, set, drop-of-length-le, length-take}
 use lib.Seq.{drop-cons, take-suc-set}
@@ -12,10 +13,9 @@ use lib.Dec.{eqb, ltb}
 use borrow.Author.Tests.{eq-eqb, ne-eqb, lt-ltb, le-ltb, ltb-true, ltb-false, not-true, not-false}
 use Rattle.rules.specs.Sizes.{groupsMax, limitsMax, actionsMax}
 use Rattle.rules.specs.Basics.{Bytes, any, kind, flag, firstFault}
-use Rattle.rules.specs.Numbers.{malformed, tooMany, openArchive}
-use Rattle.rules.specs.Acl.{AclPlace, among, limitKey, limitInPlace, inPlace, hasRoomUnder, hasRoom, keyed, recordFaultUnder, aclRecordFault, limitAdded, afterRecord}
+use Rattle.rules.specs.Acl.{AclPlace, among, limitKey, limitInPlace, inPlace, hasRoomUnder, hasRoom, keyed, recordFaultUnder, aclRecordFault, aclEnd, limitAdded, groupBegun, actionAdded}
 use Rattle.acl.specs.declared.Place.{Place}
-use Rattle.acl.specs.Places.{placeOf}
+use Rattle.acl.specs.Places.{placeOf, begunAs, addedAs}
 
 -- A key among some, by a loop: what is left has the whole's answer.
 module _ (key : ℕ) (keys : List ℕ) (i : ℕ) (inv : among key (drop i keys) ≡ among key keys) where
@@ -46,48 +46,58 @@ key-added : (n key : ℕ) (keys : List ℕ) → n < length keys → take (n + 1)
 key-added n key keys h = rw add-one (take-suc-set keys n key h)
 
 pub place-added : (p : Place) (key : ℕ) → p .limits < length (p .keys)
-    → placeOf (record { groups = p .groups; opened = p .opened; limits = p .limits + 1; actions = p .actions; keys = set (p .keys) (p .limits) key }) ≡ limitAdded (placeOf p) key
-place-added p key h = ap (λ (l : List ℕ). record { groups = p .groups; isOpen = p .opened; limits = l; actions = p .actions }) (key-added (p .limits) key (p .keys) h)
+    → placeOf (record { groups = p .groups; opened = p .opened; limits = p .limits + 1; actions = p .actions; keys = set (p .keys) (p .limits) key; «file_due» = p .«file_due» }) ≡ limitAdded (placeOf p) key
+place-added p key h = ap (λ (l : List ℕ). record { groups = p .groups; isOpen = p .opened; limits = l; actions = p .actions; fileDue = p .«file_due» }) (key-added (p .limits) key (p .keys) h)
 
--- the fault of a record by its three tests, `if !f(..)`
-module _ (s : AclPlace) (r : Bytes) (a : Bool) (p : a ≡ inPlace s r) where
-  pub bad-record : not a ≡ true → aclRecordFault s r ≡ some malformed
+-- The fault of a record by its three tests, `if !f(..)`.
+module _ (s : AclPlace) (r : Bytes) (a : Bool) (e : a ≡ inPlace s r) where
+  pub acl-bad : not a ≡ true → aclRecordFault s r ≡ some malformed
   unfolding recordFaultUnder firstFault
-  bad-record h = rw (sym p ∙ not-true a h)
+  acl-bad h = rw (sym e ∙ not-true a h)
 
-  module _ (h : not a ≡ false) (b : Bool) (q : b ≡ hasRoom s r) where
-    pub full-record : not b ≡ true → aclRecordFault s r ≡ some tooMany
+  module _ (b : Bool) (d : b ≡ hasRoom s r) (h : not a ≡ false) where
+    pub acl-full : not b ≡ true → aclRecordFault s r ≡ some tooMany
     unfolding recordFaultUnder firstFault
-    full-record k = rw (sym p ∙ not-false a h, sym q ∙ not-true b k)
+    acl-full k = rw (sym e ∙ not-false a h, sym d ∙ not-true b k)
 
-    module _ (k : not b ≡ false) (c : Bool) (t : c ≡ keyed (s .isOpen) r) where
-      pub open-record : not c ≡ true → aclRecordFault s r ≡ some openArchive
+    module _ (c : Bool) (f : c ≡ keyed (s .isOpen) r) (k : not b ≡ false) where
+      pub acl-open : not c ≡ true → aclRecordFault s r ≡ some openArchive
       unfolding recordFaultUnder firstFault
-      open-record l = rw (sym p ∙ not-false a h, sym q ∙ not-false b k, sym t ∙ not-true c l)
+      acl-open l = rw (sym e ∙ not-false a h, sym d ∙ not-false b k, sym f ∙ not-true c l)
 
-      pub sound-record : not c ≡ false → aclRecordFault s r ≡ none
+      pub acl-sound : not c ≡ false → aclRecordFault s r ≡ none
       unfolding recordFaultUnder firstFault
-      sound-record l = rw (sym p ∙ not-false a h, sym q ∙ not-false b k, sym t ∙ not-false c l)
+      acl-sound l = rw (sym e ∙ not-false a h, sym d ∙ not-false b k, sym f ∙ not-false c l)
 
--- after a group's record: open if it has no certifier
-pub group-next : (s : AclPlace) (r : Bytes) (f : Bool) → kind r ≡ 1 → f ≡ flag 0 r → record { groups = s .groups + 1; isOpen = not f; limits = []; actions = 0 } ≡ afterRecord s r
-unfolding afterRecord
-group-next s r f k e = rw (eq-eqb (kind r) 1 k, e)
+-- a group begun, and an action added, by the flag that the code read
+pub group-begun : (s t : AclPlace) (r : Bytes) (b : Bool) → b ≡ flag 0 r → t ≡ begunAs s (not b) → t ≡ groupBegun s r
+group-begun s t r b e d = d ∙ ap (λ (x : Bool). begunAs s (not x)) e
+
+pub action-added : (s t : AclPlace) (r : Bytes) (b : Bool) → b ≡ flag 6 r → t ≡ addedAs s b → t ≡ actionAdded s r
+action-added s t r b e d = d ∙ ap (addedAs s) e
+
+-- the end: kind 15 is due or not
+pub end-due : (s : AclPlace) → s .fileDue ≡ true → some malformed ≡ aclEnd s
+end-due s e = rw e
+
+pub end-sound : (s : AclPlace) → s .fileDue ≡ false → none ≡ aclEnd s
+end-sound s e = rw e
 
 -- what room says of each kind
 module _ (p : Place) (r : Bytes) (h : hasRoom (placeOf p) r ≡ true) where
-  pub group-fits : kind r ≡ 1 → p .groups + 1 < groupsMax + 1
+  pub group-fits : kind r ≡ 1 → p .groups < groupsMax
   unfolding hasRoomUnder
-  group-fits e = let d = ltb-true (p .groups) groupsMax (rw (eq-eqb (kind r) 1 e) at h) in omega arith
+  group-fits e = ltb-true (p .groups) groupsMax (rw (eq-eqb (kind r) 1 e) at h)
 
   pub limit-fits : (kind r ≡ 1 → ⊥) → kind r ≡ 2 → length (p .keys) ≡ limitsMax → p .limits < limitsMax
   unfolding hasRoomUnder
   limit-fits n e l =
       ltb-true (p .limits) limitsMax (room-left (p .limits) limitsMax (p .keys) l ∙ rw (ne-eqb (kind r) 1 n, eq-eqb (kind r) 2 e) at h)
 
-  pub action-fits : (kind r ≡ 1 → ⊥) → (kind r ≡ 2 → ⊥) → p .actions + 1 < actionsMax + 1
+  pub action-fits : (kind r ≡ 1 → ⊥) → (kind r ≡ 2 → ⊥) → (kind r ≡ 15 → ⊥) → p .actions < actionsMax
   unfolding hasRoomUnder
-  action-fits n m = let d = ltb-true (p .actions) actionsMax (rw (ne-eqb (kind r) 1 n, ne-eqb (kind r) 2 m) at h) in omega arith
+  action-fits n m k =
+      ltb-true (p .actions) actionsMax (rw (ne-eqb (kind r) 1 n, ne-eqb (kind r) 2 m, ne-eqb (kind r) 15 k) at h)
 
 -- the part of a group's keys that stands for limits
 module _ (n k : ℕ) (keys : List ℕ) (e : length keys ≡ k) (h : n ≤ k) where

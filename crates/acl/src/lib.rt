@@ -3,22 +3,23 @@ ghost use mathlib.Core.Path.{_≡_};
 ghost use mathlib.Core.Bool.{true};
 ghost use Prim.Native.Nat.{_≤_, _<_};
 ghost use lib.ListN.{length};
-ghost use Rattle.rules.specs.Sizes.{recordBytes, limitsMax};
+ghost use Rattle.rules.specs.Sizes.{recordBytes, groupsMax, limitsMax, actionsMax};
 ghost use Rattle.rules.specs.Basics.{records};
-ghost use Rattle.rules.specs.Acl.{aclStart, among, limitInPlace, actionLaidOut, inPlace, hasRoom, keyed, limitAdded, afterRecord, aclFault, aclFileFault};
+ghost use Rattle.rules.specs.Acl.{aclStart, among, limitInPlace, actionLaidOut, fileRecord, placedByKind, inPlace, hasRoom, keyed, limitAdded, filePassed, afterRecord, aclFault, aclFileFault};
 ghost use Rattle.files.specs.Faults.{faultOf};
-ghost use Rattle.acl.specs.Places.{placeOf};
+ghost use Rattle.acl.specs.Places.{placeOf, begunAs, addedAs};
 use files::Checked;
 use refusals::Refusal;
 
 // Where reading stands: groups begun; of the last group whether it is open (it has no certifier), the limits, with the sort and counter of each, and
-// the actions.
+// the actions; whether a record of kind 15 is due.
 pub struct Place {
     pub groups: usize,
     pub opened: bool,
     pub limits: usize,
     pub actions: usize,
     pub keys: [u16; sizes::LIMITS],
+    pub file_due: bool,
 }
 
 // Whether a number is among some.
@@ -53,6 +54,14 @@ fn action(rec: &[u8]) -> bool
     false
 }
 
+// Whether a record is a well-formed one of kind 15.
+fn file_record(rec: &[u8]) -> bool
+    requires { ⌜ length (now rec) ≡ recordBytes ⌝ }
+    ensures { λ r. ⌜ r ≡ fileRecord (now (rec .entry)) ⌝ }
+{
+    (rec[0] == 15) & layout::file(rec)
+}
+
 impl Place {
     pub fn start() -> Self
         ensures { λ r. ⌜ (placeOf r ≡ aclStart) × (r .limits ≤ limitsMax) ⌝ }
@@ -63,6 +72,7 @@ impl Place {
             limits: 0,
             actions: 0,
             keys: [0u16; sizes::LIMITS],
+            file_due: false,
         }
     }
 
@@ -76,10 +86,21 @@ impl Place {
         (0 < self.groups) & (self.actions == 0) & !is_among(key, &keys[..n])
     }
 
-    // Whether a record is well formed and may stand here.
+    // Whether a record is well formed and may stand here: kind 15 where it is due, and only there.
     pub fn in_place(self, rec: &[u8]) -> bool
         requires { ⌜ (self .limits ≤ limitsMax) × (length (now rec) ≡ recordBytes) ⌝ }
         ensures { λ r. ⌜ r ≡ inPlace (placeOf self) (now (rec .entry)) ⌝ }
+    {
+        if self.file_due {
+            return file_record(rec);
+        }
+        self.placed_by_kind(rec)
+    }
+
+    // Whether a group, a limit or an action is well formed and may stand here.
+    fn placed_by_kind(self, rec: &[u8]) -> bool
+        requires { ⌜ (self .limits ≤ limitsMax) × (length (now rec) ≡ recordBytes) ⌝ }
+        ensures { λ r. ⌜ r ≡ placedByKind (placeOf self) (now (rec .entry)) ⌝ }
     {
         let kind = rec[0];
         if kind == 1 {
@@ -109,6 +130,9 @@ impl Place {
         if kind == 2 {
             return self.limits < sizes::LIMITS;
         }
+        if kind == 15 {
+            return true;
+        }
         self.actions < sizes::ACTIONS
     }
 
@@ -132,32 +156,54 @@ impl Place {
         self
     }
 
+    // Where reading stands after a group record, which may be open.
+    fn after_group(mut self, opened: bool) -> Self
+        requires { ⌜ (self .limits ≤ limitsMax) × (self .groups < groupsMax) ⌝ }
+        ensures { λ r. ⌜ (placeOf r ≡ begunAs (placeOf self) opened) × (r .limits ≤ limitsMax) ⌝ }
+    {
+        self.groups += 1;
+        self.opened = opened;
+        self.limits = 0;
+        self.actions = 0;
+        self.file_due = false;
+        self
+    }
+
+    // Where reading stands after an action, which may announce a record of kind 15.
+    fn after_action(mut self, file_due: bool) -> Self
+        requires { ⌜ (self .limits ≤ limitsMax) × (self .actions < actionsMax) ⌝ }
+        ensures { λ r. ⌜ (placeOf r ≡ addedAs (placeOf self) «file_due») × (r .limits ≤ limitsMax) ⌝ }
+    {
+        self.actions += 1;
+        self.file_due = file_due;
+        self
+    }
+
+    // Where reading stands after a record of kind 15.
+    fn after_file(mut self) -> Self
+        requires { ⌜ self .limits ≤ limitsMax ⌝ }
+        ensures { λ r. ⌜ (placeOf r ≡ filePassed (placeOf self)) × (r .limits ≤ limitsMax) ⌝ }
+    {
+        self.file_due = false;
+        self
+    }
+
     // Where reading stands after a record for which there is room.
     pub fn after(self, rec: &[u8]) -> Self
         requires { ⌜ (hasRoom (placeOf self) (now rec) ≡ true) × (self .limits ≤ limitsMax) × (length (now rec) ≡ recordBytes) ⌝ }
         ensures { λ r. ⌜ (placeOf r ≡ afterRecord (placeOf self) (now (rec .entry))) × (r .limits ≤ limitsMax) ⌝ }
     {
         let kind = rec[0];
-        let keys = self.keys;
         if kind == 1 {
-            return Self {
-                groups: self.groups + 1,
-                opened: !fields::flag_of(0, rec),
-                limits: 0,
-                actions: 0,
-                keys: keys,
-            };
+            return self.after_group(!fields::flag_of(0, rec));
         }
         if kind == 2 {
             return self.after_limit(fields::be16(rec, 4));
         }
-        Self {
-            groups: self.groups,
-            opened: self.opened,
-            limits: self.limits,
-            actions: self.actions + 1,
-            keys: keys,
+        if kind == 15 {
+            return self.after_file();
         }
+        self.after_action(fields::flag_of(6, rec))
     }
 }
 
@@ -180,6 +226,9 @@ pub fn acl_records(acl: &[u8]) -> Checked
         }
         place = place.after(rec);
         at += sizes::RECORD;
+    }
+    if place.file_due {
+        return Checked::Refused(Refusal::Malformed);
     }
     Checked::Sound
 }

@@ -13,7 +13,7 @@ use lib.Seq.{length-take-le, take-take}
 use lib.Pow.{shr-shr, shr-le}
 use lib.Dec.{eqb, ltb}
 use Rattle.rules.specs.Basics.{if_then_else_, Bytes, implies, bit, allBelow, part, number, kind, flag, optional, present, bothSame, unless, firstFault}
-use Rattle.rules.specs.Acl.{blobRuleOf, archiveRuleOf, parametersAt, Action, permissions, makeBlob, makeArchive, actionOf}
+use Rattle.rules.specs.Acl.{blobRuleOf, archiveRuleOf, parametersAt, FileRule, Action, permissions, makeBlob, makeArchive, actionOf}
 use Rattle.rules.specs.Bundle.{Policy}
 use Rattle.rules.specs.Suites.{suiteMechanism}
 use Rattle.rules.specs.Numbers.{notKept}
@@ -149,30 +149,31 @@ module _ (suite : ℕ) (a : Answer) (e : a ≡ calledFor suite) where
   called-under c m n d g = sym (rw (← suite-found suite a e, ← d, g))
 
 -- What is made of an action, by the kind of its record.
-pub by-kind : {A : Type 0} (f : Action → A) (r : Bytes) (x : A)
-    → x ≡ (if eqb (kind r) 3 then f (permissions (number 4 2 r)) else if eqb (kind r) 4 then f (makeBlob (blobRuleOf r)) else f (makeArchive (archiveRuleOf r)))
-    → x ≡ f (actionOf r)
+pub by-kind : {A : Type 0} (f : Action → A) (r : Bytes) (file : Option FileRule) (x : A)
+    → x ≡ (if eqb (kind r) 3 then f (permissions (number 4 2 r)) else if eqb (kind r) 4 then f (makeBlob (blobRuleOf r) file) else f (makeArchive (archiveRuleOf r) file))
+    → x ≡ f (actionOf r file)
 unfolding actionOf
-by-kind f r x e = pick (eqb (kind r) 3) refl (eqb (kind r) 4) refl
+by-kind f r file x e = pick (eqb (kind r) 3) refl (eqb (kind r) 4) refl
   where
-    pick : (a : Bool) → eqb (kind r) 3 ≡ a → (b : Bool) → eqb (kind r) 4 ≡ b → x ≡ f (actionOf r)
+    pick : (a : Bool) → eqb (kind r) 3 ≡ a → (b : Bool) → eqb (kind r) 4 ≡ b → x ≡ f (actionOf r file)
     pick true q b p = rw q (rw q at e)
     pick false q true p = rw (q, p) (rw (q, p) at e)
     pick false q false p = rw (q, p) (rw (q, p) at e)
 
-pub kept-by-blob : (r : Bytes) (x : ℕ) → getD r 0 0 ≡ 4 → x ≡ actionProtection (makeBlob (blobRuleOf r)) → x ≡ actionProtection (actionOf r)
-kept-by-blob r x h e = by-kind actionProtection r x (rw (ne-eqb (kind r) 3 (λ z. omega arith), eq-eqb (kind r) 4 h) e)
-
-pub kept-by-none : (r : Bytes) → (getD r 0 0 ≡ 4 → ⊥) → notKept ≡ actionProtection (actionOf r)
+pub kept-by-blob : (r : Bytes) (file : Option FileRule) (x : ℕ) → getD r 0 0 ≡ 4 → x ≡ actionProtection (makeBlob (blobRuleOf r) none) → x ≡ actionProtection (actionOf r file)
 unfolding actionProtection
-kept-by-none r n = by-kind actionProtection r notKept (rw (ne-eqb (kind r) 4 n) (either (eqb (kind r) 3)))
+kept-by-blob r file x h e = by-kind actionProtection r file x (rw (ne-eqb (kind r) 3 (λ z. omega arith), eq-eqb (kind r) 4 h) e)
+
+pub kept-by-none : (r : Bytes) (file : Option FileRule) → (getD r 0 0 ≡ 4 → ⊥) → notKept ≡ actionProtection (actionOf r file)
+unfolding actionProtection
+kept-by-none r file n = by-kind actionProtection r file notKept (rw (ne-eqb (kind r) 4 n) (either (eqb (kind r) 3)))
   where
     either : (t : Bool) → notKept ≡ (if t then notKept else notKept)
     either true = refl
     either false = refl
 
-pub archive-is : (r : Bytes) → (not (eqb (kind r) 3) && not (eqb (kind r) 4)) ≡ isArchive (actionOf r)
-archive-is r = by-kind isArchive r (not (eqb (kind r) 3) && not (eqb (kind r) 4)) (each (eqb (kind r) 3) (eqb (kind r) 4))
+pub archive-is : (r : Bytes) (file : Option FileRule) → (not (eqb (kind r) 3) && not (eqb (kind r) 4)) ≡ isArchive (actionOf r file)
+archive-is r file = by-kind isArchive r file (not (eqb (kind r) 3) && not (eqb (kind r) 4)) (each (eqb (kind r) 3) (eqb (kind r) 4))
   where
     each : (a b : Bool) → (not a && not b) ≡ (if a then false else if b then false else true)
     each true b = refl

@@ -1,11 +1,12 @@
 // One action of an ACL: the attestation step that it fails, its protection, whether it is for recovery. Each decodes whatever bytes stand in the
-// record; the file may or may not have been tested.
+// record; the file may or may not have been tested. A record of kind 15 after the action changes nothing here.
 ghost use mathlib.Core.Path.{_≡_};
+ghost use mathlib.Core.Option.{Option, none};
 ghost use Prim.Native.Nat.{_+_, _≤_, _<_};
 ghost use lib.ListN.{length};
 ghost use Rattle.rules.specs.Sizes.{recordBytes, hashBytes};
 ghost use Rattle.rules.specs.Basics.{allBelow, bothSame, part, number, flag, optional};
-ghost use Rattle.rules.specs.Acl.{blobRuleOf, archiveRuleOf, makeBlob, actionOf};
+ghost use Rattle.rules.specs.Acl.{blobRuleOf, archiveRuleOf, FileRule, makeBlob, actionOf};
 ghost use Rattle.rules.specs.Suites.{suiteMechanism};
 ghost use Rattle.rules.specs.Desk.{classOf, policyAdmits, permissionsFailure, blobFailure, isMechanism, archiveFailure, failureUnder, actionProtection, isArchive};
 ghost use Rattle.facts.specs.Found.{policyAs};
@@ -192,7 +193,7 @@ fn archive_steps(policy: Policy, hkre: &[u8], rec: &[u8]) -> Failure
 // The first step that an action fails, under a policy and the keys that are trusted; an empty part for one that is not.
 pub fn action_steps(policy: Policy, hkm: &[u8], hkre: &[u8], rec: &[u8]) -> Failure
     requires { ⌜ length (now rec) ≡ recordBytes ⌝ }
-    ensures { λ r. ⌜ failureOf r ≡ failureUnder (policyAs policy) (given (now (hkm .entry))) (given (now (hkre .entry))) (actionOf (now (rec .entry))) ⌝ }
+    ensures { λ r. ⌜ ((file : Option FileRule) → failureOf r ≡ failureUnder (policyAs policy) (given (now (hkm .entry))) (given (now (hkre .entry))) (actionOf (now (rec .entry)) file)) ⌝ }
 {
     let kind = rec[0];
     if kind == 3 {
@@ -207,7 +208,7 @@ pub fn action_steps(policy: Policy, hkm: &[u8], hkre: &[u8], rec: &[u8]) -> Fail
 // The protection of a MakeBlob action.
 fn blob_protection(rec: &[u8]) -> u8
     requires { ⌜ length (now rec) ≡ recordBytes ⌝ }
-    ensures { λ r. ⌜ r ≡ actionProtection (makeBlob (blobRuleOf (now (rec .entry)))) ⌝ }
+    ensures { λ r. ⌜ r ≡ actionProtection (makeBlob (blobRuleOf (now (rec .entry))) none) ⌝ }
 {
     if fields::flag_of(0, rec) {
         return BY_MODULE;
@@ -221,7 +222,7 @@ fn blob_protection(rec: &[u8]) -> u8
 // The protection of an action; one that is no MakeBlob keeps nothing.
 pub fn action_protection(rec: &[u8]) -> u8
     requires { ⌜ length (now rec) ≡ recordBytes ⌝ }
-    ensures { λ r. ⌜ r ≡ actionProtection (actionOf (now (rec .entry))) ⌝ }
+    ensures { λ r. ⌜ ((file : Option FileRule) → r ≡ actionProtection (actionOf (now (rec .entry)) file)) ⌝ }
 {
     let kind = rec[0];
     if kind != 4 {
@@ -233,7 +234,7 @@ pub fn action_protection(rec: &[u8]) -> u8
 // Whether an action is for recovery, a MakeArchiveBlob.
 pub fn is_archive(rec: &[u8]) -> bool
     requires { ⌜ length (now rec) ≡ recordBytes ⌝ }
-    ensures { λ r. ⌜ r ≡ isArchive (actionOf (now (rec .entry))) ⌝ }
+    ensures { λ r. ⌜ ((file : Option FileRule) → r ≡ isArchive (actionOf (now (rec .entry)) file)) ⌝ }
 {
     let kind = rec[0];
     (kind != 3) & (kind != 4)

@@ -3,17 +3,19 @@ use Prim.Native.Nat.{ℕ, _+_, _-_, _/_, _^_, _≤_, _<_}
 use native.Mathlib.Omega.{arith}
 use native.Mathlib.Nat.{div-eq-of-lt}
 use mathlib.Core.Path.{_≡_, refl, sym, _∙_, ap}
+use mathlib.Core.List.{List, _∷_}
+use mathlib.Core.Option.{Option}
 use mathlib.Core.Bool.{Bool, true, false, not, _&&_, _||_}
 use borrow.Author.Tests.{eq-eqb, ne-eqb, not-true, not-false}
 use lib.ListN.{length, getD}
 use lib.Dec.{eqb}
 use lib.Pow.{pow-mono}
-use Rattle.rules.specs.Basics.{Bytes, any, same, bit, part, number, byte, kind, flag, optional, present, matches}
-use Rattle.rules.specs.Acl.{Parameters, parametersOf, blobRuleOf, archiveRuleOf, actionOf, Action, actionsOf}
-use Rattle.rules.specs.Request.{tokenOf, workingBlobOf, recoveryBlobOf, wantedOf}
-use Rattle.rules.specs.Grant.{tighter, meets, nullKey, admitsDirect, admitsToken, admitsKey, admitsBlob, admitsArchive, admitsUse, admitsWorking, admitsRecovery, admits}
-use Rattle.rules.proofs.Rows.{recordsFrom, lentRecord}
-use Rattle.groups.proofs.Laws.{acts-step, acts-limit, acts-group, acts-end}
+use Rattle.rules.specs.Basics.{Bytes, any, same, bit, part, number, byte, kind, flag, optional, present, matches, records}
+use Rattle.rules.specs.Acl.{Parameters, parametersOf, blobRuleOf, archiveRuleOf, FileRule, fileRuleNext, actionOf, Action, actionsOf}
+use Rattle.rules.specs.Request.{tokenOf, workingBlobOf, recoveryBlobOf, BlobFile, wantedOf}
+use Rattle.rules.specs.Grant.{tighter, meets, nullKey, admitsDirect, admitsToken, admitsKey, admitsBlob, admitsArchive, admitsFile, admitsUse, admitsWorking, admitsRecovery, admits}
+use Rattle.rules.proofs.Rows.{recordsFrom, rows-rest, lentRecord, lentRest}
+use Rattle.groups.proofs.Laws.{acts-step, acts-limit, acts-file, acts-group, acts-end}
 
 -- a field that a flag announces: absent, or to be compared
 module _ (u : Bool) (h k : Bytes) where
@@ -62,81 +64,90 @@ high-bit p n h k =
     let z : n / 2 ^ p ≡ 0 = div-eq-of-lt (omega arith) in
     rw z
 
-module _ (p : ℕ) (act : Bytes) where
-  pub use-other : (kind act ≡ 3 → ⊥) → false ≡ admitsUse p (actionOf act)
+module _ (p : ℕ) (act : Bytes) (file : Option FileRule) where
+  pub use-other : (kind act ≡ 3 → ⊥) → false ≡ admitsUse p (actionOf act file)
   unfolding admitsUse actionOf
   use-other n = pick (eqb (kind act) 4) refl
     where
-      pick : (b : Bool) → eqb (kind act) 4 ≡ b → false ≡ admitsUse p (actionOf act)
+      pick : (b : Bool) → eqb (kind act) 4 ≡ b → false ≡ admitsUse p (actionOf act file)
       pick true e = rw (ne-eqb (kind act) 3 n, e)
       pick false e = rw (ne-eqb (kind act) 3 n, e)
 
-  pub use-high : (x : ℕ) → kind act ≡ 3 → x ≡ number 4 2 act → 16 ≤ p → x < 65536 → false ≡ admitsUse p (actionOf act)
+  pub use-high : (x : ℕ) → kind act ≡ 3 → x ≡ number 4 2 act → 16 ≤ p → x < 65536 → false ≡ admitsUse p (actionOf act file)
   unfolding admitsUse actionOf
   use-high x e q h k = sym (rw (eq-eqb (kind act) 3 e, ← q) (high-bit p x k h))
 
-  pub use-bit : (x : ℕ) (r : Bool) → kind act ≡ 3 → x ≡ number 4 2 act → r ≡ bit p x → r ≡ admitsUse p (actionOf act)
+  pub use-bit : (x : ℕ) (r : Bool) → kind act ≡ 3 → x ≡ number 4 2 act → r ≡ bit p x → r ≡ admitsUse p (actionOf act file)
   unfolding admitsUse actionOf
   use-bit x r e q d = d ∙ sym (rw (eq-eqb (kind act) 3 e, ← q))
 
-module _ (km0 rec act : Bytes) where
-  pub working-other : (kind act ≡ 4 → ⊥) → false ≡ admitsWorking km0 (workingBlobOf rec) (actionOf act)
+module _ (km0 rec : Bytes) (stored : Option BlobFile) (act : Bytes) (file : Option FileRule) where
+  pub working-other : (kind act ≡ 4 → ⊥) → false ≡ admitsWorking km0 (workingBlobOf rec) stored (actionOf act file)
   unfolding admitsWorking actionOf
   working-other n = pick (eqb (kind act) 3) refl
     where
-      pick : (b : Bool) → eqb (kind act) 3 ≡ b → false ≡ admitsWorking km0 (workingBlobOf rec) (actionOf act)
+      pick : (b : Bool) → eqb (kind act) 3 ≡ b → false ≡ admitsWorking km0 (workingBlobOf rec) stored (actionOf act file)
       pick true e = rw e
       pick false e = rw (e, ne-eqb (kind act) 4 n)
 
-  pub working-is : (r : Bool) → kind act ≡ 4 → r ≡ admitsBlob km0 (blobRuleOf act) (workingBlobOf rec) → r ≡ admitsWorking km0 (workingBlobOf rec) (actionOf act)
+  pub working-is : (r t : Bool) → kind act ≡ 4 → r ≡ admitsBlob km0 (blobRuleOf act) (workingBlobOf rec) → t ≡ admitsFile file stored
+      → (r && t) ≡ admitsWorking km0 (workingBlobOf rec) stored (actionOf act file)
   unfolding admitsWorking actionOf
-  working-is r e q = q ∙ sym (rw (ne-eqb (kind act) 3 (λ x. omega arith), eq-eqb (kind act) 4 e))
+  working-is r t e q d = rw (q, d) (sym (rw (ne-eqb (kind act) 3 (λ x. omega arith), eq-eqb (kind act) 4 e)))
 
-module _ (rec act : Bytes) where
-  pub recovery-use : kind act ≡ 3 → false ≡ admitsRecovery (recoveryBlobOf rec) (actionOf act)
+module _ (rec : Bytes) (stored : Option BlobFile) (act : Bytes) (file : Option FileRule) where
+  pub recovery-use : kind act ≡ 3 → false ≡ admitsRecovery (recoveryBlobOf rec) stored (actionOf act file)
   unfolding admitsRecovery actionOf
   recovery-use e = sym (rw (eq-eqb (kind act) 3 e))
 
-  pub recovery-blob : kind act ≡ 4 → false ≡ admitsRecovery (recoveryBlobOf rec) (actionOf act)
+  pub recovery-blob : kind act ≡ 4 → false ≡ admitsRecovery (recoveryBlobOf rec) stored (actionOf act file)
   unfolding admitsRecovery actionOf
   recovery-blob e = sym (rw (ne-eqb (kind act) 3 (λ x. omega arith), eq-eqb (kind act) 4 e))
 
-  pub recovery-is : (r : Bool) → (kind act ≡ 3 → ⊥) → (kind act ≡ 4 → ⊥) → r ≡ admitsArchive (archiveRuleOf act) (recoveryBlobOf rec)
-      → r ≡ admitsRecovery (recoveryBlobOf rec) (actionOf act)
+  pub recovery-is : (r t : Bool) → (kind act ≡ 3 → ⊥) → (kind act ≡ 4 → ⊥) → r ≡ admitsArchive (archiveRuleOf act) (recoveryBlobOf rec) → t ≡ admitsFile file stored
+      → (r && t) ≡ admitsRecovery (recoveryBlobOf rec) stored (actionOf act file)
   unfolding admitsRecovery actionOf
-  recovery-is r n m q = q ∙ sym (rw (ne-eqb (kind act) 3 n, ne-eqb (kind act) 4 m))
+  recovery-is r t n m q d = rw (q, d) (sym (rw (ne-eqb (kind act) 3 n, ne-eqb (kind act) 4 m)))
 
 -- what a request record asks for, by its kind
-module _ (km0 rec act : Bytes) where
-  pub asks-use : (r : Bool) → kind rec ≡ 6 → r ≡ admitsUse (byte 4 rec) (actionOf act) → r ≡ admits km0 (wantedOf rec) (actionOf act)
+module _ (km0 rec : Bytes) (stored : Option BlobFile) (act : Bytes) (file : Option FileRule) where
+  pub asks-use : (r : Bool) → kind rec ≡ 6 → r ≡ admitsUse (byte 4 rec) (actionOf act file) → r ≡ admits km0 (wantedOf rec stored) (actionOf act file)
   unfolding admits wantedOf
   asks-use r e q = q ∙ sym (rw (eq-eqb (kind rec) 6 e))
 
-  pub asks-working : (r : Bool) → (kind rec ≡ 6 → ⊥) → kind rec ≡ 7 → r ≡ admitsWorking km0 (workingBlobOf rec) (actionOf act) → r ≡ admits km0 (wantedOf rec) (actionOf act)
+  pub asks-working : (r : Bool) → (kind rec ≡ 6 → ⊥) → kind rec ≡ 7 → r ≡ admitsWorking km0 (workingBlobOf rec) stored (actionOf act file)
+      → r ≡ admits km0 (wantedOf rec stored) (actionOf act file)
   unfolding admits wantedOf
   asks-working r n e q = q ∙ sym (rw (ne-eqb (kind rec) 6 n, eq-eqb (kind rec) 7 e))
 
-  pub asks-recovery : (r : Bool) → (kind rec ≡ 6 → ⊥) → (kind rec ≡ 7 → ⊥) → r ≡ admitsRecovery (recoveryBlobOf rec) (actionOf act) → r ≡ admits km0 (wantedOf rec) (actionOf act)
+  pub asks-recovery : (r : Bool) → (kind rec ≡ 6 → ⊥) → (kind rec ≡ 7 → ⊥) → r ≡ admitsRecovery (recoveryBlobOf rec) stored (actionOf act file)
+      → r ≡ admits km0 (wantedOf rec stored) (actionOf act file)
   unfolding admits wantedOf
   asks-recovery r n m q = q ∙ sym (rw (ne-eqb (kind rec) 6 n, ne-eqb (kind rec) 7 m))
 
--- A loop over a group's records: limits are passed over, the next group ends it.
+-- A loop over a group's records: limits and kind 15 are passed over, the next group ends it.
 module _ (p : Action → Bool) (s : Bytes) (at : ℕ) (x : Bool) (inv : any p (actionsOf (recordsFrom s at)) ≡ x) where
-  pub acts-found : (t : Bool) → 64 ≤ length s - at → (getD s at 0 ≡ 1 → ⊥) → (getD s at 0 ≡ 2 → ⊥) → t ≡ p (actionOf (lentRecord s at)) → t ≡ true → true ≡ x
-  unfolding any
-  acts-found t h n m e y =
-      let q : p (actionOf (lentRecord s at)) ≡ true = sym e ∙ y in
-      sym (ap (any p) (acts-step s at h n m) ∙ rw q) ∙ inv
+  here : 64 ≤ length s - at → (getD s at 0 ≡ 1 → ⊥) → (getD s at 0 ≡ 2 → ⊥) → (getD s at 0 ≡ 15 → ⊥)
+      → actionsOf (recordsFrom s at) ≡ actionOf (lentRecord s at) (fileRuleNext (records (lentRest s (at + 64)))) ∷ actionsOf (recordsFrom s (at + 64))
+  here h n m o =
+      acts-step s at h n m o
+      ∙ ap (λ (l : List Bytes). actionOf (lentRecord s at) (fileRuleNext l) ∷ actionsOf (recordsFrom s (at + 64))) (sym (rows-rest s (at + 64)))
 
-  pub acts-next : (t : Bool) → 64 ≤ length s - at → (getD s at 0 ≡ 1 → ⊥) → (getD s at 0 ≡ 2 → ⊥) → t ≡ p (actionOf (lentRecord s at)) → t ≡ false
-      → any p (actionsOf (recordsFrom s (at + 64))) ≡ x
-  unfolding any
-  acts-next t h n m e y =
-      let q : p (actionOf (lentRecord s at)) ≡ false = sym e ∙ y in
-      sym (ap (any p) (acts-step s at h n m) ∙ rw q) ∙ inv
+  module _ (t : Bool) (h : 64 ≤ length s - at) (n : getD s at 0 ≡ 1 → ⊥) (m : getD s at 0 ≡ 2 → ⊥) (o : getD s at 0 ≡ 15 → ⊥)
+      (e : t ≡ p (actionOf (lentRecord s at) (fileRuleNext (records (lentRest s (at + 64)))))) where
+    pub acts-found : t ≡ true → true ≡ x
+    unfolding any
+    acts-found y = sym (ap (any p) (here h n m o) ∙ rw (sym e ∙ y)) ∙ inv
+
+    pub acts-next : t ≡ false → any p (actionsOf (recordsFrom s (at + 64))) ≡ x
+    unfolding any
+    acts-next y = sym (ap (any p) (here h n m o) ∙ rw (sym e ∙ y)) ∙ inv
 
   pub acts-pass : 64 ≤ length s - at → (getD s at 0 ≡ 1 → ⊥) → getD s at 0 ≡ 2 → any p (actionsOf (recordsFrom s (at + 64))) ≡ x
   acts-pass h n e = sym (ap (any p) (acts-limit s at h n e)) ∙ inv
+
+  pub acts-skip : 64 ≤ length s - at → (getD s at 0 ≡ 1 → ⊥) → (getD s at 0 ≡ 2 → ⊥) → getD s at 0 ≡ 15 → any p (actionsOf (recordsFrom s (at + 64))) ≡ x
+  acts-skip h n m e = sym (ap (any p) (acts-file s at h n m e)) ∙ inv
 
   pub acts-stop : 64 ≤ length s - at → getD s at 0 ≡ 1 → false ≡ x
   unfolding any

@@ -1,10 +1,11 @@
 // Whether an action admits a request, and whether a group does: one of its actions has to. Each function decodes whatever bytes stand there.
 ghost use mathlib.Core.Path.{_≡_};
+ghost use mathlib.Core.Option.{Option};
 ghost use lib.ListN.{length};
 ghost use Rattle.rules.specs.Sizes.{recordBytes};
 ghost use Rattle.rules.specs.Basics.{any, same, optional, matches, records};
-ghost use Rattle.rules.specs.Acl.{parametersOf, blobRuleOf, archiveRuleOf, actionOf, actionsOf};
-ghost use Rattle.rules.specs.Request.{tokenOf, workingBlobOf, recoveryBlobOf, wantedOf};
+ghost use Rattle.rules.specs.Acl.{parametersOf, blobRuleOf, archiveRuleOf, FileRule, fileRuleNext, actionOf, actionsOf};
+ghost use Rattle.rules.specs.Request.{tokenOf, workingBlobOf, recoveryBlobOf, blobFileNext, wantedOf};
 ghost use Rattle.rules.specs.Grant.{timeAnswers, tighter, meets, nullKey, admitsDirect, admitsToken, admitsKey, admitsBlob, admitsArchive, admitsUse, admitsWorking, admitsRecovery, admits};
 
 // The null module key: 01, then nineteen zero bytes.
@@ -110,7 +111,7 @@ fn admits_archive(act: &[u8], rec: &[u8]) -> bool
 // Whether an action admits a use of permission p: the bit is set. No number has a bit past the sixteenth.
 fn admits_use(p: u8, act: &[u8]) -> bool
     requires { ⌜ length (now act) ≡ recordBytes ⌝ }
-    ensures { λ r. ⌜ r ≡ admitsUse p (actionOf (now (act .entry))) ⌝ }
+    ensures { λ r. ⌜ ((file : Option FileRule) → r ≡ admitsUse p (actionOf (now (act .entry)) file)) ⌝ }
 {
     if act[0] != 3 {
         return false;
@@ -122,21 +123,21 @@ fn admits_use(p: u8, act: &[u8]) -> bool
     fields::bit_of(p as u16, bits)
 }
 
-// Whether an action admits a working blob.
-fn admits_working(km0: &[u8], rec: &[u8], act: &[u8]) -> bool
+// Whether an action admits a working blob, by the records that follow the request record and those that follow the action.
+fn admits_working(km0: &[u8], rec: &[u8], rest: &[u8], act: &[u8], after: &[u8]) -> bool
     requires { ⌜ (length (now act) ≡ recordBytes) × (length (now rec) ≡ recordBytes) ⌝ }
-    ensures { λ r. ⌜ r ≡ admitsWorking (now (km0 .entry)) (workingBlobOf (now (rec .entry))) (actionOf (now (act .entry))) ⌝ }
+    ensures { λ r. ⌜ r ≡ admitsWorking (now (km0 .entry)) (workingBlobOf (now (rec .entry))) (blobFileNext (records (now (rest .entry)))) (actionOf (now (act .entry)) (fileRuleNext (records (now (after .entry))))) ⌝ }
 {
     if act[0] != 4 {
         return false;
     }
-    admits_blob(km0, act, rec)
+    admits_blob(km0, act, rec) & storing::admits_place(rest, after)
 }
 
 // Whether an action admits a recovery blob.
-fn admits_recovery(rec: &[u8], act: &[u8]) -> bool
+fn admits_recovery(rec: &[u8], rest: &[u8], act: &[u8], after: &[u8]) -> bool
     requires { ⌜ (length (now act) ≡ recordBytes) × (length (now rec) ≡ recordBytes) ⌝ }
-    ensures { λ r. ⌜ r ≡ admitsRecovery (recoveryBlobOf (now (rec .entry))) (actionOf (now (act .entry))) ⌝ }
+    ensures { λ r. ⌜ r ≡ admitsRecovery (recoveryBlobOf (now (rec .entry))) (blobFileNext (records (now (rest .entry)))) (actionOf (now (act .entry)) (fileRuleNext (records (now (after .entry))))) ⌝ }
 {
     let kind = act[0];
     if kind == 3 {
@@ -145,28 +146,28 @@ fn admits_recovery(rec: &[u8], act: &[u8]) -> bool
     if kind == 4 {
         return false;
     }
-    admits_archive(act, rec)
+    admits_archive(act, rec) & storing::admits_place(rest, after)
 }
 
-// Whether an action admits what a request record asks for.
-fn action_admits(km0: &[u8], rec: &[u8], act: &[u8]) -> bool
+// Whether an action admits what a request record asks for. `rest` follows the request record, `after` the action.
+fn action_admits(km0: &[u8], rec: &[u8], rest: &[u8], act: &[u8], after: &[u8]) -> bool
     requires { ⌜ (length (now act) ≡ recordBytes) × (length (now rec) ≡ recordBytes) ⌝ }
-    ensures { λ r. ⌜ r ≡ admits (now (km0 .entry)) (wantedOf (now (rec .entry))) (actionOf (now (act .entry))) ⌝ }
+    ensures { λ r. ⌜ r ≡ admits (now (km0 .entry)) (wantedOf (now (rec .entry)) (blobFileNext (records (now (rest .entry))))) (actionOf (now (act .entry)) (fileRuleNext (records (now (after .entry))))) ⌝ }
 {
     let kind = rec[0];
     if kind == 6 {
         return admits_use(rec[4], act);
     }
     if kind == 7 {
-        return admits_working(km0, rec, act);
+        return admits_working(km0, rec, rest, act, after);
     }
-    admits_recovery(rec, act)
+    admits_recovery(rec, rest, act, after)
 }
 
-// Whether a group admits what a request record asks for, of the records that follow the group's first one.
-pub fn group_admits(km0: &[u8], rec: &[u8], body: &[u8]) -> bool
+// Whether a group admits what a request asks for, of the records that follow the group's first one.
+pub fn group_admits(km0: &[u8], rec: &[u8], rest: &[u8], body: &[u8]) -> bool
     requires { ⌜ length (now rec) ≡ recordBytes ⌝ }
-    ensures { λ r. ⌜ r ≡ any (admits (now (km0 .entry)) (wantedOf (now (rec .entry)))) (actionsOf (records (now (body .entry)))) ⌝ }
+    ensures { λ r. ⌜ r ≡ any (admits (now (km0 .entry)) (wantedOf (now (rec .entry)) (blobFileNext (records (now (rest .entry)))))) (actionsOf (records (now (body .entry)))) ⌝ }
 {
     let mut at = 0;
     while sizes::RECORD <= body.len() - at {
@@ -177,7 +178,17 @@ pub fn group_admits(km0: &[u8], rec: &[u8], body: &[u8]) -> bool
             at += sizes::RECORD;
             continue;
         }
-        if action_admits(km0, rec, &body[at..at + sizes::RECORD]) {
+        if body[at] == 15 {
+            at += sizes::RECORD;
+            continue;
+        }
+        if action_admits(
+            km0,
+            rec,
+            rest,
+            &body[at..at + sizes::RECORD],
+            &body[at + sizes::RECORD..],
+        ) {
             return true;
         }
         at += sizes::RECORD;

@@ -12,7 +12,7 @@ use lib.Pow.{pow-mono}
 use lib.Dec.{eqb}
 use Rattle.rules.specs.Basics.{if_then_else_, Bytes, any, same, bit, part, number, byte, kind, flag, optional, matchesNumber, records}
 use Rattle.rules.specs.Acl.{groupOf}
-use Rattle.rules.specs.Request.{wantedOf, Certificate, certificateOf, certificatesOf, Delegation, delegationOf, delegationsOf, Request, requestFrom, requestOf}
+use Rattle.rules.specs.Request.{BlobFile, blobFileNext, wantedOf, Certificate, certificateOf, certificatesOf, Delegation, delegationOf, delegationsOf, Request, requestFrom, requestOf}
 use Rattle.rules.specs.Chain.{serves, startsAt, holds, continues, chained, delegated, vouched}
 use Rattle.rules.specs.Grant.{certified}
 use Rattle.rules.proofs.Rows.{first, wanted-first, recordsFrom, rows-lent, rows-end, lentRecord, lent-record, kind-at}
@@ -100,16 +100,16 @@ module _ (p : Certificate → Bool) (s : Bytes) (at : ℕ) (x : Bool) (inv : any
   certs-none h = sym (ap (λ (l : List Bytes). any p (certificatesOf l)) (rows-end s at h)) ∙ inv
 
 -- what a request record asks for
-module _ (rec : Bytes) (k : Bytes) (m : Option ℕ) (cs : List Certificate) (ds : List Delegation) where
-  pub delegated-blob : (byte 0 rec ≡ 6 → ⊥) → false ≡ delegated (wantedOf rec) k m cs ds
+module _ (rec : Bytes) (file : Option BlobFile) (k : Bytes) (m : Option ℕ) (cs : List Certificate) (ds : List Delegation) where
+  pub delegated-blob : (byte 0 rec ≡ 6 → ⊥) → false ≡ delegated (wantedOf rec file) k m cs ds
   unfolding delegated wantedOf
   delegated-blob n = pick (eqb (kind rec) 7) refl
     where
-      pick : (b : Bool) → eqb (kind rec) 7 ≡ b → false ≡ delegated (wantedOf rec) k m cs ds
+      pick : (b : Bool) → eqb (kind rec) 7 ≡ b → false ≡ delegated (wantedOf rec file) k m cs ds
       pick true e = rw (ne-eqb (kind rec) 6 n, e)
       pick false e = rw (ne-eqb (kind rec) 6 n, e)
 
-  pub delegated-use : (r : Bool) → byte 0 rec ≡ 6 → r ≡ chained (byte 4 rec) k m cs ds → r ≡ delegated (wantedOf rec) k m cs ds
+  pub delegated-use : (r : Bool) → byte 0 rec ≡ 6 → r ≡ chained (byte 4 rec) k m cs ds → r ≡ delegated (wantedOf rec file) k m cs ds
   unfolding delegated wantedOf
   delegated-use r e p = p ∙ sym (rw (eq-eqb (kind rec) 6 e))
 
@@ -141,8 +141,8 @@ module _ (g : Bytes) (f : Bool) (d : f ≡ flag 0 g) where
     certifier-shown y = sym (rw (sym d ∙ not-false f e, ← presented-certificates s rest p h, sym t ∙ y))
 
     pub certifier-delegates : (x : Bool) → r ≡ false
-        → x ≡ delegated (wantedOf (take 64 s)) (part 4 20 g) (optional (flag 1 g) (number 24 2 g)) (certificatesOf (records rest)) (delegationsOf (records rest))
+        → x ≡ delegated (wantedOf (take 64 s) (blobFileNext (records rest))) (part 4 20 g) (optional (flag 1 g) (number 24 2 g)) (certificatesOf (records rest)) (delegationsOf (records rest))
         → x ≡ certified (requestOf s) (groupOf g [])
     unfolding vouched
     certifier-delegates x y z =
-        z ∙ sym (rw (sym d ∙ not-false f e, ← wanted-first s h, ← presented-certificates s rest p h, ← presented-delegations s rest p h, sym t ∙ y))
+        z ∙ sym (rw (sym d ∙ not-false f e, ← wanted-first s rest p h, ← presented-certificates s rest p h, ← presented-delegations s rest p h, sym t ∙ y))

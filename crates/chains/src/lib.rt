@@ -7,7 +7,7 @@ ghost use lib.ListN.{length};
 ghost use Rattle.rules.specs.Sizes.{recordBytes, hashBytes};
 ghost use Rattle.rules.specs.Basics.{if_then_else_, any, part, number, flag, optional, matchesNumber, records};
 ghost use Rattle.rules.specs.Acl.{groupOf};
-ghost use Rattle.rules.specs.Request.{wantedOf, certificateOf, certificatesOf, delegationOf, delegationsOf, requestOf};
+ghost use Rattle.rules.specs.Request.{blobFileNext, wantedOf, certificateOf, certificatesOf, delegationOf, delegationsOf, requestOf};
 ghost use Rattle.rules.specs.Chain.{serves, anyIn, leadsTo, leadsToPresented, startsAt, holds, continues, nextLevel, chained, delegated};
 ghost use Rattle.rules.specs.Grant.{certified};
 
@@ -196,7 +196,7 @@ fn has_chain(p: u8, group: &[u8], rest: &[u8]) -> bool
 // Whether a use is delegated; a blob request is not.
 fn is_delegated(rec: &[u8], group: &[u8], rest: &[u8]) -> bool
     requires { ⌜ (length (now rec) ≡ recordBytes) × ((length (now group) ≡ recordBytes) × (length (now rest) ≤ 4032)) ⌝ }
-    ensures { λ r. ⌜ r ≡ delegated (wantedOf (now (rec .entry))) (part 4 hashBytes (now (group .entry))) (optional (flag 1 (now (group .entry))) (number 24 2 (now (group .entry)))) (certificatesOf (records (now (rest .entry)))) (delegationsOf (records (now (rest .entry)))) ⌝ }
+    ensures { λ r. ⌜ r ≡ delegated (wantedOf (now (rec .entry)) (blobFileNext (records (now (rest .entry))))) (part 4 hashBytes (now (group .entry))) (optional (flag 1 (now (group .entry))) (number 24 2 (now (group .entry)))) (certificatesOf (records (now (rest .entry)))) (delegationsOf (records (now (rest .entry)))) ⌝ }
 {
     if rec[0] != 6 {
         return false;

@@ -73,7 +73,7 @@ fn main() {
         return;
     }
     let mut km0 = [0u8; sizes::RECORD];
-    let mut acl = [0u8; (sizes::ACL_RECORDS + 1) * sizes::RECORD];
+    let mut acl = [0u8; (sizes::DAY_ACL_RECORDS + 1) * sizes::RECORD];
     let mut requests = [0u8; (daybook::REQUESTS + 1) * sizes::RECORD];
     read_all(&mut km0, &mut acl, &mut requests);
 }

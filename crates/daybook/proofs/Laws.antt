@@ -5,9 +5,9 @@ use mathlib.Core.Bool.{Bool, true, false, not}
 use borrow.Author.Tests.{not-true, not-false}
 use Rattle.rules.specs.Numbers.{malformed}
 use Rattle.rules.specs.Basics.{Bytes}
-use Rattle.rules.specs.Request.{requestLaidOut, requestRecordFault}
+use Rattle.rules.specs.Request.{standsAlone, requestRecordFault}
 
-module _ (r : Bytes) (a : Bool) (e : a ≡ requestLaidOut r) where
+module _ (r : Bytes) (a : Bool) (e : a ≡ standsAlone r) where
   pub request-bad : not a ≡ true → requestRecordFault r ≡ some malformed
   unfolding requestRecordFault
   request-bad h = rw (sym e ∙ not-true a h)

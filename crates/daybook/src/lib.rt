@@ -15,7 +15,7 @@ fn lengths_fit(km0: &[u8], acl: &[u8], requests: &[u8]) -> bool
     ensures { λ r. ⌜ r ≡ dayLengthsFit (now (km0 .entry)) (now (acl .entry)) (now (requests .entry)) ⌝ }
 {
     (km0.len() == sizes::HASH)
-        & files::whole(sizes::ACL_RECORDS, acl)
+        & files::whole(sizes::DAY_ACL_RECORDS, acl)
         & files::whole(REQUESTS, requests)
 }
 
@@ -25,7 +25,7 @@ fn each_request(requests: &[u8]) -> Checked
 {
     let mut at = 0;
     while sizes::RECORD <= requests.len() - at {
-        if !request::request_record(&requests[at..at + sizes::RECORD]) {
+        if !request::stands_alone(&requests[at..at + sizes::RECORD]) {
             return Checked::Refused(Refusal::Malformed);
         }
         at += sizes::RECORD;

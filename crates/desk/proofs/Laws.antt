@@ -31,13 +31,13 @@ use Rattle.desk.specs.declared.Acceptance as code
 action-least : (a : Action) → 1 ≤ actionProtection a
 unfolding actionProtection
 action-least (permissions bits) = omega arith
-action-least (makeBlob r) = pick (r .kmOnly) (softParameters (r .ktparams))
+action-least (makeBlob r f) = pick (r .kmOnly) (softParameters (r .ktparams))
   where
     pick : (s t : Bool) → 1 ≤ (if s then 1 else if t then 2 else 3)
     pick true t = omega arith
     pick false true = omega arith
     pick false false = omega arith
-action-least (makeArchive a) = omega arith
+action-least (makeArchive a f) = omega arith
 
 smallest-least : (list : List Action) → 1 ≤ smallest list
 unfolding smallest

@@ -8,7 +8,8 @@ use lib.Bits.{bitAnd, and-step}
 use lib.Pow.{shr-shr}
 use lib.Dec.{eqb}
 use borrow.Author.Tests.{eqb-true, eq-eqb, ne-eqb}
-use Rattle.rules.specs.Basics.{implies, bit, within}
+use lib.Count.{ones, ones-step}
+use Rattle.rules.specs.Basics.{if_then_else_, implies, bit, bitCount, within}
 use Rattle.rules.proofs.Laws.{allBelow-at, allBelow-all, implied, implication, not-both}
 
 -- a bit of the half is the next bit of the whole
@@ -56,3 +57,33 @@ subset-and k a b h = pick (within k a b) refl
         ne-eqb (bitAnd a b) a
         (λ q. not-both (within k a b)
         (allBelow-all k (λ i. implies (bit i a) (bit i b)) (λ i d. implication (bit i a) (bit i b) (within-and i a b q))) e)
+
+-- How many bits are set: the lowest, and those of the half.
+lowest-bit : (n : ℕ) → (if eqb (n % 2) 1 then 1 else 0) ≡ n % 2
+lowest-bit n = pick (n % 2) (omega arith)
+  where
+    pick : (x : ℕ) → x < 2 → (if eqb x 1 then 1 else 0) ≡ x
+    pick zero h = refl
+    pick (suc x) h = let e : suc x ≡ 1 = omega arith in rw e
+
+count-low : (k n : ℕ) → bitCount (suc k) n ≡ n % 2 + bitCount k (n / 2)
+unfolding bitCount
+count-low zero n = rw (bit-low n) (ap (λ (x : ℕ). x + 0) (lowest-bit n))
+count-low (suc k) n =
+    ap (λ (x : ℕ). (if bit (suc k) n then 1 else 0) + x) (count-low k n)
+    ∙ rw (bit-half k n) (swap (if bit (suc k) n then 1 else 0) (n % 2) (bitCount k (n / 2)))
+  where
+    swap : (a b c : ℕ) → a + (b + c) ≡ b + (a + c)
+    swap a b c = omega arith
+
+-- .. as the machine counts them
+no-ones : ones 0 ≡ 0
+unfolding ones
+no-ones = refl
+
+pub count-ones : (k n : ℕ) → n < 2 ^ k → ones n ≡ bitCount k n
+unfolding bitCount
+count-ones zero n h = let e : n ≡ 0 = omega arith in rw e no-ones
+count-ones (suc k) n h =
+    let l : n / 2 < 2 ^ k = omega (arith, pow-suc 2 k) in
+    ones-step n ∙ ap (λ (x : ℕ). n % 2 + x) (count-ones k (n / 2) l) ∙ sym (count-low k n)

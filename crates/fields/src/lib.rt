@@ -3,7 +3,8 @@
 ghost use mathlib.Core.Path.{_≡_};
 ghost use Prim.Native.Nat.{_+_, _*_, _≤_, _<_};
 ghost use lib.ListN.{length};
-ghost use Rattle.rules.specs.Basics.{allZero, same, bit, within, part, number, blank, flag};
+ghost use lib.Dec.{eqb};
+ghost use Rattle.rules.specs.Basics.{allZero, same, bit, bitCount, within, part, number, blank, flag};
 ghost use Rattle.rules.specs.Layout.{tokenParametersAt};
 ghost use Rattle.fields.specs.Words.{Word};
 
@@ -193,6 +194,20 @@ pub fn subset16(a: u16, b: u16) -> bool
     ensures { λ r. ⌜ r ≡ within 16 a b ⌝ }
 {
     a & b == a
+}
+
+// .. of numbers of 32 bits.
+pub fn subset32(few: u32, many: u32) -> bool
+    ensures { λ r. ⌜ r ≡ within 32 few many ⌝ }
+{
+    few & many == few
+}
+
+// Whether exactly one bit of a number is set.
+pub fn one_bit(n: u32) -> bool
+    ensures { λ r. ⌜ r ≡ eqb (bitCount 32 n) 1 ⌝ }
+{
+    u32::count_ones(n) == 1
 }
 
 // Whether the eight bytes from off on are well-formed token parameters.

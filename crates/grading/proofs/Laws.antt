@@ -11,11 +11,11 @@ use lib.Dec.{T, eqb}
 use Rattle.rules.specs.Numbers.{notKept}
 use Rattle.rules.specs.Sizes.{hashBytes}
 use Rattle.rules.specs.Basics.{if_then_else_, Bytes, any, kind, flag, part, optional, bothSame, orNext, firstFault, records}
-use Rattle.rules.specs.Acl.{Action, actionOf, actionsOf, Group, groupOf, groupsOf}
+use Rattle.rules.specs.Acl.{FileRule, fileRuleNext, Action, actionOf, actionsOf, Group, groupOf, groupsOf}
 use Rattle.rules.specs.Bundle.{field, Policy, policyOf}
 use Rattle.rules.specs.Desk.{moduleKey, recoveryKey, failureUnder, officersGroup, aclFailure, smallest, isArchive, keyProtection, recoverableKey}
 use Rattle.rules.proofs.Rows.{recordsFrom, rows-at, rows-lent, rows-end, lentRecord, lent-record, kind-at}
-use Rattle.groups.proofs.Laws.{acts-group, acts-limit, acts-step, acts-end}
+use Rattle.groups.proofs.Laws.{acts-group, acts-limit, acts-file, acts-step, acts-end}
 use Rattle.grading.specs.Grades.{Graded, both, noActions, inOrder, actionGraded, actionsGraded, groupGraded, groupsGraded, aclGraded}
 
 -- The groups from a place on: a record that begins none is passed over.
@@ -123,13 +123,19 @@ module _ (officer : Option Bytes) (policy : Policy) (hkm hkre : Option Bytes) wh
   past-left s at true h n p = rw (acts-limit s at h n (eqb-true (getD s at 0) 2 p), groups-past s at h n)
   past-left s at false h n p = rw (groups-past s at h n)
 
-  action-left : (s : Bytes) (at : ℕ) (c : Bool) → 64 ≤ length s - at → (getD s at 0 ≡ 1 → ⊥) → (not c || eqb (getD s at 0) 2) ≡ false
-      → left c s at ≡ both (actionGraded policy hkm hkre (actionOf (lentRecord s at))) (left c s (at + 64))
+  file-left : (s : Bytes) (at : ℕ) (c : Bool) → 64 ≤ length s - at → (getD s at 0 ≡ 1 → ⊥) → (not c || eqb (getD s at 0) 2) ≡ false → getD s at 0 ≡ 15
+      → left c s (at + 64) ≡ left c s at
+  unfolding left
+  file-left s at true h n p e = rw (acts-file s at h n (eqb-false (getD s at 0) 2 p) e, groups-past s at h n)
+  file-left s at false h n p e = absurd (subst T p tt)
+
+  action-left : (s : Bytes) (at : ℕ) (c : Bool) → 64 ≤ length s - at → (getD s at 0 ≡ 1 → ⊥) → (not c || eqb (getD s at 0) 2) ≡ false → (getD s at 0 ≡ 15 → ⊥)
+      → left c s at ≡ both (actionGraded policy hkm hkre (actionOf (lentRecord s at) (fileRuleNext (recordsFrom s (at + 64))))) (left c s (at + 64))
   unfolding left actionsGraded inOrder
-  action-left s at true h n p =
-      rw (acts-step s at h n (eqb-false (getD s at 0) 2 p), groups-past s at h n)
-      (sym (both-assoc (actionGraded policy hkm hkre (actionOf (lentRecord s at))) (inOrder (actionGraded policy hkm hkre) (actionsOf (recordsFrom s (at + 64)))) (groupsGraded officer policy hkm hkre (groupsOf (recordsFrom s (at + 64))))))
-  action-left s at false h n p = absurd (subst T p tt)
+  action-left s at true h n p o =
+      rw (acts-step s at h n (eqb-false (getD s at 0) 2 p) o, groups-past s at h n)
+      (sym (both-assoc (actionGraded policy hkm hkre (actionOf (lentRecord s at) (fileRuleNext (recordsFrom s (at + 64))))) (inOrder (actionGraded policy hkm hkre) (actionsOf (recordsFrom s (at + 64)))) (groupsGraded officer policy hkm hkre (groupsOf (recordsFrom s (at + 64))))))
+  action-left s at false h n p o = absurd (subst T p tt)
 
   -- The turns of the loop: what was found, and what is left.
   module _ (s : Bytes) (at : ℕ) (checked : Bool) (found x : Graded) (inv : both found (left checked s at) ≡ x) where
@@ -147,11 +153,16 @@ module _ (officer : Option Bytes) (policy : Policy) (hkm hkre : Option Bytes) wh
     pub left-past : 64 ≤ length s - at → (getD s at 0 ≡ 1 → ⊥) → (not checked || eqb (getD s at 0) 2) ≡ true → both found (left checked s (at + 64)) ≡ x
     left-past h n t = ap (both found) (past-left s at checked h n t) ∙ inv
 
+    -- a record of kind 15
+    pub left-file : 64 ≤ length s - at → (getD s at 0 ≡ 1 → ⊥) → (not checked || eqb (getD s at 0) 2) ≡ false → getD s at 0 ≡ 15 → both found (left checked s (at + 64)) ≡ x
+    left-file h n t e = ap (both found) (file-left s at checked h n t e) ∙ inv
+
     -- an action that is checked
-    pub left-action : (one next : Graded) → 64 ≤ length s - at → (getD s at 0 ≡ 1 → ⊥) → (not checked || eqb (getD s at 0) 2) ≡ false
-        → one ≡ actionGraded policy hkm hkre (actionOf (lentRecord s at)) → next ≡ both found one → both next (left checked s (at + 64)) ≡ x
-    left-action one next h n t is e =
-        rw (e, is) (sym (both-assoc found (actionGraded policy hkm hkre (actionOf (lentRecord s at))) (left checked s (at + 64))) ∙ sym (ap (both found) (action-left s at checked h n t)) ∙ inv)
+    pub left-action : (one next : Graded) → 64 ≤ length s - at → (getD s at 0 ≡ 1 → ⊥) → (not checked || eqb (getD s at 0) 2) ≡ false → (getD s at 0 ≡ 15 → ⊥)
+        → ((file : Option FileRule) → one ≡ actionGraded policy hkm hkre (actionOf (lentRecord s at) file)) → next ≡ both found one → both next (left checked s (at + 64)) ≡ x
+    left-action one next h n t o is e =
+        let a = actionGraded policy hkm hkre (actionOf (lentRecord s at) (fileRuleNext (recordsFrom s (at + 64)))) in
+        rw (e, is (fileRuleNext (recordsFrom s (at + 64)))) (sym (both-assoc found a (left checked s (at + 64))) ∙ sym (ap (both found) (action-left s at checked h n t o)) ∙ inv)
 
     pub left-done : found .protection ≤ notKept → length s - at < 64 → found ≡ x
     left-done m h = sym (both-none found m) ∙ sym (ap (both found) (end-left s at checked h)) ∙ inv

@@ -1,10 +1,11 @@
 // An ACL at the desk: the first step that it fails, the key's protection, whether the key is recoverable. One walk through the ACL finds all three.
 ghost use mathlib.Core.Path.{_≡_};
+ghost use mathlib.Core.Option.{Option};
 ghost use Prim.Native.Nat.{min};
 ghost use lib.ListN.{length};
 ghost use Rattle.rules.specs.Sizes.{recordBytes};
 ghost use Rattle.rules.specs.Basics.{records};
-ghost use Rattle.rules.specs.Acl.{actionOf, aclOf};
+ghost use Rattle.rules.specs.Acl.{FileRule, actionOf, aclOf};
 ghost use Rattle.rules.specs.Bundle.{policyOf};
 ghost use Rattle.facts.specs.Found.{policyAs};
 ghost use Rattle.facts.specs.Places.{Found};
@@ -46,7 +47,7 @@ fn joined(a: Grade, b: Grade) -> Grade
 // What an action comes to, under a policy and the keys that are trusted; an empty part for one that is not.
 fn action_grade(policy: Policy, hkm: &[u8], hkre: &[u8], rec: &[u8]) -> Grade
     requires { ⌜ length (now rec) ≡ recordBytes ⌝ }
-    ensures { λ r. ⌜ gradedAs r ≡ actionGraded (policyAs policy) (given (now (hkm .entry))) (given (now (hkre .entry))) (actionOf (now (rec .entry))) ⌝ }
+    ensures { λ r. ⌜ ((file : Option FileRule) → gradedAs r ≡ actionGraded (policyAs policy) (given (now (hkm .entry))) (given (now (hkre .entry))) (actionOf (now (rec .entry)) file)) ⌝ }
 {
     Grade {
         failure: actions::action_steps(policy, hkm, hkre, rec),
@@ -84,6 +85,10 @@ fn groups_grade(officer: &[u8], policy: Policy, hkm: &[u8], hkre: &[u8], acl: &[
             continue;
         }
         if !checked | (acl[at] == 2) {
+            at += sizes::RECORD;
+            continue;
+        }
+        if acl[at] == 15 {
             at += sizes::RECORD;
             continue;
         }

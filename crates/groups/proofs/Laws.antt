@@ -4,15 +4,17 @@ use native.Mathlib.Omega.{arith}
 use native.Mathlib.Nat.{add-zero}
 use mathlib.Core.Path.{_≡_, refl, sym, _∙_, ap}
 use mathlib.Core.List.{List, [], _∷_}
+use mathlib.Core.Option.{some}
 use mathlib.Core.Bool.{Bool, true, false, not}
 use borrow.Author.Tests.{eq-eqb, ne-eqb, not-true, not-false}
 use lib.ListN.{length, take, drop, getD, length-drop, drop-of-length-le}
-use lib.Seq.{drop-nil, getD-drop, getD-take}
+use lib.Seq.{length-take-le, drop-nil, getD-drop, getD-take}
 use lib.Dec.{eqb}
 use Rattle.rules.specs.Basics.{Bytes, all, kind, records}
-use Rattle.rules.specs.Acl.{Limit, limitOf, limitsOf, actionOf, actionsOf, Group, groupOf, groupsOf}
-use Rattle.rules.proofs.Rows.{recordsFrom, rows-at, rows-end, rows-start, rows-rest, rows-lent, kind-at, lentRecord, lent-record, lentRest, lent-rest, no-rows}
-use Rattle.groups.specs.Parts.{actionPlace, groupPlace, NextAction, GroupAt, FromGroup, GroupBody}
+use Rattle.rules.specs.Acl.{Limit, limitOf, limitsOf, fileRuleOf, fileRuleNext, actionOf, actionsOf, Group, groupOf, groupsOf}
+use Rattle.rules.specs.Request.{blobFileOf, blobFileNext}
+use Rattle.rules.proofs.Rows.{recordsFrom, rows-at, rows-end, rows-start, rows-rest, rows-lent, kind-at, lentRecord, lent-record, lentRest, lent-rest, first, no-rows}
+use Rattle.groups.specs.Parts.{actionPlace, groupPlace, NextAction, GroupAt, FromGroup, GroupBody, fileIn, blobIn, filePart, FilePart}
 
 -- The actions from a place on, where a group begins and where a limit stands.
 pub acts-group : (s : Bytes) (i : ℕ) → 64 ≤ length s - i → getD s i 0 ≡ 1 → actionsOf (recordsFrom s i) ≡ []
@@ -22,6 +24,11 @@ acts-group s i h e = ap actionsOf (rows-at s i h) ∙ rw (kind-at s i, eq-eqb (g
 pub acts-limit : (s : Bytes) (i : ℕ) → 64 ≤ length s - i → (getD s i 0 ≡ 1 → ⊥) → getD s i 0 ≡ 2 → actionsOf (recordsFrom s i) ≡ actionsOf (recordsFrom s (i + 64))
 unfolding actionsOf
 acts-limit s i h n e = ap actionsOf (rows-at s i h) ∙ rw (kind-at s i, ne-eqb (getD s i 0) 1 n, eq-eqb (getD s i 0) 2 e)
+
+-- .. and where a record of kind 15 does
+pub acts-file : (s : Bytes) (i : ℕ) → 64 ≤ length s - i → (getD s i 0 ≡ 1 → ⊥) → (getD s i 0 ≡ 2 → ⊥) → getD s i 0 ≡ 15 → actionsOf (recordsFrom s i) ≡ actionsOf (recordsFrom s (i + 64))
+unfolding actionsOf
+acts-file s i h n m e = ap actionsOf (rows-at s i h) ∙ rw (kind-at s i, ne-eqb (getD s i 0) 1 n, ne-eqb (getD s i 0) 2 m, eq-eqb (getD s i 0) 15 e)
 
 -- A loop up to the next action.
 pub no-actions-left : (s : Bytes) → actionsOf (records (drop (length s) s)) ≡ []
@@ -42,10 +49,15 @@ module _ (s : Bytes) (i x : ℕ) (inv : actionPlace (recordsFrom s i) i (length 
   act-skip h n e =
       sym (ap (λ (z : List Bytes). actionPlace z i (length s)) (rows-at s i h) ∙ rw (kind-at s i, ne-eqb (getD s i 0) 1 n, eq-eqb (getD s i 0) 2 e)) ∙ inv
 
-  pub act-here : 64 ≤ length s - i → (getD s i 0 ≡ 1 → ⊥) → (getD s i 0 ≡ 2 → ⊥) → i ≡ x
+  pub act-pass : 64 ≤ length s - i → (getD s i 0 ≡ 1 → ⊥) → (getD s i 0 ≡ 2 → ⊥) → getD s i 0 ≡ 15 → actionPlace (recordsFrom s (i + 64)) (i + 64) (length s) ≡ x
   unfolding actionPlace
-  act-here h n m =
-      sym (ap (λ (z : List Bytes). actionPlace z i (length s)) (rows-at s i h) ∙ rw (kind-at s i, ne-eqb (getD s i 0) 1 n, ne-eqb (getD s i 0) 2 m)) ∙ inv
+  act-pass h n m e =
+      sym (ap (λ (z : List Bytes). actionPlace z i (length s)) (rows-at s i h) ∙ rw (kind-at s i, ne-eqb (getD s i 0) 1 n, ne-eqb (getD s i 0) 2 m, eq-eqb (getD s i 0) 15 e)) ∙ inv
+
+  pub act-here : 64 ≤ length s - i → (getD s i 0 ≡ 1 → ⊥) → (getD s i 0 ≡ 2 → ⊥) → (getD s i 0 ≡ 15 → ⊥) → i ≡ x
+  unfolding actionPlace
+  act-here h n m o =
+      sym (ap (λ (z : List Bytes). actionPlace z i (length s)) (rows-at s i h) ∙ rw (kind-at s i, ne-eqb (getD s i 0) 1 n, ne-eqb (getD s i 0) 2 m, ne-eqb (getD s i 0) 15 o)) ∙ inv
 
 module _ (s : Bytes) (at i : ℕ) (inv : actionsOf (recordsFrom s i) ≡ actionsOf (records (drop at s))) (k : at ≤ i) (l : i ≤ length s) where
   at-end : [] ≡ actionsOf (records (drop at s)) → length s ≡ actionPlace (records (drop at s)) at (length s) → NextAction s at (length s)
@@ -57,6 +69,7 @@ module _ (s : Bytes) (at i : ℕ) (inv : actionsOf (recordsFrom s i) ≡ actions
         inside = omega arith;
         no-group = λ h e. omega arith;
         no-limit = λ h e. omega arith;
+        no-file = λ h e. omega arith;
       }
 
   pub next-group : 64 ≤ length s - i → getD s i 0 ≡ 1 → length s ≡ actionPlace (records (drop at s)) at (length s) → NextAction s at (length s)
@@ -69,9 +82,13 @@ module _ (s : Bytes) (at i : ℕ) (inv : actionsOf (recordsFrom s i) ≡ actions
   pub next-skip : 64 ≤ length s - i → (getD s i 0 ≡ 1 → ⊥) → getD s i 0 ≡ 2 → actionsOf (recordsFrom s (i + 64)) ≡ actionsOf (records (drop at s))
   next-skip h n e = sym (acts-limit s i h n e) ∙ inv
 
-  pub next-here : (getD s i 0 ≡ 1 → ⊥) → (getD s i 0 ≡ 2 → ⊥) → i ≡ actionPlace (records (drop at s)) at (length s) → NextAction s at i
+  pub next-pass : 64 ≤ length s - i → (getD s i 0 ≡ 1 → ⊥) → (getD s i 0 ≡ 2 → ⊥) → getD s i 0 ≡ 15 → actionsOf (recordsFrom s (i + 64)) ≡ actionsOf (records (drop at s))
+  next-pass h n m e = sym (acts-file s i h n m e) ∙ inv
+
+  pub next-here : (getD s i 0 ≡ 1 → ⊥) → (getD s i 0 ≡ 2 → ⊥) → (getD s i 0 ≡ 15 → ⊥) → i ≡ actionPlace (records (drop at s)) at (length s) → NextAction s at i
   unfolding recordsFrom
-  next-here n m p = record { exact = p; same = inv; later = k; inside = l; no-group = λ h e. n e; no-limit = λ h e. m e }
+  next-here n m o p =
+      record { exact = p; same = inv; later = k; inside = l; no-group = λ h e. n e; no-limit = λ h e. m e; no-file = λ h e. o e }
 
 -- A loop up to a group.
 drop-more : {A : Type 0} (n : ℕ) (x : A) (xs : List A) → (n ≡ 0 → ⊥) → drop n (x ∷ xs) ≡ drop (n - 1) xs
@@ -154,11 +171,12 @@ module _ (acl : Bytes) (g : ℕ) (r : Bytes) (e : FromGroup acl g r) where
 
 -- What stands at a place of a group: an action, a limit, or the end of either.
 module _ (s : Bytes) (at : ℕ) where
-  pub acts-step : 64 ≤ length s - at → (getD s at 0 ≡ 1 → ⊥) → (getD s at 0 ≡ 2 → ⊥) → actionsOf (recordsFrom s at) ≡ actionOf (lentRecord s at) ∷ actionsOf (recordsFrom s (at + 64))
+  pub acts-step : 64 ≤ length s - at → (getD s at 0 ≡ 1 → ⊥) → (getD s at 0 ≡ 2 → ⊥) → (getD s at 0 ≡ 15 → ⊥)
+      → actionsOf (recordsFrom s at) ≡ actionOf (lentRecord s at) (fileRuleNext (recordsFrom s (at + 64))) ∷ actionsOf (recordsFrom s (at + 64))
   unfolding actionsOf
-  acts-step h n m =
+  acts-step h n m o =
       ap actionsOf (rows-lent s at h)
-      ∙ rw (lent-record s at, kind-at s at, ne-eqb (getD s at 0) 1 n, ne-eqb (getD s at 0) 2 m)
+      ∙ rw (lent-record s at, kind-at s at, ne-eqb (getD s at 0) 1 n, ne-eqb (getD s at 0) 2 m, ne-eqb (getD s at 0) 15 o)
 
   pub acts-end : length s - at < 64 → actionsOf (recordsFrom s at) ≡ []
   unfolding actionsOf
@@ -197,3 +215,45 @@ module _ (p : Limit → Bool) (s : Bytes) (at : ℕ) (x : Bool) (inv : all p (li
   pub all-done : length s - at < 64 → true ≡ x
   unfolding all
   all-done h = sym (ap (all p) (limits-end s at h)) ∙ inv
+
+-- The record of kind 15 that comes next, as a part.
+file-some : (r : Bytes) → 0 < length r → (fileIn r ≡ some (fileRuleOf r)) × (blobIn r ≡ some (blobFileOf r))
+file-some [] h = absurd (omega arith)
+file-some (b ∷ bs) h = (refl, refl)
+
+module _ (rest : Bytes) where
+  pub file-short : length rest < 64 → FilePart rest []
+  unfolding fileRuleNext blobFileNext filePart
+  file-short h =
+      let n : records rest ≡ [] = no-rows rest h in
+      record {
+        exact = sym (ap filePart n);
+        file = sym (ap fileRuleNext n);
+        blob = sym (ap blobFileNext n);
+        whole = λ z. absurd (z refl);
+      }
+
+  module _ (h : 64 ≤ length rest) where
+    pub file-other : (getD rest 0 0 ≡ 15 → ⊥) → FilePart rest []
+    unfolding fileRuleNext blobFileNext filePart
+    file-other n =
+        let k : eqb (kind (take 64 rest)) 15 ≡ false = ne-eqb (kind (take 64 rest)) 15 (λ e. n (sym (getD-take 64 rest 0 0 (omega arith)) ∙ e)) in
+        record {
+          exact = sym (ap filePart (first rest h) ∙ rw k);
+          file = sym (ap fileRuleNext (first rest h) ∙ rw k);
+          blob = sym (ap blobFileNext (first rest h) ∙ rw k);
+          whole = λ z. absurd (z refl);
+        }
+
+    pub file-found : getD rest 0 0 ≡ 15 → FilePart rest (take 64 rest)
+    unfolding fileRuleNext blobFileNext filePart
+    file-found e =
+        let k : eqb (kind (take 64 rest)) 15 ≡ true = eq-eqb (kind (take 64 rest)) 15 (getD-take 64 rest 0 0 (omega arith) ∙ e) in
+        let l : length (take 64 rest) ≡ 64 = length-take-le 64 rest h in
+        let b = file-some (take 64 rest) (omega (arith, l)) in
+        record {
+          exact = sym (ap filePart (first rest h) ∙ rw k);
+          file = b .0 ∙ sym (ap fileRuleNext (first rest h) ∙ rw k);
+          blob = b .1 ∙ sym (ap blobFileNext (first rest h) ∙ rw k);
+          whole = λ z. l;
+        }

@@ -2,16 +2,22 @@
 use Prim.Native.Nat.{ℕ, _+_, _-_, _≤_}
 use mathlib.Core.Path.{_≡_}
 use mathlib.Core.List.{List, [], _∷_}
+use mathlib.Core.Option.{Option, none, some}
 use lib.ListN.{length, getD, drop}
 use lib.Dec.{eqb}
 use Rattle.rules.specs.Sizes.{recordBytes}
 use Rattle.rules.specs.Basics.{if_then_else_, Bytes, kind, records}
-use Rattle.rules.specs.Acl.{Limit, limitsOf, actionsOf, Group, groupsOf}
+use Rattle.rules.specs.Acl.{Limit, limitsOf, FileRule, fileRuleOf, fileRuleNext, actionsOf, Group, groupsOf}
+use Rattle.rules.specs.Request.{BlobFile, blobFileOf, blobFileNext}
 
 -- Where the next action stands among a group's records, the first of which begins at the byte `at`; the file's end where the group has no more.
 unfoldable pub actionPlace : List Bytes → ℕ → ℕ → ℕ
 actionPlace [] at end = end
-actionPlace (r ∷ rs) at end = if eqb (kind r) 1 then end else if eqb (kind r) 2 then actionPlace rs (at + recordBytes) end else at
+actionPlace (r ∷ rs) at end =
+    if eqb (kind r) 1 then end
+    else if eqb (kind r) 2 then actionPlace rs (at + recordBytes) end
+    else if eqb (kind r) 15 then actionPlace rs (at + recordBytes) end
+    else at
 
 -- Where group g begins, of those among the records of which the first begins at the byte `at`; the file's end where there are fewer.
 unfoldable pub groupPlace : ℕ → List Bytes → ℕ → ℕ → ℕ
@@ -30,6 +36,7 @@ pub record NextAction (s : Bytes) (at r : ℕ) : Type 0 where
   pub inside : r ≤ length s
   pub no-group : recordBytes ≤ length s - r → getD s r 0 ≡ 1 → ⊥
   pub no-limit : recordBytes ≤ length s - r → getD s r 0 ≡ 2 → ⊥
+  pub no-file : recordBytes ≤ length s - r → getD s r 0 ≡ 15 → ⊥
 
 -- The place of group g, of those from `at` on: what is left from there are the groups without the first g, and a record that stands there begins one.
 pub record GroupAt (acl : Bytes) (at g r : ℕ) : Type 0 where
@@ -57,3 +64,25 @@ firstLimits (g ∷ gs) = g .limits
 pub record GroupBody (acl : Bytes) (g : ℕ) (r : Bytes) : Type 0 where
   pub exact : r ≡ drop recordBytes (fromGroup acl g)
   pub limits : limitsOf (records r) ≡ firstLimits (drop g (groupsOf (records acl)))
+
+-- a record of kind 15 as a part; none where the part is empty
+abbrev pub fileIn : Bytes → Option FileRule
+fileIn [] = none
+fileIn (b ∷ bs) = some (fileRuleOf (b ∷ bs))
+
+-- .. as a request has it
+abbrev pub blobIn : Bytes → Option BlobFile
+blobIn [] = none
+blobIn (b ∷ bs) = some (blobFileOf (b ∷ bs))
+
+-- the first record of a file if it is of kind 15, else nothing
+unfoldable pub filePart : List Bytes → Bytes
+filePart [] = []
+filePart (r ∷ rs) = if eqb (kind r) 15 then r else []
+
+-- .. as answered: it says what blobfile says of the action, or of the request, before it
+pub record FilePart (rest r : Bytes) : Type 0 where
+  pub exact : r ≡ filePart (records rest)
+  pub file : fileIn r ≡ fileRuleNext (records rest)
+  pub blob : blobIn r ≡ blobFileNext (records rest)
+  pub whole : (length r ≡ 0 → ⊥) → length r ≡ recordBytes

@@ -2,7 +2,7 @@
 // by whatever bytes stand there, and the file may or may not have been tested.
 ghost use Prim.Native.Nat.{_≤_};
 ghost use lib.ListN.{length};
-ghost use Rattle.groups.specs.Parts.{NextAction, GroupAt, FromGroup, GroupBody};
+ghost use Rattle.groups.specs.Parts.{NextAction, GroupAt, FromGroup, GroupBody, FilePart};
 
 // Where group g stands, of those from the byte `at` on; the end of the file where there are fewer. A search can so go on where one before it ended.
 pub fn group_at(acl: &[u8], at: usize, g: usize) -> usize
@@ -55,10 +55,27 @@ pub fn next_action(s: &[u8], at: usize) -> usize
         if s[i] == 1 {
             return s.len();
         }
-        if s[i] != 2 {
+        if s[i] == 2 {
+            i += sizes::RECORD;
+            continue;
+        }
+        if s[i] != 15 {
             return i;
         }
         i += sizes::RECORD;
     }
     s.len()
+}
+
+// The record of kind 15 that comes next, of the records that follow an action or a request record; empty where none does.
+pub fn file_part(rest: &[u8]) -> &[u8]
+    ensures { λ r. ⌜ FilePart (now (rest .entry)) (now r) ⌝ }
+{
+    if rest.len() < sizes::RECORD {
+        return &rest[0..0];
+    }
+    if rest[0] != 15 {
+        return &rest[0..0];
+    }
+    &rest[0..sizes::RECORD]
 }

@@ -107,7 +107,8 @@ fn group_standing(
     requires { ⌜ ((recordBytes ≤ length (now req)) × (length (now req) ≤ 4032)) × (length (now group) ≡ recordBytes) ⌝ }
     ensures { λ r. ⌜ r ≡ recordStanding (now (counters .entry)) own elapsed (now (km0 .entry)) (requestOf (now (req .entry))) (now (group .entry)) (records (now (body .entry))) ⌝ }
 {
-    if !admitting::group_admits(km0, &req[0..sizes::RECORD], body) {
+    let rest = request::presented(req);
+    if !admitting::group_admits(km0, &req[0..sizes::RECORD], rest, body) {
         return Standing::Silent;
     }
     if !chains::is_certified(group, req) {

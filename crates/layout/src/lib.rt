@@ -5,7 +5,7 @@ ghost use Prim.Native.Nat.{_+_, _≤_, _<_};
 ghost use lib.ListN.{length};
 ghost use Rattle.rules.specs.Sizes.{recordBytes};
 ghost use Rattle.rules.specs.Basics.{within};
-ghost use Rattle.rules.specs.Layout.{header, zeroUnless, mechanismAt, tokenParametersIf, certifierMechanism, counterOfSort, groupLaidOut, limitLaidOut, permissionsLaidOut, blobActionLaidOut, archiveActionLaidOut, useLaidOut, blobRequestLaidOut, recoveryLaidOut, certificateLaidOut, factLaidOut, signatureLaidOut, policyLaidOut, hintLaidOut, delegationLaidOut};
+ghost use Rattle.rules.specs.Layout.{header, zeroUnless, mechanismAt, tokenParametersIf, certifierMechanism, counterOfSort, groupLaidOut, limitLaidOut, permissionsLaidOut, blobActionLaidOut, archiveActionLaidOut, useLaidOut, blobRequestLaidOut, recoveryLaidOut, certificateLaidOut, factLaidOut, signatureLaidOut, policyLaidOut, hintLaidOut, delegationLaidOut, fileLaidOut, fileRequestLaidOut};
 
 // Flags of byte 3: none is set but those listed.
 fn low_flags(flags: u8, listed: u16) -> bool
@@ -126,7 +126,7 @@ pub fn blob_action(s: &[u8]) -> bool
     requires { ⌜ length (now s) ≡ recordBytes ⌝ }
     ensures { λ r. ⌜ r ≡ blobActionLaidOut (now (s .entry)) ⌝ }
 {
-    if !plain_header(63, s) {
+    if !plain_header(127, s) {
         return false;
     }
     if !zero_unless(2, 4, sizes::HASH, s) {
@@ -146,7 +146,7 @@ pub fn archive_action(s: &[u8]) -> bool
     requires { ⌜ length (now s) ≡ recordBytes ⌝ }
     ensures { λ r. ⌜ r ≡ archiveActionLaidOut (now (s .entry)) ⌝ }
 {
-    if !plain_header(1, s) {
+    if !plain_header(65, s) {
         return false;
     }
     if !zero_unless(0, 4, sizes::HASH, s) {
@@ -171,7 +171,7 @@ pub fn blob_request(s: &[u8]) -> bool
     requires { ⌜ length (now s) ≡ recordBytes ⌝ }
     ensures { λ r. ⌜ r ≡ blobRequestLaidOut (now (s .entry)) ⌝ }
 {
-    plain_header(1, s)
+    plain_header(65, s)
         & zero_unless(0, 24, sizes::HASH, s)
         & token_parameters_if(0, 44, s)
         & fields::zero_part(s, 52, 4)
@@ -182,7 +182,7 @@ pub fn recovery_request(s: &[u8]) -> bool
     requires { ⌜ length (now s) ≡ recordBytes ⌝ }
     ensures { λ r. ⌜ r ≡ recoveryLaidOut (now (s .entry)) ⌝ }
 {
-    plain_header(0, s) & mechanism_at(24, s) & fields::zero_part(s, 26, 30)
+    plain_header(64, s) & mechanism_at(24, s) & fields::zero_part(s, 26, 30)
 }
 
 // Kind 9, a presented certificate.
@@ -243,4 +243,29 @@ pub fn delegation(s: &[u8]) -> bool
     ensures { λ r. ⌜ r ≡ delegationLaidOut (now (s .entry)) ⌝ }
 {
     plain_header(0, s) & fields::zero_part(s, 46, 18)
+}
+
+// Kind 15, blobfile, in an ACL.
+pub fn file(s: &[u8]) -> bool
+    requires { ⌜ length (now s) ≡ recordBytes ⌝ }
+    ensures { λ r. ⌜ r ≡ fileLaidOut (now (s .entry)) ⌝ }
+{
+    if !plain_header(3, s) {
+        return false;
+    }
+    if !zero_unless(0, 4, 4, s) {
+        return false;
+    }
+    if !zero_unless(1, 8, sizes::HASH, s) {
+        return false;
+    }
+    fields::zero_part(s, 28, 36)
+}
+
+// .. in a request: exactly one device is stated.
+pub fn file_request(s: &[u8]) -> bool
+    requires { ⌜ length (now s) ≡ recordBytes ⌝ }
+    ensures { λ r. ⌜ r ≡ fileRequestLaidOut (now (s .entry)) ⌝ }
+{
+    file(s) & fields::flag_of(0, s) & fields::one_bit(fields::be32(s, 4))
 }

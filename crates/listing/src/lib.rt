@@ -16,8 +16,8 @@ use acl::Place;
 use files::Checked;
 use refusals::Refusal;
 
-// Bytes of the longest listing: of each group its line, four limits and eight actions (`listingMax`, crates/listings/specs/Words.antt).
-pub const LONGEST: usize = sizes::GROUPS * (73 + sizes::LIMITS * 34 + sizes::ACTIONS * 208);
+// Bytes of the longest listing: of each group its line, four limits and eight actions, each with a blob file (`listingMax`, crates/listings/specs/Words.antt).
+pub const LONGEST: usize = sizes::GROUPS * (73 + sizes::LIMITS * 34 + sizes::ACTIONS * (217 + 78));
 
 // What the entry points answer: the result's length, a refusal, or the number of the first bad line of a listing, from 1.
 pub enum Reply {
@@ -131,7 +131,8 @@ fn is_good(place: Place, rec: [u8; sizes::RECORD], line: &[u8]) -> bool
     place.in_place(&rec) & place.has_room(&rec) & place.is_keyed(&rec) & is_line(&rec, line)
 }
 
-// The first pass: each line is decoded once, judged, and its record gives the next place.
+// The first pass: each line is decoded once, judged, and its record gives the next place. Where the text ends and a blob file record is due, the next
+// line is the bad one.
 fn judge_lines(text: &[u8]) -> Lines
     ensures { λ r. ⌜ r ≡ linesFound (now (text .entry)) ⌝ }
 {
@@ -147,6 +148,9 @@ fn judge_lines(text: &[u8]) -> Lines
         place = place.after(&rec);
         at = end;
         line += 1;
+    }
+    if place.file_due {
+        return Lines::Bad(line);
     }
     Lines::Count(line - 1)
 }

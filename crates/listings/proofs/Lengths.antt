@@ -6,7 +6,7 @@ use native.Mathlib.Omega.{arith}
 use mathlib.Core.Path.{_≡_, refl}
 use mathlib.Core.List.{List, [], _∷_, _++_, map, flatten}
 use mathlib.Core.Option.{none}
-use mathlib.Core.Bool.{Bool, true, false, _&&_}
+use mathlib.Core.Bool.{Bool, true, false, _&&_, false≢true}
 use lib.ListN.{length, drop, length-append}
 use lib.Dec.{eqb, leb, ltb}
 use borrow.Author.Tests.{eqb-true, leb-true, ltb-true}
@@ -14,9 +14,10 @@ use Rattle.rules.specs.Sizes.{recordBytes, hashBytes, countersMax}
 use Rattle.rules.specs.Basics.{Bytes, Every, ascii, bit, part, number, byte, blank, kind, flag, scan, records}
 use Rattle.rules.specs.Layout.{tokenParametersAt, tokenParametersIf, counterUnder, counterOfSort, limitUnder, limitLaidOut, blobActionLaidOut}
 use Rattle.rules.specs.Day.{decimal}
-use Rattle.rules.specs.Acl.{AclPlace, aclStart, limitKey, limitInPlace, actionInPlace, actionLaidOut, inPlaceUnder, inPlace, afterRecord, aclRecordFault, aclEnd, aclFaultUnder, aclFileFault}
+use Rattle.rules.specs.Acl.{AclPlace, aclStart, limitKey, limitInPlace, actionInPlace, actionLaidOut, placedUnder, placedByKind, inPlace, afterRecord, aclRecordFault, aclEnd, aclFaultUnder, aclFileFault}
 use Rattle.rules.proofs.Laws.{and-left, and-right, and-both, orNext-first, orNext-next}
-use Rattle.listings.specs.Words.{space, hex, Word, bare, numbered, hashed, spaced, wordsText, groupWords, limitWords, permissionNames, permissionWords, blobWords, archiveWords, lineOf, listingOf, groupLineMax, limitLineMax, lineMax, listingMax}
+use Rattle.rules.proofs.Places.{placed, file-due}
+use Rattle.listings.specs.Words.{space, hex, Word, bare, numbered, hashed, spaced, wordsText, groupWords, limitWords, permissionNames, permissionWords, blobWords, archiveWords, fileWords, lineOf, listingOf, groupLineMax, limitLineMax, fileLineMax, lineMax, listingMax}
 use Rattle.listings.specs.Listing.{Octet, IsRecord}
 use Rattle.listings.proofs.Digits.{decimal-length, hex-length}
 use Rattle.listings.proofs.Words.{text-with, text-without}
@@ -56,6 +57,10 @@ permissions-length b [] n = end-length
 permissions-length b (x ∷ xs) n =
     let t = text-length (bare (bit b n) x) (permissionWords (b + 1) xs n) 0 (namesLength xs) (omega arith) (permissions-length (b + 1) xs n) in
     omega arith
+
+-- the length of the longest line of a record's kind
+abbrev lineWeight : Bytes → ℕ
+lineWeight r = weight groupLineMax limitLineMax lineMax fileLineMax r
 
 module _ (r : Bytes) (h : IsRecord r) where
   hash-text : (off : ℕ) → off + hashBytes ≤ recordBytes → length (space ∷ hex (part off hashBytes r)) ≤ 41
@@ -125,53 +130,76 @@ module _ (r : Bytes) (h : IsRecord r) where
       let p : tokenParametersIf 4 44 r ≡ true = search conj in
       let s = shares p in
       let ws : ℕ → List Word = λ i. drop i (blobWords r) in
-      let a9 = text-length (bare (flag 5 r) "AllowNullKmToken") [] 0 1 (omega arith) end-length in
-      let a8 = text-length (numbered (flag 4 r) "seconds" (number 48 4 r)) (ws 9) 11 18 (four-text 48 (omega arith)) a9 in
-      let a7 = text-length (numbered (flag 4 r) "total" (byte 47 r)) (ws 8) 3 37 (number-text 1 (byte 47 r) (s .1)) a8 in
-      let a6 = text-length (numbered (flag 4 r) "needed" (byte 46 r)) (ws 7) 3 46 (number-text 1 (byte 46 r) (s .0)) a7 in
-      let a5 = text-length (bare (bit 0 (number 44 2 r)) "AllowSoftSlots") (ws 6) 0 56 (omega arith) a6 in
-      let a4 = text-length (bare (flag 4 r) "ktparams") (ws 5) 0 71 (omega arith) a5 in
-      let a3 = text-length (hashed (flag 3 r) "kthash" (part 24 hashBytes r)) (ws 4) 41 80 (hash-text 24 (omega arith)) a4 in
-      let a2 = text-length (hashed (flag 2 r) "kmhash" (part 4 hashBytes r)) (ws 3) 41 128 (hash-text 4 (omega arith)) a3 in
-      let a1 = text-length (bare (flag 1 r) "AllowNonKm0") (ws 2) 0 176 (omega arith) a2 in
-      let a0 = text-length (bare (flag 0 r) "AllowKmOnly") (ws 1) 0 188 (omega arith) a1 in
+      let a10 = text-length (bare (flag 6 r) "blobfile") [] 0 1 (omega arith) end-length in
+      let a9 = text-length (bare (flag 5 r) "AllowNullKmToken") (ws 10) 0 10 (omega arith) a10 in
+      let a8 = text-length (numbered (flag 4 r) "seconds" (number 48 4 r)) (ws 9) 11 27 (four-text 48 (omega arith)) a9 in
+      let a7 = text-length (numbered (flag 4 r) "total" (byte 47 r)) (ws 8) 3 46 (number-text 1 (byte 47 r) (s .1)) a8 in
+      let a6 = text-length (numbered (flag 4 r) "needed" (byte 46 r)) (ws 7) 3 55 (number-text 1 (byte 46 r) (s .0)) a7 in
+      let a5 = text-length (bare (bit 0 (number 44 2 r)) "AllowSoftSlots") (ws 6) 0 65 (omega arith) a6 in
+      let a4 = text-length (bare (flag 4 r) "ktparams") (ws 5) 0 80 (omega arith) a5 in
+      let a3 = text-length (hashed (flag 3 r) "kthash" (part 24 hashBytes r)) (ws 4) 41 89 (hash-text 24 (omega arith)) a4 in
+      let a2 = text-length (hashed (flag 2 r) "kmhash" (part 4 hashBytes r)) (ws 3) 41 137 (hash-text 4 (omega arith)) a3 in
+      let a1 = text-length (bare (flag 1 r) "AllowNonKm0") (ws 2) 0 185 (omega arith) a2 in
+      let a0 = text-length (bare (flag 0 r) "AllowKmOnly") (ws 1) 0 197 (omega arith) a1 in
       omega arith
 
   archive-length : length (ascii "MakeArchiveBlob" ++ wordsText (archiveWords r)) ≤ lineMax
   unfolding ascii
   archive-length =
-      let m = text-length (numbered true "mechanism" (number 24 2 r)) [] 6 1 (two-text 24 (omega arith)) end-length in
-      let c = text-length (hashed (flag 0 r) "kahash" (part 4 hashBytes r)) (numbered true "mechanism" (number 24 2 r) ∷ []) 41 17 (hash-text 4 (omega arith)) m in
+      let ws : ℕ → List Word = λ i. drop i (archiveWords r) in
+      let a2 = text-length (bare (flag 6 r) "blobfile") [] 0 1 (omega arith) end-length in
+      let a1 = text-length (numbered true "mechanism" (number 24 2 r)) (ws 2) 6 10 (two-text 24 (omega arith)) a2 in
+      let a0 = text-length (hashed (flag 0 r) "kahash" (part 4 hashBytes r)) (ws 1) 41 26 (hash-text 4 (omega arith)) a1 in
+      omega arith
+
+  file-length : length (ascii "blobfile" ++ wordsText (fileWords r)) ≤ fileLineMax
+  unfolding ascii
+  file-length =
+      let m = text-length (hashed (flag 1 r) "template" (part 8 hashBytes r)) [] 41 1 (hash-text 8 (omega arith)) end-length in
+      let c = text-length (numbered (flag 0 r) "devices" (number 4 4 r)) (hashed (flag 1 r) "template" (part 8 hashBytes r) ∷ []) 11 51 (four-text 4 (omega arith)) m in
       omega arith
 
   -- A record that may stand in an ACL has a line no longer than its kind's longest.
-  line-length : (s : AclPlace) → inPlace s r ≡ true → length (lineOf r) ≤ weight groupLineMax limitLineMax lineMax r
-  unfolding inPlaceUnder actionLaidOut lineOf weight
-  line-length s e = pick (eqb (kind r) 1) refl (eqb (kind r) 2) refl (eqb (kind r) 3) refl (eqb (kind r) 4) refl
+  placed-length : (s : AclPlace) → placedByKind s r ≡ true → length (lineOf r) ≤ lineWeight r
+  unfolding placedUnder actionLaidOut lineOf weight
+  placed-length s e = pick (eqb (kind r) 1) refl (eqb (kind r) 2) refl (eqb (kind r) 3) refl (eqb (kind r) 4) refl (eqb (kind r) 5) refl
     where
-      pick : (a : Bool) → eqb (kind r) 1 ≡ a → (b : Bool) → eqb (kind r) 2 ≡ b → (c : Bool) → eqb (kind r) 3 ≡ c → (d : Bool) → eqb (kind r) 4 ≡ d → length (lineOf r) ≤ weight groupLineMax limitLineMax lineMax r
-      pick true p b q c u d v = rw p group-length
-      pick false p true q c u d v =
+      pick : (a : Bool) → eqb (kind r) 1 ≡ a → (b : Bool) → eqb (kind r) 2 ≡ b → (c : Bool) → eqb (kind r) 3 ≡ c → (d : Bool) → eqb (kind r) 4 ≡ d → (f : Bool) → eqb (kind r) 5 ≡ f → length (lineOf r) ≤ lineWeight r
+      pick true p b q c u d v f w = rw p group-length
+      pick false p true q c u d v f w =
           let l : (limitLaidOut r && limitInPlace s (limitKey r)) ≡ true = rw (p, q) at e in
           rw (p, q) (limit-length (search conj))
-      pick false p false q true u d v = rw (p, q, u) permission-length
-      pick false p false q false u true v =
+      pick false p false q true u d v f w = let k = eqb-true (kind r) 3 u in rw k permission-length
+      pick false p false q false u true v f w =
           let l : (blobActionLaidOut r && actionInPlace s) ≡ true = rw (p, q, u, v) at e in
-          rw (p, q, u, v) (blob-length (search conj))
-      pick false p false q false u false v = rw (p, q, u, v) archive-length
+          let k = eqb-true (kind r) 4 v in
+          rw k (blob-length (search conj))
+      pick false p false q false u false v true w = let k = eqb-true (kind r) 5 w in rw k archive-length
+      pick false p false q false u false v false w =
+          let l : (false && actionInPlace s) ≡ true = rw (p, q, u, v, w) at e in
+          absurd (false≢true l)
+
+  line-length : (s : AclPlace) → inPlace s r ≡ true → length (lineOf r) ≤ lineWeight r
+  unfolding lineOf weight
+  line-length s e = pick (s .fileDue) refl
+    where
+      pick : (b : Bool) → s .fileDue ≡ b → length (lineOf r) ≤ lineWeight r
+      pick true d = let k = file-due s r d e .0 in rw k file-length
+      pick false d = placed-length s (placed s r d e)
 
   -- The longest line.
   pub line-bound : (s : AclPlace) → aclRecordFault s r ≡ none → length (lineOf r) ≤ lineMax
   unfolding weight
-  line-bound s e = let l = line-length s (record-passed s r e .0) in pick (eqb (kind r) 1) refl (eqb (kind r) 2) refl l
+  line-bound s e = let l = line-length s (record-passed s r e .0) in pick (eqb (kind r) 1) refl (eqb (kind r) 2) refl (eqb (kind r) 15) refl l
     where
-      pick : (a : Bool) → eqb (kind r) 1 ≡ a → (b : Bool) → eqb (kind r) 2 ≡ b → length (lineOf r) ≤ weight groupLineMax limitLineMax lineMax r → length (lineOf r) ≤ lineMax
-      pick true p b q l = let k : length (lineOf r) ≤ groupLineMax = rw p at l in omega arith
-      pick false p true q l = let k : length (lineOf r) ≤ limitLineMax = rw (p, q) at l in omega arith
-      pick false p false q l = rw (p, q) at l
+      pick : (a : Bool) → eqb (kind r) 1 ≡ a → (b : Bool) → eqb (kind r) 2 ≡ b → (c : Bool) → eqb (kind r) 15 ≡ c → length (lineOf r) ≤ lineWeight r → length (lineOf r) ≤ lineMax
+      pick true p b q c w l = let k : length (lineOf r) ≤ groupLineMax = rw p at l in omega arith
+      pick false p true q c w l = let k : length (lineOf r) ≤ limitLineMax = rw (p, q) at l in omega arith
+      pick false p false q true w l = let k : length (lineOf r) ≤ fileLineMax = rw (p, q, w) at l in omega arith
+      pick false p false q false w l = rw (p, q, w) at l
 
 -- the lines of records without fault
-lines-length : (s : AclPlace) (rs : List Bytes) → Every IsRecord rs → scan aclRecordFault afterRecord aclEnd s rs ≡ none → length (flatten (map lineOf rs)) ≤ total (weight groupLineMax limitLineMax lineMax) rs
+lines-length : (s : AclPlace) (rs : List Bytes) → Every IsRecord rs → scan aclRecordFault afterRecord aclEnd s rs ≡ none → length (flatten (map lineOf rs)) ≤ total lineWeight rs
 unfolding scan total flatten
 lines-length s [] h e = omega arith
 lines-length s (r ∷ rs) h e =
@@ -186,5 +214,5 @@ unfolding listingOf aclFaultUnder
 listing-bound file o e =
     let w = whole-file file e in
     let l = lines-length aclStart (records file) (records-all file (w .0) o) (w .1) in
-    let t = acl-weight groupLineMax limitLineMax lineMax (records file) (w .1) in
+    let t = acl-weight groupLineMax limitLineMax lineMax fileLineMax (records file) (w .1) in
     omega arith

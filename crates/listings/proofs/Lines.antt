@@ -13,7 +13,7 @@ use Rattle.rules.specs.Sizes.{hashBytes}
 use Rattle.rules.specs.Basics.{if_then_else_, Bytes, Every, all, ascii, part, number, byte, kind}
 use Rattle.rules.specs.Day.{decimal}
 use Rattle.rules.proofs.Laws.{and-left, and-right, and-both}
-use Rattle.listings.specs.Words.{newline, space, hexDigit, hex, Word, spaced, wordsText, counted, groupWords, limitWords, permissionNames, permissionWords, blobWords, archiveWords, lineOf}
+use Rattle.listings.specs.Words.{newline, space, hexDigit, hex, Word, spaced, wordsText, counted, groupWords, limitWords, permissionNames, permissionWords, blobWords, archiveWords, fileWords, lineOf}
 use Rattle.listings.specs.Listing.{ontoFirst, linesOf, lineLength}
 use Rattle.listings.proofs.Digits.{below-or-not, Digit, decimal-every}
 use Rattle.listings.proofs.Words.{text-with, text-without}
@@ -169,5 +169,7 @@ line-of-one r =
     (either-line (eqb (kind r) 4) _ _
     (plain-then (ascii "MakeBlob") (wordsText (blobWords r)) refl
     (words-line (blobWords r)
-    ((refl, refl), ((refl, refl), ((refl, plain-hash (part 4 hashBytes r)), ((refl, plain-hash (part 24 hashBytes r)), ((refl, refl), ((refl, refl), ((refl, plain-number (byte 46 r)), ((refl, plain-number (byte 47 r)), ((refl, plain-number (number 48 4 r)), ((refl, refl), tt))))))))))))
-    (plain-then (ascii "MakeArchiveBlob") (wordsText (archiveWords r)) refl (words-line (archiveWords r) ((refl, plain-hash (part 4 hashBytes r)), ((refl, plain-number (number 24 2 r)), tt)))))))
+    ((refl, refl), ((refl, refl), ((refl, plain-hash (part 4 hashBytes r)), ((refl, plain-hash (part 24 hashBytes r)), ((refl, refl), ((refl, refl), ((refl, plain-number (byte 46 r)), ((refl, plain-number (byte 47 r)), ((refl, plain-number (number 48 4 r)), ((refl, refl), ((refl, refl), tt)))))))))))))
+    (either-line (eqb (kind r) 5) _ _
+    (plain-then (ascii "MakeArchiveBlob") (wordsText (archiveWords r)) refl (words-line (archiveWords r) ((refl, plain-hash (part 4 hashBytes r)), ((refl, plain-number (number 24 2 r)), ((refl, refl), tt)))))
+    (plain-then (ascii "blobfile") (wordsText (fileWords r)) refl (words-line (fileWords r) ((refl, plain-number (number 4 4 r)), ((refl, plain-hash (part 8 hashBytes r)), tt))))))))

@@ -10,12 +10,13 @@ use lib.ListN.{length, drop, replicate, length-append, length-replicate}
 use lib.Dec.{eqb, leb, ltb}
 use borrow.Author.Tests.{eqb-true, eqb-false, leb-true}
 use Rattle.rules.specs.Sizes.{recordBytes, hashBytes, countersMax}
-use Rattle.rules.specs.Basics.{if_then_else_, Bytes, Every, all, ascii, bit, part, number, byte, blank, kind, flag}
-use Rattle.rules.specs.Layout.{header, zeroUnless, mechanismAt, between, tokenParametersAt, tokenParametersIf, certifierMechanism, counterUnder, counterOfSort, groupLaidOut, limitUnder, limitLaidOut, permissionsLaidOut, blobActionLaidOut, archiveActionLaidOut}
-use Rattle.rules.specs.Acl.{AclPlace, limitKey, limitInPlace, actionInPlace, actionLaidOut, inPlaceUnder, inPlace}
-use Rattle.rules.proofs.Laws.{and-left, and-right, and-both}
-use Rattle.listings.specs.Words.{Word, spaced, numbered, hashed, wordsText, groupWords, counted, limitWords, permissionNames, permissionWords, blobWords, archiveWords, lineOf}
-use Rattle.listings.specs.Decoding.{stands, has, afterHash, afterNumber, hashAfter, bytesOf, ofBits, headed, groupFrom, sortOf, limitFrom, permissionsFrom, blobFrom, archiveFrom, begins, past, decoded}
+use Rattle.rules.specs.Basics.{if_then_else_, Bytes, implies, Every, all, ascii, bit, allBelow, within, part, number, byte, blank, kind, flag}
+use Rattle.rules.specs.Layout.{header, zeroUnless, mechanismAt, between, tokenParametersAt, tokenParametersIf, certifierMechanism, counterUnder, counterOfSort, groupLaidOut, limitUnder, limitLaidOut, permissionsLaidOut, blobActionLaidOut, archiveActionLaidOut, fileLaidOut}
+use Rattle.rules.specs.Acl.{AclPlace, limitKey, limitInPlace, actionInPlace, actionLaidOut, placedUnder, placedByKind, inPlace}
+use Rattle.rules.proofs.Laws.{and-left, and-right, and-both, not-both, implied, allBelow-at}
+use Rattle.rules.proofs.Places.{placed, file-due}
+use Rattle.listings.specs.Words.{Word, spaced, numbered, hashed, bare, wordsText, groupWords, counted, limitWords, permissionNames, permissionWords, blobWords, archiveWords, fileWords, lineOf}
+use Rattle.listings.specs.Decoding.{stands, has, afterHash, afterNumber, hashAfter, bytesOf, ofBits, headed, groupFrom, sortOf, limitFrom, permissionsFrom, blobFrom, archiveFrom, fileFrom, begins, past, decoded}
 use Rattle.listings.specs.Listing.{Octet, IsRecord}
 use Rattle.listings.proofs.Digits.{every-append, bytes-length, bytes-octets, unhex-length, unhex-octets}
 use Rattle.listings.proofs.Bits.{bits-of, within-below}
@@ -27,6 +28,17 @@ ruleset conj = (and-left, and-right, and-both)
 -- a test that a flag makes
 unless-flag : (b c d : Bool) → (if b then c else d) ≡ true → b ≡ false → d ≡ true
 unless-flag b c d e f = rw f at e
+
+-- "Unlisted .. flag bits .. are zero"
+unlisted : (listed i : ℕ) (r : Bytes) → header listed r ≡ true → i < 16 → bit i listed ≡ false → flag i r ≡ false
+unfolding header within
+unlisted listed i r e l off = pick (flag i r) refl
+  where
+    pick : (b : Bool) → flag i r ≡ b → flag i r ≡ false
+    pick false d = d
+    pick true d =
+        let w : allBelow 16 (λ j. implies (bit j (number 2 2 r)) (bit j listed)) ≡ true = search conj in
+        absurd (not-both (bit i listed) (implied (flag i r) (bit i listed) (allBelow-at 16 (λ j. implies (bit j (number 2 2 r)) (bit j listed)) i l w) d) off)
 
 -- what is read of a limit's line, by its sort
 limit-read : (sort : ℕ) → (sort ≡ 1) ⊎ (sort ≡ 2) ⊎ (sort ≡ 3) → (c m : ℕ) → c < 10 ^ 10 → m < 10 ^ 10 → (eqb sort 2 ≡ false → c ≡ 0) → limitFrom (wordsText (numbered (eqb sort 2) "counter" c ∷ numbered true (counted sort) m ∷ []))
@@ -113,25 +125,62 @@ module _ (r : Bytes) (h : IsRecord r) where
       )
       (cut-whole (4 ∷ 20 ∷ 2 ∷ 38 ∷ []) 0 r (omega arith))
 
+  -- flags 0 and 6
+  archive-head : kind r ≡ 5 → header 65 r ≡ true → headed 5 (flag 0 r ∷ false ∷ false ∷ false ∷ false ∷ false ∷ flag 6 r ∷ []) ≡ part 0 4 r
+  archive-head k d =
+      rw (
+        unlisted 65 1 r d (omega arith) refl,
+        unlisted 65 2 r d (omega arith) refl,
+        unlisted 65 3 r d (omega arith) refl,
+        unlisted 65 4 r d (omega arith) refl,
+        unlisted 65 5 r d (omega arith) refl,
+      )
+      at (header-part r h 5 65 7 9 k d (omega arith) refl)
+
   archive-back : kind r ≡ 5 → archiveActionLaidOut r ≡ true → archiveFrom (wordsText (archiveWords r)) ≡ r
   unfolding archiveFrom archiveActionLaidOut all ascii
   archive-back k e =
       let w = h .whole in
       let m = number 24 2 r in
-      let d : header 1 r ≡ true = search conj in
+      let d : header 65 r ≡ true = search conj in
       let c : zeroUnless 0 4 hashBytes r ≡ true = search conj in
       let z : blank 26 38 r ≡ true = search conj in
-      let later = numbered true "mechanism" m ∷ [] in
+      let last = bare (flag 6 r) "blobfile" ∷ [] in
+      let later = numbered true "mechanism" m ∷ last in
       rw (
         has-hashed "kahash" later refl (flag 0 r) (part 4 hashBytes r),
         hash-field "kahash" later refl (flag 0 r) 4 (omega arith) (λ q. zero-unless 0 4 hashBytes r c q),
         hash-past "kahash" later refl (flag 0 r) 4 (omega arith),
-        number-first "mechanism" [] refl true m (two-fits 24 (omega arith)) (λ q. absurd (false≢true (sym q))),
-        header-part r h 5 1 1 15 k d (omega arith) refl,
+        number-first "mechanism" last refl true m (two-fits 24 (omega arith)) (λ q. absurd (false≢true (sym q))),
+        after-number "mechanism" last refl true m (two-fits 24 (omega arith)),
+        has-bare "blobfile" [] refl (flag 6 r),
+        archive-head k d,
         number-part r h 24 2 (omega arith),
         ← (blank-part r h 26 38 (omega arith) z),
       )
       (cut-whole (4 ∷ 20 ∷ 2 ∷ 38 ∷ []) 0 r (omega arith))
+
+  file-back : kind r ≡ 15 → fileLaidOut r ≡ true → fileFrom (wordsText (fileWords r)) ≡ r
+  unfolding fileFrom fileLaidOut all ascii
+  file-back k e =
+      let w = h .whole in
+      let n = number 4 4 r in
+      let d : header 3 r ≡ true = search conj in
+      let c : zeroUnless 0 4 4 r ≡ true = search conj in
+      let t : zeroUnless 1 8 hashBytes r ≡ true = search conj in
+      let z : blank 28 36 r ≡ true = search conj in
+      let later = hashed (flag 1 r) "template" (part 8 hashBytes r) ∷ [] in
+      rw (
+        has-numbered "devices" later refl (flag 0 r) n,
+        number-first "devices" later refl (flag 0 r) n (four-fits 4 (omega arith)) (λ q. blank-number r h 4 4 (zero-unless 0 4 4 r c q)),
+        after-number "devices" later refl (flag 0 r) n (four-fits 4 (omega arith)),
+        has-hashed "template" [] refl (flag 1 r) (part 8 hashBytes r),
+        hash-field "template" [] refl (flag 1 r) 8 (omega arith) (λ q. zero-unless 1 8 hashBytes r t q),
+        header-part r h 15 3 2 14 k d (omega arith) refl,
+        number-part r h 4 4 (omega arith),
+        ← (blank-part r h 28 36 (omega arith) z),
+      )
+      (cut-whole (4 ∷ 4 ∷ 20 ∷ 36 ∷ []) 0 r (omega arith))
 
   permissions-back : kind r ≡ 3 → permissionsLaidOut r ≡ true → permissionsFrom (wordsText (permissionWords 0 permissionNames (number 4 2 r))) ≡ r
   unfolding permissionsFrom permissionsLaidOut all ascii
@@ -193,7 +242,7 @@ module _ (r : Bytes) (h : IsRecord r) where
   unfolding blobFrom blobActionLaidOut tokenParametersIf all ascii
   blob-back k e =
       let w = h .whole in
-      let d : header 63 r ≡ true = search conj in
+      let d : header 127 r ≡ true = search conj in
       let m : zeroUnless 2 4 hashBytes r ≡ true = search conj in
       let t : zeroUnless 3 24 hashBytes r ≡ true = search conj in
       let p : tokenParametersIf 4 44 r ≡ true = search conj in
@@ -221,8 +270,10 @@ module _ (r : Bytes) (h : IsRecord r) where
         after-number "total" (ws 8) refl (flag 4 r) (byte 47 r) (byte-small 47 (omega arith)),
         number-first "seconds" (ws 9) refl (flag 4 r) (number 48 4 r) (four-fits 48 (omega arith)) (λ q. blank-number r h 48 4 (blank-within 44 8 4 4 r (omega arith) (off q))),
         after-number "seconds" (ws 9) refl (flag 4 r) (number 48 4 r) (four-fits 48 (omega arith)),
-        has-bare "AllowNullKmToken" [] refl (flag 5 r),
-        header-part r h 4 63 6 10 k d (omega arith) refl,
+        has-bare "AllowNullKmToken" (ws 10) refl (flag 5 r),
+        after-bare "AllowNullKmToken" (ws 10) refl (flag 5 r),
+        has-bare "blobfile" [] refl (flag 6 r),
+        header-part r h 4 127 7 9 k d (omega arith) refl,
         bits-part r h 44 1 (omega arith) (soft-below p),
         byte-bytes r h 46 (omega arith),
         byte-bytes r h 47 (omega arith),
@@ -254,12 +305,16 @@ module _ (ws : List Word) where
 
   decoded-archive : decoded (ascii "MakeArchiveBlob" ++ wordsText ws) ≡ archiveFrom (wordsText ws)
   unfolding decoded ascii stands
-  decoded-archive = refl
+  decoded-archive = rw (begun "MakeArchiveBlob")
+
+  decoded-file : decoded (ascii "blobfile" ++ wordsText ws) ≡ fileFrom (wordsText ws)
+  unfolding decoded ascii stands
+  decoded-file = refl
 
 -- A record that may stand in an ACL, at whatever place, is read back from its line.
-pub decoded-line : (s : AclPlace) (r : Bytes) → IsRecord r → inPlace s r ≡ true → decoded (lineOf r) ≡ r
-unfolding inPlaceUnder actionLaidOut lineOf
-decoded-line s r h e = pick (eqb (kind r) 1) refl (eqb (kind r) 2) refl (eqb (kind r) 3) refl (eqb (kind r) 4) refl (eqb (kind r) 5) refl
+decoded-placed : (s : AclPlace) (r : Bytes) → IsRecord r → placedByKind s r ≡ true → decoded (lineOf r) ≡ r
+unfolding placedUnder actionLaidOut lineOf
+decoded-placed s r h e = pick (eqb (kind r) 1) refl (eqb (kind r) 2) refl (eqb (kind r) 3) refl (eqb (kind r) 4) refl (eqb (kind r) 5) refl
   where
     pick : (a : Bool) → eqb (kind r) 1 ≡ a → (b : Bool) → eqb (kind r) 2 ≡ b → (c : Bool) → eqb (kind r) 3 ≡ c → (d : Bool) → eqb (kind r) 4 ≡ d → (f : Bool) → eqb (kind r) 5 ≡ f → decoded (lineOf r) ≡ r
     pick true p b q c u d v f w = rw p (decoded-group (groupWords r) ∙ group-back r h (eqb-true (kind r) 1 p) (rw p at e))
@@ -274,10 +329,20 @@ decoded-line s r h e = pick (eqb (kind r) 1) refl (eqb (kind r) 2) refl (eqb (ki
         rw (p, q, u, v) (decoded-blob (blobWords r) ∙ blob-back r h (eqb-true (kind r) 4 v) (search conj))
     pick false p false q false u false v true w =
         let l : (archiveActionLaidOut r && actionInPlace s) ≡ true = rw (p, q, u, v, w) at e in
-        rw (p, q, u, v) (decoded-archive (archiveWords r) ∙ archive-back r h (eqb-true (kind r) 5 w) (search conj))
+        rw (p, q, u, v, w) (decoded-archive (archiveWords r) ∙ archive-back r h (eqb-true (kind r) 5 w) (search conj))
     pick false p false q false u false v false w =
         let l : (false && actionInPlace s) ≡ true = rw (p, q, u, v, w) at e in
         absurd (false≢true l)
+
+pub decoded-line : (s : AclPlace) (r : Bytes) → IsRecord r → inPlace s r ≡ true → decoded (lineOf r) ≡ r
+unfolding lineOf
+decoded-line s r h e = pick (s .fileDue) refl
+  where
+    pick : (b : Bool) → s .fileDue ≡ b → decoded (lineOf r) ≡ r
+    pick true d =
+        let f = file-due s r d e in
+        rw (f .0) (decoded-file (fileWords r) ∙ file-back r h (f .0) (f .1))
+    pick false d = decoded-placed s r h (placed s r d e)
 
 -- What a line tells is a record, whatever the line: each of its pieces has its length.
 record Sized (n : ℕ) (bs : Bytes) : Type 0 where
@@ -351,6 +416,11 @@ unfolding archiveFrom flatten
 archive-record t =
     is-record (archiveFrom t) (sized-headed 5 _ (omega arith) then sized-hash "kahash" t then sized-bytes 2 _ then sized-zeros 38 then sized-nil)
 
+file-record : (t : Bytes) → IsRecord (fileFrom t)
+unfolding fileFrom flatten
+file-record t =
+    is-record (fileFrom t) (sized-headed 15 _ (omega arith) then sized-bytes 4 _ then sized-hash "template" _ then sized-zeros 36 then sized-nil)
+
 either-record : (b : Bool) (x y : Bytes) → IsRecord x → IsRecord y → IsRecord (if b then x else y)
 either-record true x y p q = p
 either-record false x y p q = q
@@ -361,4 +431,5 @@ decoded-record line =
     either-record (begins "group" line) _ _ (group-record (past "group" line))
     (either-record (begins "limit" line) _ _ (limit-record (past "limit" line))
     (either-record (begins "OpPermissions" line) _ _ (permissions-record (past "OpPermissions" line))
-    (either-record (begins "MakeBlob" line) _ _ (blob-record (past "MakeBlob" line)) (archive-record (past "MakeArchiveBlob" line)))))
+    (either-record (begins "MakeBlob" line) _ _ (blob-record (past "MakeBlob" line))
+    (either-record (begins "MakeArchiveBlob" line) _ _ (archive-record (past "MakeArchiveBlob" line)) (file-record (past "blobfile" line))))))

@@ -1,19 +1,22 @@
--- How much an ACL can hold: "Raise groups to 64", "4 limits and 8 actions per group", for any weight of a group, a limit and an action.
+-- How much an ACL can hold: "Raise groups to 64", "4 limits and 8 actions per group", each action with a record of kind 15, for any
+-- weight of a group, a limit, an action and a record of kind 15.
 use Prim.Native.Nat.{ℕ, suc, _+_, _-_, _*_, _≤_, _<_}
 use native.Mathlib.Omega.{arith}
 use mathlib.Core.Path.{_≡_, refl}
 use mathlib.Core.List.{List, [], _∷_}
-use mathlib.Core.Option.{none}
-use mathlib.Core.Bool.{Bool, true, false, _&&_}
+use mathlib.Core.Option.{Option, none}
+use mathlib.Core.Bool.{Bool, true, false, _&&_, false≢true}
 use lib.ListN.{length, length-append}
 use lib.Dec.{eqb, ltb}
-use borrow.Author.Tests.{ltb-true, lt-ltb}
+use borrow.Author.Tests.{eqb-true, ltb-true, lt-ltb}
 use Rattle.rules.specs.Sizes.{groupsMax, limitsMax, actionsMax, aclRecords}
 use Rattle.rules.specs.Numbers.{malformed, tooMany}
 use Rattle.rules.specs.Basics.{if_then_else_, Bytes, kind, recordFault, scan}
 use Rattle.rules.specs.Layout.{limitLaidOut}
-use Rattle.rules.specs.Acl.{AclPlace, aclStart, limitKey, limitInPlace, actionInPlace, actionLaidOut, inPlaceUnder, inPlace, hasRoomUnder, hasRoom, afterRecord, recordFaultUnder, aclRecordFault, aclEnd, aclFaultUnder, aclFault}
+use Rattle.rules.specs.Acl.{AclPlace, aclStart, announcesFile, limitKey, limitInPlace, actionInPlace, actionLaidOut, placedUnder, inPlace, hasRoomUnder, hasRoom, afterRecord, recordFaultUnder, aclRecordFault, aclEnd, aclFaultUnder, aclFault}
 use Rattle.rules.proofs.Laws.{and-left, and-right, and-both, unless-passed, orNext-first, orNext-next, fault-none-every}
+use Rattle.listings.specs.Listing.{soFar}
+use Rattle.rules.proofs.Places.{placed, file-due}
 
 ruleset conj = (and-left, and-right, and-both)
 
@@ -29,79 +32,98 @@ unfoldable pub total : (Bytes → ℕ) → List Bytes → ℕ
 total f [] = 0
 total f (r ∷ rs) = f r + total f rs
 
-module _ (g l a : ℕ) where
+module _ (g l a f : ℕ) where
   -- what a record weighs, by its kind
   unfoldable pub weight : Bytes → ℕ
   weight r =
       if eqb (kind r) 1 then g
       else if eqb (kind r) 2 then l
+      else if eqb (kind r) 15 then f
       else a
 
   -- a group with all that it can have
   abbrev full : ℕ
-  full = g + limitsMax * l + actionsMax * a
+  full = g + limitsMax * l + actionsMax * (a + f)
 
   -- what the group that is being read, and the groups to come, can still have
   abbrev open-room : AclPlace → ℕ
-  open-room s = (limitsMax - length (s .limits)) * l + (actionsMax - s .actions) * a
+  open-room s = (limitsMax - length (s .limits)) * l + (actionsMax - s .actions) * (a + f)
 
   abbrev room : AclPlace → ℕ
-  room s = (groupsMax - s .groups) * full + (if ltb 0 (s .groups) then open-room s else 0)
+  room s = (groupsMax - s .groups) * full + (if ltb 0 (s .groups) then open-room s else 0) + (if s .fileDue then f else 0)
 
   one-less : (m n x : ℕ) → n < m → (m - n) * x ≡ x + (m - (n + 1)) * x
   one-less m n x h = let e : m - n ≡ suc (m - (n + 1)) = omega arith in rw e (omega arith)
 
   room-after : (s : AclPlace) (r : Bytes) → aclRecordFault s r ≡ none → weight r + room (afterRecord s r) ≤ room s
-  unfolding inPlaceUnder hasRoomUnder afterRecord weight limitInPlace
-  room-after s r e = pick (eqb (kind r) 1) refl (eqb (kind r) 2) refl
+  unfolding placedUnder actionLaidOut hasRoomUnder afterRecord weight limitInPlace
+  room-after s r e = pick (s .fileDue) refl (eqb (kind r) 1) refl (eqb (kind r) 2) refl (eqb (kind r) 15) refl
     where
-      pick : (b : Bool) → eqb (kind r) 1 ≡ b → (c : Bool) → eqb (kind r) 2 ≡ c → weight r + room (afterRecord s r) ≤ room s
-      pick true p c q =
+      due-most : (b : Bool) → (if b then f else 0) ≤ f
+      due-most true = omega arith
+      due-most false = omega arith
+
+      pick : (u : Bool) → s .fileDue ≡ u → (b : Bool) → eqb (kind r) 1 ≡ b → (c : Bool) → eqb (kind r) 2 ≡ c → (d : Bool) → eqb (kind r) 15 ≡ d → weight r + room (afterRecord s r) ≤ room s
+      pick true v b p c q d w =
+          let k = file-due s r v (record-passed s r e .0) .0 in
+          rw (k, v) (omega arith)
+      pick false v true p c q d w =
           let i : ltb (s .groups) groupsMax ≡ true = rw p at (record-passed s r e .1) in
           let m = one-less groupsMax (s .groups) full (ltb-true (s .groups) groupsMax i) in
           let t = lt-ltb 0 (s .groups + 1) (omega arith) in
           rw (p, t) (omega arith)
-      pick false p true q =
+      pick false v false p true q d w =
           let i : ltb (length (s .limits)) limitsMax ≡ true = rw (p, q) at (record-passed s r e .1) in
-          let j : (limitLaidOut r && limitInPlace s (limitKey r)) ≡ true = rw (p, q) at (record-passed s r e .0) in
+          let j : (limitLaidOut r && limitInPlace s (limitKey r)) ≡ true = rw (p, q) at (placed s r v (record-passed s r e .0)) in
           let t : ltb 0 (s .groups) ≡ true = search conj in
           let n = length-append (s .limits) (limitKey r ∷ []) in
           let m = one-less limitsMax (length (s .limits)) l (ltb-true (length (s .limits)) limitsMax i) in
           rw (p, q, t, n) (omega arith)
-      pick false p false q =
-          let i : ltb (s .actions) actionsMax ≡ true = rw (p, q) at (record-passed s r e .1) in
-          let j : (actionLaidOut r && actionInPlace s) ≡ true = rw (p, q) at (record-passed s r e .0) in
-          let t : ltb 0 (s .groups) ≡ true = search conj in
-          let m = one-less actionsMax (s .actions) a (ltb-true (s .actions) actionsMax i) in
-          rw (p, q, t) (omega arith)
+      pick false v false p false q true w =
+          let k = eqb-true (kind r) 15 w in
+          let j : (false && actionInPlace s) ≡ true = rw k at (placed s r v (record-passed s r e .0)) in
+          absurd (false≢true j)
+      pick false v false p false q false w =
+          let i : ltb (s .actions) actionsMax ≡ true = rw (p, q, w) at (record-passed s r e .1) in
+          let j : (actionLaidOut r && actionInPlace s) ≡ true = rw (p, q) at (placed s r v (record-passed s r e .0)) in
+          let t : ltb 0 (s .groups) ≡ true = and-right (actionLaidOut r) (actionInPlace s) j in
+          let m = one-less actionsMax (s .actions) (a + f) (ltb-true (s .actions) actionsMax i) in
+          let n = due-most (announcesFile r) in
+          rw (p, q, w, t) (omega arith)
 
-  total-room : (s : AclPlace) (rs : List Bytes) → scan aclRecordFault afterRecord aclEnd s rs ≡ none → total weight rs ≤ room s
+  -- .. however the end is judged
+  total-room : (end : AclPlace → Option ℕ) (s : AclPlace) (rs : List Bytes) → scan aclRecordFault afterRecord end s rs ≡ none → total weight rs ≤ room s
   unfolding scan total
-  total-room s [] e = omega arith
-  total-room s (r ∷ rs) e =
-      let f = room-after s r (orNext-first (aclRecordFault s r) (scan aclRecordFault afterRecord aclEnd (afterRecord s r) rs) e) in
-      let i = total-room (afterRecord s r) rs (orNext-next (aclRecordFault s r) (scan aclRecordFault afterRecord aclEnd (afterRecord s r) rs) e) in
+  total-room end s [] e = omega arith
+  total-room end s (r ∷ rs) e =
+      let f = room-after s r (orNext-first (aclRecordFault s r) (scan aclRecordFault afterRecord end (afterRecord s r) rs) e) in
+      let i = total-room end (afterRecord s r) rs (orNext-next (aclRecordFault s r) (scan aclRecordFault afterRecord end (afterRecord s r) rs) e) in
       omega arith
 
   -- The records of an ACL without fault weigh no more than 64 full groups.
   pub acl-weight : (rs : List Bytes) → aclFault rs ≡ none → total weight rs ≤ groupsMax * full
   unfolding aclFaultUnder
-  acl-weight rs e = let t = total-room aclStart rs e in omega arith
+  acl-weight rs e = let t = total-room aclEnd aclStart rs e in omega arith
 
-weight-one : (r : Bytes) → weight 1 1 1 r ≡ 1
+weight-one : (r : Bytes) → weight 1 1 1 1 r ≡ 1
 unfolding weight
-weight-one r = pick (eqb (kind r) 1) refl (eqb (kind r) 2) refl
+weight-one r = pick (eqb (kind r) 1) refl (eqb (kind r) 2) refl (eqb (kind r) 15) refl
   where
-    pick : (b : Bool) → eqb (kind r) 1 ≡ b → (c : Bool) → eqb (kind r) 2 ≡ c → weight 1 1 1 r ≡ 1
-    pick true p c q = rw p
-    pick false p true q = rw (p, q)
-    pick false p false q = rw (p, q)
+    pick : (b : Bool) → eqb (kind r) 1 ≡ b → (c : Bool) → eqb (kind r) 2 ≡ c → (d : Bool) → eqb (kind r) 15 ≡ d → weight 1 1 1 1 r ≡ 1
+    pick true p c q d w = rw p
+    pick false p true q d w = rw (p, q)
+    pick false p false q true w = rw (p, q, w)
+    pick false p false q false w = rw (p, q, w)
 
-total-one : (rs : List Bytes) → total (weight 1 1 1) rs ≡ length rs
+total-one : (rs : List Bytes) → total (weight 1 1 1 1) rs ≡ length rs
 unfolding total
 total-one [] = refl
 total-one (r ∷ rs) = let i = total-one rs in rw (weight-one r) (omega arith)
 
--- "the longest ACL is 53,248 bytes": an ACL's records without fault are never too many for a file.
+-- "An ACL may then reach 86,016 bytes": an ACL's records without fault are never too many for a file.
 pub acl-few : (rs : List Bytes) → aclFault rs ≡ none → length rs ≤ aclRecords
-acl-few rs e = let t = acl-weight 1 1 1 rs e in let c = total-one rs in omega arith
+acl-few rs e = let t = acl-weight 1 1 1 1 rs e in let c = total-one rs in omega arith
+
+-- .. nor are records that are an ACL so far.
+pub so-far-few : (rs : List Bytes) → soFar rs ≡ none → length rs ≤ aclRecords
+so-far-few rs e = let t = total-room 1 1 1 1 (λ s. none) aclStart rs e in let c = total-one rs in omega arith

@@ -117,7 +117,7 @@ namesFrom (name ∷ names) t = has name t ∷ namesFrom names (afterWord name t)
 unfoldable pub permissionsFrom : Bytes → Bytes
 permissionsFrom t = flatten (headed 3 [] ∷ bytesOf 2 (ofBits (namesFrom permissionNames t)) ∷ replicate 58 0 ∷ [])
 
--- MakeBlob: six flags, two hashes, the token parameters
+-- MakeBlob: seven flags, two hashes, the token parameters
 unfoldable pub blobFrom : Bytes → Bytes
 blobFrom t =
     let nonKm0 = afterWord "AllowKmOnly" t in
@@ -129,9 +129,10 @@ blobFrom t =
     let total = afterNumber "needed" needed in
     let seconds = afterNumber "total" total in
     let nullToken = afterNumber "seconds" seconds in
+    let blobfile = afterWord "AllowNullKmToken" nullToken in
     flatten
     (headed 4
-    (has "AllowKmOnly" t ∷ has "AllowNonKm0" nonKm0 ∷ has "kmhash" kmhash ∷ has "kthash" kthash ∷ has "ktparams" ktparams ∷ has "AllowNullKmToken" nullToken ∷ [])
+    (has "AllowKmOnly" t ∷ has "AllowNonKm0" nonKm0 ∷ has "kmhash" kmhash ∷ has "kthash" kthash ∷ has "ktparams" ktparams ∷ has "AllowNullKmToken" nullToken ∷ has "blobfile" blobfile ∷ [])
     ∷ hashAfter "kmhash" kmhash
     ∷ hashAfter "kthash" kthash
     ∷ bytesOf 2 (ofBits (has "AllowSoftSlots" soft ∷ []))
@@ -141,11 +142,28 @@ blobFrom t =
     ∷ replicate 12 0
     ∷ [])
 
--- MakeArchiveBlob: the key's hash and the mechanism
+-- MakeArchiveBlob: flags 0 and 6, the key's hash and the mechanism
 unfoldable pub archiveFrom : Bytes → Bytes
 archiveFrom t =
     let u = afterHash "kahash" t in
-    flatten (headed 5 (has "kahash" t ∷ []) ∷ hashAfter "kahash" t ∷ bytesOf 2 (numberAfter "mechanism" u) ∷ replicate 38 0 ∷ [])
+    let v = afterNumber "mechanism" u in
+    flatten
+    (headed 5 (has "kahash" t ∷ false ∷ false ∷ false ∷ false ∷ false ∷ has "blobfile" v ∷ [])
+    ∷ hashAfter "kahash" t
+    ∷ bytesOf 2 (numberAfter "mechanism" u)
+    ∷ replicate 38 0
+    ∷ [])
+
+-- blobfile: the device mask and the template's hash
+unfoldable pub fileFrom : Bytes → Bytes
+fileFrom t =
+    let u = afterNumber "devices" t in
+    flatten
+    (headed 15 (has "devices" t ∷ has "template" u ∷ [])
+    ∷ bytesOf 4 (numberAfter "devices" t)
+    ∷ hashAfter "template" u
+    ∷ replicate 36 0
+    ∷ [])
 
 -- a line's first word
 abbrev pub begins : String → Bytes → Bool
@@ -162,4 +180,5 @@ decoded line =
     else if begins "limit" line then limitFrom (past "limit" line)
     else if begins "OpPermissions" line then permissionsFrom (past "OpPermissions" line)
     else if begins "MakeBlob" line then blobFrom (past "MakeBlob" line)
-    else archiveFrom (past "MakeArchiveBlob" line)
+    else if begins "MakeArchiveBlob" line then archiveFrom (past "MakeArchiveBlob" line)
+    else fileFrom (past "blobfile" line)

@@ -1,4 +1,4 @@
--- A listing: the lines of a text, which of them are bad, what is read and written, and the two entry points. Document 02, request b.
+-- A listing: the lines of a text, which of them are bad, what is read and written, and the two entry points. Document 02, requests b and i.
 use Prim.Native.Nat.{ℕ, suc, _+_, _<_}
 use mathlib.Core.Path.{_≡_}
 use mathlib.Core.List.{List, [], _∷_, _++_, map, flatten}
@@ -7,7 +7,7 @@ use mathlib.Core.Bool.{Bool, true, false, not, _&&_}
 use lib.ListN.{length}
 use lib.Dec.{eqb, leb}
 use Rattle.rules.specs.Sizes.{recordBytes}
-use Rattle.rules.specs.Numbers.{shortBuffer, notListing}
+use Rattle.rules.specs.Numbers.{malformed, shortBuffer, notListing}
 use Rattle.rules.specs.Basics.{if_then_else_, Bytes, Every, same, present, unless, firstFault, scan}
 use Rattle.rules.specs.Acl.{AclPlace, aclStart, afterRecord, aclRecordFault, aclEnd, aclFault, aclFileFault}
 use Rattle.rules.specs.Subject.{writtenOver}
@@ -54,7 +54,7 @@ lineFault s line = unless (goodLine (s .place) line) (s .line)
 unfoldable pub afterLine : ListingPlace → Bytes → ListingPlace
 afterLine s line = record { place = afterRecord (s .place) (decoded line); line = s .line + 1 }
 
--- an end where an ACL may not end is counted as a bad line after the last
+-- "An end where kind 15 is due gives .. in a listing, 15 and the next line's number."
 unfoldable pub listingEnd : ListingPlace → Option ℕ
 listingEnd s = unless (not (present (aclEnd (s .place)))) (s .line)
 
@@ -132,14 +132,22 @@ pub record IsRecord (r : Bytes) : Type 0 where
   pub whole : length r ≡ recordBytes
   pub octets : Every Octet r
 
+-- the first fault of records as far as they go: an ACL may go on after them
+abbrev pub soFar : List Bytes → Option ℕ
+soFar rs = scan aclRecordFault afterRecord (λ s. none) aclStart rs
+
+-- The lines that follow those of records that are an ACL so far begin with a bad one: it is the line of no record with which they still are one. Where
+-- no line follows, the end is bad: a record of kind 15 is due.
+abbrev pub BadAfter : List Bytes → List Bytes → Type 0
+BadAfter before [] = aclFault before ≡ some malformed
+BadAfter before (line ∷ later) = (r : Bytes) → IsRecord r → soFar (before ++ r ∷ []) ≡ none → lineOf r ≡ line → ⊥
+
 -- "A line that is not the written form of a record valid there gives .. the first such line's number, from 1": line n of a text is the first bad one.
--- The lines before it are those of records that are an ACL so far; this line is that of no record with which they still are one.
 pub record FirstBad (text : Bytes) (n : ℕ) : Type 0 where
   pub before : List Bytes
-  pub line : Bytes
   pub later : List Bytes
-  pub lines : linesOf text ≡ map lineOf before ++ line ∷ later
+  pub lines : linesOf text ≡ map lineOf before ++ later
   pub count : n ≡ length before + 1
   pub records : Every IsRecord before
-  pub valid : aclFault before ≡ none
-  pub bad : (r : Bytes) → IsRecord r → aclFault (before ++ r ∷ []) ≡ none → lineOf r ≡ line → ⊥
+  pub valid : soFar before ≡ none
+  pub bad : BadAfter before later

@@ -1,4 +1,4 @@
--- The line of a record: document 02, request b, "one line per record, each ended by one byte 10, fields in a fixed order, numbers in decimal,
+-- The line of a record: document 02, requests b and i, "one line per record, each ended by one byte 10, fields in a fixed order, numbers in decimal,
 -- permissions by name and hashes as 40 lower-case digits". The words and their order are those of docs/LISTING.md.
 use Prim.Native.Nat.{ℕ, _+_, _*_, _/_, _%_}
 use Prim.Native.String.{String}
@@ -82,6 +82,7 @@ permissionWords b [] n = []
 permissionWords b (name ∷ names) n = bare (bit b n) name ∷ permissionWords (b + 1) names n
 
 -- MakeBlob [AllowKmOnly] [AllowNonKm0] [kmhash HASH] [kthash HASH] [ktparams [AllowSoftSlots] needed N total N seconds N] [AllowNullKmToken]
+-- [blobfile]
 abbrev pub blobWords : Bytes → List Word
 blobWords r =
     bare (flag 0 r) "AllowKmOnly"
@@ -94,11 +95,20 @@ blobWords r =
     ∷ numbered (flag 4 r) "total" (byte 47 r)
     ∷ numbered (flag 4 r) "seconds" (number 48 4 r)
     ∷ bare (flag 5 r) "AllowNullKmToken"
+    ∷ bare (flag 6 r) "blobfile"
     ∷ []
 
--- MakeArchiveBlob [kahash HASH] mechanism N
+-- MakeArchiveBlob [kahash HASH] mechanism N [blobfile]
 abbrev pub archiveWords : Bytes → List Word
-archiveWords r = hashed (flag 0 r) "kahash" (part 4 hashBytes r) ∷ numbered true "mechanism" (number 24 2 r) ∷ []
+archiveWords r =
+    hashed (flag 0 r) "kahash" (part 4 hashBytes r)
+    ∷ numbered true "mechanism" (number 24 2 r)
+    ∷ bare (flag 6 r) "blobfile"
+    ∷ []
+
+-- "The listing gains a line for kind 15.": blobfile [devices N] [template HASH]
+abbrev pub fileWords : Bytes → List Word
+fileWords r = numbered (flag 0 r) "devices" (number 4 4 r) ∷ hashed (flag 1 r) "template" (part 8 hashBytes r) ∷ []
 
 -- A record's line, by its kind. These are meant for the records of an ACL: a kind that is none of theirs is written as the last.
 unfoldable pub lineOf : Bytes → Bytes
@@ -107,21 +117,25 @@ lineOf r =
     else if eqb (kind r) 2 then ascii "limit" ++ wordsText (limitWords r)
     else if eqb (kind r) 3 then ascii "OpPermissions" ++ wordsText (permissionWords 0 permissionNames (number 4 2 r))
     else if eqb (kind r) 4 then ascii "MakeBlob" ++ wordsText (blobWords r)
-    else ascii "MakeArchiveBlob" ++ wordsText (archiveWords r)
+    else if eqb (kind r) 5 then ascii "MakeArchiveBlob" ++ wordsText (archiveWords r)
+    else ascii "blobfile" ++ wordsText (fileWords r)
 
 -- "a text form of an ACL, one line per record"
 unfoldable pub listingOf : Bytes → Bytes
 listingOf file = flatten (map lineOf (records file))
 
--- The longest lines of a group, a limit and an action, and the longest listing of an ACL, in bytes.
+-- The longest lines of a group, a limit, a record of kind 15 and an action, and the longest listing of an ACL, in bytes.
 abbrev pub groupLineMax : ℕ
 groupLineMax = 73
 
 abbrev pub limitLineMax : ℕ
 limitLineMax = 34
 
+abbrev pub fileLineMax : ℕ
+fileLineMax = 78
+
 abbrev pub lineMax : ℕ
-lineMax = 208
+lineMax = 217
 
 abbrev pub listingMax : ℕ
-listingMax = groupsMax * (groupLineMax + limitsMax * limitLineMax + actionsMax * lineMax)
+listingMax = groupsMax * (groupLineMax + limitsMax * limitLineMax + actionsMax * (lineMax + fileLineMax))

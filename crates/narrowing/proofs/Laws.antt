@@ -8,16 +8,16 @@ use mathlib.Core.Option.{Option, some}
 use mathlib.Core.Bool.{Bool, true, false, not, _&&_}
 use borrow.Author.Tests.{not-true, not-false}
 use lib.ListN.{length, take, drop, getD, getElem?, length-drop, drop-of-length-le}
-use lib.Seq.{drop-cons, length-take-le, take-all}
+use lib.Seq.{drop-cons, drop-drop, take-all}
 use lib.Dec.{eqb}
 use Rattle.rules.specs.Basics.{Bytes, any, all, allZero, same, within, part, number, kind, flag, optional, records}
-use Rattle.rules.specs.Acl.{blobRuleOf, archiveRuleOf, Action, permissions, makeBlob, makeArchive, actionOf, actionsOf, Limit, limitOf, limitsOf}
-use Rattle.rules.specs.Narrow.{keptBy, kept, keptNumber, blobNoWider, archiveNoWider, noWider, noWiderThan, actionsNoWider, isAnswered}
-use Rattle.rules.proofs.Rows.{recordsFrom, rows-rest, lentRecord, lent-record, lentRest}
+use Rattle.rules.specs.Acl.{blobRuleOf, archiveRuleOf, FileRule, fileRuleNext, Action, permissions, makeBlob, makeArchive, actionOf, actionsOf, Limit, limitOf, limitsOf}
+use Rattle.rules.specs.Narrow.{keptBy, kept, keptNumber, blobNoWider, archiveNoWider, fileNoWider, noWider, noWiderThan, actionsNoWider, isAnswered}
+use Rattle.rules.proofs.Rows.{recordsFrom, rows-rest, lentRecord, lent-record, lentRest, lent-rest}
 use Rattle.fields.proofs.Laws.{lent}
 use Rattle.groups.specs.Parts.{NextAction}
-use Rattle.groups.proofs.Laws.{acts-step, acts-end, acts-group, acts-limit, limits-step, limits-stop, limits-end}
-use Rattle.narrowing.specs.Groups.{actionKind, actionIn, certifierKept, recordsNarrow}
+use Rattle.groups.proofs.Laws.{acts-step, acts-end, acts-group, acts-limit, acts-file, limits-step, limits-stop, limits-end}
+use Rattle.narrowing.specs.Groups.{actionKind, actionFrom, actionIn, certifierKept, recordsNarrow}
 
 -- "kept or added", by what the flags say
 module _ {A : Type 0} (test : A → A → Bool) (has had : Bool) (n o : A) where
@@ -31,42 +31,43 @@ module _ {A : Type 0} (test : A → A → Bool) (has had : Bool) (n o : A) where
   kept-compared r e d p = p ∙ sym (rw (not-false had e, not-false has d))
 
 -- An action by its kind.
-module _ (n o : Bytes) where
-  action-3 : (r : Bytes) → actionKind (kind r) ≡ 3 → actionOf r ≡ permissions (number 4 2 r)
-  unfolding actionOf
-  action-3 r e = pick (eqb (kind r) 3) refl (eqb (kind r) 4) refl
-    where
-      pick : (b : Bool) → eqb (kind r) 3 ≡ b → (c : Bool) → eqb (kind r) 4 ≡ c → actionOf r ≡ permissions (number 4 2 r)
-      pick true p c q = rw p
-      pick false p true q = let x : _≡_ {A = ℕ} 4 3 = rw (p, q) at e in absurd (omega arith)
-      pick false p false q = let x : _≡_ {A = ℕ} 5 3 = rw (p, q) at e in absurd (omega arith)
+action-3 : (r : Bytes) (f : Option FileRule) → actionKind (kind r) ≡ 3 → actionOf r f ≡ permissions (number 4 2 r)
+unfolding actionOf
+action-3 r f e = pick (eqb (kind r) 3) refl (eqb (kind r) 4) refl
+  where
+    pick : (b : Bool) → eqb (kind r) 3 ≡ b → (c : Bool) → eqb (kind r) 4 ≡ c → actionOf r f ≡ permissions (number 4 2 r)
+    pick true p c q = rw p
+    pick false p true q = let x : _≡_ {A = ℕ} 4 3 = rw (p, q) at e in absurd (omega arith)
+    pick false p false q = let x : _≡_ {A = ℕ} 5 3 = rw (p, q) at e in absurd (omega arith)
 
-  action-4 : (r : Bytes) → actionKind (kind r) ≡ 4 → actionOf r ≡ makeBlob (blobRuleOf r)
-  unfolding actionOf
-  action-4 r e = pick (eqb (kind r) 3) refl (eqb (kind r) 4) refl
-    where
-      pick : (b : Bool) → eqb (kind r) 3 ≡ b → (c : Bool) → eqb (kind r) 4 ≡ c → actionOf r ≡ makeBlob (blobRuleOf r)
-      pick true p c q = let x : _≡_ {A = ℕ} 3 4 = rw p at e in absurd (omega arith)
-      pick false p true q = rw (p, q)
-      pick false p false q = let x : _≡_ {A = ℕ} 5 4 = rw (p, q) at e in absurd (omega arith)
+action-4 : (r : Bytes) (f : Option FileRule) → actionKind (kind r) ≡ 4 → actionOf r f ≡ makeBlob (blobRuleOf r) f
+unfolding actionOf
+action-4 r f e = pick (eqb (kind r) 3) refl (eqb (kind r) 4) refl
+  where
+    pick : (b : Bool) → eqb (kind r) 3 ≡ b → (c : Bool) → eqb (kind r) 4 ≡ c → actionOf r f ≡ makeBlob (blobRuleOf r) f
+    pick true p c q = let x : _≡_ {A = ℕ} 3 4 = rw p at e in absurd (omega arith)
+    pick false p true q = rw (p, q)
+    pick false p false q = let x : _≡_ {A = ℕ} 5 4 = rw (p, q) at e in absurd (omega arith)
 
-  action-5 : (r : Bytes) → (actionKind (kind r) ≡ 3 → ⊥) → (actionKind (kind r) ≡ 4 → ⊥) → actionOf r ≡ makeArchive (archiveRuleOf r)
-  unfolding actionOf
-  action-5 r f g = pick (eqb (kind r) 3) refl (eqb (kind r) 4) refl
-    where
-      pick : (b : Bool) → eqb (kind r) 3 ≡ b → (c : Bool) → eqb (kind r) 4 ≡ c → actionOf r ≡ makeArchive (archiveRuleOf r)
-      pick true p c q = absurd (f (rw p))
-      pick false p true q = absurd (g (rw (p, q)))
-      pick false p false q = rw (p, q)
+action-5 : (r : Bytes) (f : Option FileRule) → (actionKind (kind r) ≡ 3 → ⊥) → (actionKind (kind r) ≡ 4 → ⊥) → actionOf r f ≡ makeArchive (archiveRuleOf r) f
+unfolding actionOf
+action-5 r f g h = pick (eqb (kind r) 3) refl (eqb (kind r) 4) refl
+  where
+    pick : (b : Bool) → eqb (kind r) 3 ≡ b → (c : Bool) → eqb (kind r) 4 ≡ c → actionOf r f ≡ makeArchive (archiveRuleOf r) f
+    pick true p c q = absurd (g (rw p))
+    pick false p true q = absurd (h (rw (p, q)))
+    pick false p false q = rw (p, q)
 
-  pub kinds-differ : (a b : ℕ) → a ≡ actionKind (kind n) → b ≡ actionKind (kind o) → (a ≡ b → ⊥) → false ≡ noWider (actionOf n) (actionOf o)
+module _ (n : Bytes) (nf : Option FileRule) (o : Bytes) (of : Option FileRule) where
+  pub kinds-differ : (a b : ℕ) → a ≡ actionKind (kind n) → b ≡ actionKind (kind o) → (a ≡ b → ⊥) → false ≡ noWider (actionOf n nf) (actionOf o of)
   unfolding noWider actionOf
   kinds-differ a b p q f = pick (eqb (kind n) 3) refl (eqb (kind n) 4) refl (eqb (kind o) 3) refl (eqb (kind o) 4) refl
     where
       clash : actionKind (kind n) ≡ actionKind (kind o) → ⊥
       clash e = f (p ∙ e ∙ sym q)
 
-      pick : (w : Bool) → eqb (kind n) 3 ≡ w → (x : Bool) → eqb (kind n) 4 ≡ x → (y : Bool) → eqb (kind o) 3 ≡ y → (z : Bool) → eqb (kind o) 4 ≡ z → false ≡ noWider (actionOf n) (actionOf o)
+      pick : (w : Bool) → eqb (kind n) 3 ≡ w → (x : Bool) → eqb (kind n) 4 ≡ x → (y : Bool) → eqb (kind o) 3 ≡ y → (z : Bool) → eqb (kind o) 4 ≡ z
+          → false ≡ noWider (actionOf n nf) (actionOf o of)
       pick true s x t true u z v = absurd (clash (rw (s, u)))
       pick true s x t false u true v = rw (s, u, v)
       pick true s x t false u false v = rw (s, u, v)
@@ -78,40 +79,62 @@ module _ (n o : Bytes) where
       pick false s false t false u false v = absurd (clash (rw (s, t, u, v)))
 
   module _ (a b : ℕ) (p : a ≡ actionKind (kind n)) (q : b ≡ actionKind (kind o)) (s : a ≡ b) where
-    pub bits-compared : (x y : ℕ) (r : Bool) → a ≡ 3 → x ≡ number 4 2 n → y ≡ number 4 2 o → r ≡ within 16 x y → r ≡ noWider (actionOf n) (actionOf o)
+    pub bits-compared : (x y : ℕ) (r : Bool) → a ≡ 3 → x ≡ number 4 2 n → y ≡ number 4 2 o → r ≡ within 16 x y → r ≡ noWider (actionOf n nf) (actionOf o of)
     unfolding noWider
-    bits-compared x y r e c d f = f ∙ rw (c, d) (sym (rw (action-3 n (sym p ∙ e), action-3 o (sym q ∙ sym s ∙ e))))
+    bits-compared x y r e c d f = f ∙ rw (c, d) (sym (rw (action-3 n nf (sym p ∙ e), action-3 o of (sym q ∙ sym s ∙ e))))
 
-    pub blobs-compared : (r : Bool) → a ≡ 4 → r ≡ blobNoWider (blobRuleOf n) (blobRuleOf o) → r ≡ noWider (actionOf n) (actionOf o)
+    pub blobs-compared : (r t : Bool) → a ≡ 4 → r ≡ blobNoWider (blobRuleOf n) (blobRuleOf o) → t ≡ fileNoWider nf of → (r && t) ≡ noWider (actionOf n nf) (actionOf o of)
     unfolding noWider
-    blobs-compared r e f = f ∙ sym (rw (action-4 n (sym p ∙ e), action-4 o (sym q ∙ sym s ∙ e)))
+    blobs-compared r t e f g = rw (f, g) (sym (rw (action-4 n nf (sym p ∙ e), action-4 o of (sym q ∙ sym s ∙ e))))
 
-    pub archives-compared : (r : Bool) → (a ≡ 3 → ⊥) → (a ≡ 4 → ⊥) → r ≡ archiveNoWider (archiveRuleOf n) (archiveRuleOf o) → r ≡ noWider (actionOf n) (actionOf o)
+    pub archives-compared : (r t : Bool) → (a ≡ 3 → ⊥) → (a ≡ 4 → ⊥) → r ≡ archiveNoWider (archiveRuleOf n) (archiveRuleOf o) → t ≡ fileNoWider nf of
+        → (r && t) ≡ noWider (actionOf n nf) (actionOf o of)
     unfolding noWider
-    archives-compared r e g f =
-        f ∙ sym (rw (action-5 n (λ x. e (p ∙ x)) (λ x. g (p ∙ x)), action-5 o (λ x. e (s ∙ q ∙ x)) (λ x. g (s ∙ q ∙ x))))
+    archives-compared r t e g f h =
+        rw (f, h)
+        (sym (rw (action-5 n nf (λ x. e (p ∙ x)) (λ x. g (p ∙ x)), action-5 o of (λ x. e (s ∙ q ∙ x)) (λ x. g (s ∙ q ∙ x)))))
 
 -- The action at a place, by counting down.
-in-action : (r : Bytes) → 0 < length r → actionIn r ≡ some (actionOf r)
+in-action : (r : Bytes) → 0 < length r → actionIn r ≡ some (actionFrom r)
 in-action [] h = absurd (omega arith)
 in-action (b ∷ bs) h = refl
+
+-- .. at the front of the records from there on
+rest-action : (s : Bytes) (at : ℕ) → actionFrom (lentRest s at) ≡ actionOf (lentRecord s at) (fileRuleNext (recordsFrom s (at + 64)))
+unfolding recordsFrom
+rest-action s at =
+    ap actionFrom (lent-rest s at)
+    ∙ ap (λ (l : List Bytes). actionOf (take 64 (drop at s)) (fileRuleNext l)) (rows-rest (drop at s) 64 ∙ ap records (drop-drop 64 at s))
+    ∙ ap (λ (r : Bytes). actionOf r (fileRuleNext (recordsFrom s (at + 64)))) (sym (lent-record s at))
 
 get-more : {A : Type 0} (x : A) (xs : List A) (n : ℕ) → (n ≡ 0 → ⊥) → getElem? (x ∷ xs) n ≡ getElem? xs (n - 1)
 get-more x xs zero h = absurd (h refl)
 get-more x xs (suc n) h = let e : n ≡ suc n - 1 = omega arith in ap (getElem? xs) e
 
-module _ (s : Bytes) (at left : ℕ) (x : Option Action) (inv : getElem? (actionsOf (recordsFrom s at)) left ≡ x) where
-  pub at-found : 64 ≤ length s - at → (getD s at 0 ≡ 1 → ⊥) → (getD s at 0 ≡ 2 → ⊥) → left ≡ 0 → actionIn (lentRecord s at) ≡ x
-  at-found h n m e =
-      let l : length (lentRecord s at) ≡ 64 = ap length (lent-record s at) ∙ length-take-le 64 (drop at s) (omega (arith, length-drop at s)) in
-      in-action (lentRecord s at) (omega arith) ∙ sym (ap (λ (z : List Action). getElem? z left) (acts-step s at h n m) ∙ rw e) ∙ inv
+-- the length of the records from a place on, as code lends them
+pub rest-length : (s : Bytes) (at : ℕ) → 64 ≤ length s - at → 64 ≤ length (lentRest s at)
+rest-length s at h = omega (arith, ap length (lent-rest s at), length-drop at s)
 
-  pub at-next : 64 ≤ length s - at → (getD s at 0 ≡ 1 → ⊥) → (getD s at 0 ≡ 2 → ⊥) → (left ≡ 0 → ⊥) → getElem? (actionsOf (recordsFrom s (at + 64))) (left - 1) ≡ x
-  at-next h n m e =
-      sym (ap (λ (z : List Action). getElem? z left) (acts-step s at h n m) ∙ get-more (actionOf (lentRecord s at)) (actionsOf (recordsFrom s (at + 64))) left e) ∙ inv
+module _ (s : Bytes) (at left : ℕ) (x : Option Action) (inv : getElem? (actionsOf (recordsFrom s at)) left ≡ x) where
+  pub at-found : 64 ≤ length s - at → (getD s at 0 ≡ 1 → ⊥) → (getD s at 0 ≡ 2 → ⊥) → (getD s at 0 ≡ 15 → ⊥) → left ≡ 0 → actionIn (lentRest s at) ≡ x
+  at-found h n m o e =
+      in-action (lentRest s at) (omega (arith, rest-length s at h))
+      ∙ ap some (rest-action s at)
+      ∙ sym (ap (λ (z : List Action). getElem? z left) (acts-step s at h n m o) ∙ rw e)
+      ∙ inv
+
+  pub at-next : 64 ≤ length s - at → (getD s at 0 ≡ 1 → ⊥) → (getD s at 0 ≡ 2 → ⊥) → (getD s at 0 ≡ 15 → ⊥) → (left ≡ 0 → ⊥)
+      → getElem? (actionsOf (recordsFrom s (at + 64))) (left - 1) ≡ x
+  at-next h n m o e =
+      sym (ap (λ (z : List Action). getElem? z left) (acts-step s at h n m o)
+      ∙ get-more (actionOf (lentRecord s at) (fileRuleNext (recordsFrom s (at + 64)))) (actionsOf (recordsFrom s (at + 64))) left e)
+      ∙ inv
 
   pub at-limit : 64 ≤ length s - at → (getD s at 0 ≡ 1 → ⊥) → getD s at 0 ≡ 2 → getElem? (actionsOf (recordsFrom s (at + 64))) left ≡ x
   at-limit h n e = sym (ap (λ (z : List Action). getElem? z left) (acts-limit s at h n e)) ∙ inv
+
+  pub at-file : 64 ≤ length s - at → (getD s at 0 ≡ 1 → ⊥) → (getD s at 0 ≡ 2 → ⊥) → getD s at 0 ≡ 15 → getElem? (actionsOf (recordsFrom s (at + 64))) left ≡ x
+  at-file h n m e = sym (ap (λ (z : List Action). getElem? z left) (acts-file s at h n m e)) ∙ inv
 
   pub at-group : 64 ≤ length s - at → getD s at 0 ≡ 1 → actionIn [] ≡ x
   at-group h e = sym (ap (λ (z : List Action). getElem? z left) (acts-group s at h e)) ∙ inv
@@ -119,43 +142,47 @@ module _ (s : Bytes) (at left : ℕ) (x : Option Action) (inv : getElem? (action
   pub at-none : length s - at < 64 → actionIn [] ≡ x
   at-none h = sym (ap (λ (z : List Action). getElem? z left) (acts-end s at h)) ∙ inv
 
--- the length of a record as code lends it
-pub lent-length : (s : Bytes) (at : ℕ) → 64 ≤ length s - at → length (lentRecord s at) ≡ 64
-lent-length s at h = ap length (lent-record s at) ∙ length-take-le 64 (drop at s) (omega (arith, length-drop at s))
-
 -- .. compared with the action that a hint names
 module _ (n : Action) (old : Bytes) (x : Option Action) (e : actionIn old ≡ x) where
-  pub hint-nothing : length old ≡ 0 → false ≡ noWiderThan n x
-  hint-nothing h = pick old h e
+  pub hint-nothing : ((length old ≡ 0 → ⊥) → 64 ≤ length old) → length old < 64 → false ≡ noWiderThan n x
+  hint-nothing f h = pick old f h e
     where
-      pick : (r : Bytes) → length r ≡ 0 → actionIn r ≡ x → false ≡ noWiderThan n x
-      pick [] h e = ap (noWiderThan n) e
-      pick (b ∷ bs) h e = absurd (omega arith)
+      pick : (r : Bytes) → ((length r ≡ 0 → ⊥) → 64 ≤ length r) → length r < 64 → actionIn r ≡ x → false ≡ noWiderThan n x
+      pick [] f h e = ap (noWiderThan n) e
+      pick (b ∷ bs) f h e = let l : 64 ≤ length (b ∷ bs) = f (λ z. omega arith) in absurd (omega arith)
 
-  pub hint-compared : (r : Bool) → (length old ≡ 0 → ⊥) → r ≡ noWider n (actionOf old) → r ≡ noWiderThan n x
+  pub hint-compared : (r : Bool) → 64 ≤ length old → r ≡ noWider n (actionFrom old) → r ≡ noWiderThan n x
   hint-compared r h p = p ∙ ap (noWiderThan n) (sym (in-action old (omega arith)) ∙ e)
 
 -- A loop over the actions of a new group and the bytes of its hint.
 module _ (s hints : Bytes) (olds : List Action) (at i : ℕ) (x : Bool) (inv : actionsNoWider (actionsOf (recordsFrom s at)) (drop i hints) olds ≡ x) where
-  module _ (h : 64 ≤ length s - at) (n : getD s at 0 ≡ 1 → ⊥) (m : getD s at 0 ≡ 2 → ⊥) where
+  module _ (h : 64 ≤ length s - at) (n : getD s at 0 ≡ 1 → ⊥) (m : getD s at 0 ≡ 2 → ⊥) (o : getD s at 0 ≡ 15 → ⊥) where
+    abbrev here : Action
+    here = actionOf (lentRecord s at) (fileRuleNext (records (lentRest s (at + 64))))
+
+    acts-here : actionsOf (recordsFrom s at) ≡ here ∷ actionsOf (recordsFrom s (at + 64))
+    acts-here =
+        acts-step s at h n m o
+        ∙ ap (λ (l : List Bytes). actionOf (lentRecord s at) (fileRuleNext l) ∷ actionsOf (recordsFrom s (at + 64))) (sym (rows-rest s (at + 64)))
+
     pub hints-short : length hints ≤ i → false ≡ x
     unfolding actionsNoWider
     hints-short l =
-        sym (ap (λ (z : List Action). actionsNoWider z (drop i hints) olds) (acts-step s at h n m) ∙ rw (drop-of-length-le hints {i = i} l)) ∙ inv
+        sym (ap (λ (z : List Action). actionsNoWider z (drop i hints) olds) acts-here ∙ rw (drop-of-length-le hints {i = i} l)) ∙ inv
 
-    module _ (l : i < length hints) (t : Bool) (e : t ≡ noWiderThan (actionOf (lentRecord s at)) (getElem? olds (getD hints i 0))) where
-      step : (noWiderThan (actionOf (lentRecord s at)) (getElem? olds (getD hints i 0)) && actionsNoWider (actionsOf (recordsFrom s (at + 64))) (drop (i + 1) hints) olds) ≡ x
+    module _ (l : i < length hints) (t : Bool) (e : t ≡ noWiderThan here (getElem? olds (getD hints i 0))) where
+      step : (noWiderThan here (getElem? olds (getD hints i 0)) && actionsNoWider (actionsOf (recordsFrom s (at + 64))) (drop (i + 1) hints) olds) ≡ x
       unfolding actionsNoWider
-      step = sym (ap (λ (z : List Action). actionsNoWider z (drop i hints) olds) (acts-step s at h n m) ∙ rw (drop-cons hints i 0 l, ← (add-one i))) ∙ inv
+      step = sym (ap (λ (z : List Action). actionsNoWider z (drop i hints) olds) acts-here ∙ rw (drop-cons hints i 0 l, ← (add-one i))) ∙ inv
 
       pub action-wider : not t ≡ true → false ≡ x
-      action-wider y = let q : noWiderThan (actionOf (lentRecord s at)) (getElem? olds (getD hints i 0)) ≡ false = sym e ∙ not-true t y in rw q at step
+      action-wider y = let q : noWiderThan here (getElem? olds (getD hints i 0)) ≡ false = sym e ∙ not-true t y in rw q at step
 
       pub action-kept : (r : ℕ) → not t ≡ false → actionsOf (records (drop r s)) ≡ actionsOf (records (drop (at + 64) s))
           → actionsNoWider (actionsOf (recordsFrom s r)) (drop (i + 1) hints) olds ≡ x
       unfolding recordsFrom
       action-kept r y d =
-          let q : noWiderThan (actionOf (lentRecord s at)) (getElem? olds (getD hints i 0)) ≡ true = sym e ∙ not-false t y in
+          let q : noWiderThan here (getElem? olds (getD hints i 0)) ≡ true = sym e ∙ not-false t y in
           ap (λ (z : List Action). actionsNoWider z (drop (i + 1) hints) olds) d ∙ rw q at step
 
   pub hints-over : (r : Bool) → length s - at < 64 → r ≡ allZero (take (length hints - i) (drop i hints)) → r ≡ x

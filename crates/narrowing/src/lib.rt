@@ -4,7 +4,7 @@ ghost use Prim.Native.Nat.{_+_, _≤_, _<_};
 ghost use lib.ListN.{length, getD, getElem?};
 ghost use Rattle.rules.specs.Sizes.{recordBytes, hashBytes};
 ghost use Rattle.rules.specs.Basics.{all, implies, part, flag, optional, records};
-ghost use Rattle.rules.specs.Acl.{parametersOf, blobRuleOf, archiveRuleOf, limitOf, limitsOf, actionOf, actionsOf, groupOf, aclOf};
+ghost use Rattle.rules.specs.Acl.{parametersOf, blobRuleOf, archiveRuleOf, fileRuleNext, limitOf, limitsOf, actionOf, actionsOf, groupOf, aclOf};
 ghost use Rattle.rules.specs.Request.{hintsOf};
 ghost use Rattle.narrowing.specs.Groups.{actionKind, actionIn, certifierKept, recordsNarrow};
 ghost use Rattle.rules.specs.Narrow.{kept, keptNumber, keptParameters, blobNoWider, archiveNoWider, noWider, noWiderThan, actionsNoWider, answers, isAnswered, narrowsSource, narrows};
@@ -104,10 +104,10 @@ fn archive_no_wider(new: &[u8], old: &[u8]) -> bool
     (fields::be16(new, 24) == fields::be16(old, 24)) & hash_kept(0, 4, new, old)
 }
 
-// An action against another: of the same kind and no wider.
-fn action_no_wider(new: &[u8], old: &[u8]) -> bool
+// An action against another: of the same kind and no wider. `after` and `behind` follow the new and the old action.
+fn action_no_wider(new: &[u8], after: &[u8], old: &[u8], behind: &[u8]) -> bool
     requires { ⌜ (length (now new) ≡ recordBytes) × (length (now old) ≡ recordBytes) ⌝ }
-    ensures { λ r. ⌜ r ≡ noWider (actionOf (now (new .entry))) (actionOf (now (old .entry))) ⌝ }
+    ensures { λ r. ⌜ r ≡ noWider (actionOf (now (new .entry)) (fileRuleNext (records (now (after .entry))))) (actionOf (now (old .entry)) (fileRuleNext (records (now (behind .entry))))) ⌝ }
 {
     let kind = action_kind(new[0]);
     if kind != action_kind(old[0]) {
@@ -117,9 +117,9 @@ fn action_no_wider(new: &[u8], old: &[u8]) -> bool
         return fields::subset16(fields::be16(new, 4), fields::be16(old, 4));
     }
     if kind == 4 {
-        return blob_no_wider(new, old);
+        return blob_no_wider(new, old) & storing::place_no_wider(after, behind);
     }
-    archive_no_wider(new, old)
+    archive_no_wider(new, old) & storing::place_no_wider(after, behind)
 }
 
 // The kind of an action as it is decoded: what is neither 3 nor 4 counts as 5.
@@ -135,9 +135,9 @@ fn action_kind(kind: u8) -> u8
     5
 }
 
-// Action h of a group, of the records that follow the group's first one; empty where there is none.
+// The records of a group from its action h on, of those that follow the group's first one; empty where there is none.
 fn action_at(body: &[u8], h: u8) -> &[u8]
-    ensures { λ r. ⌜ (actionIn (now r) ≡ getElem? (actionsOf (records (now (body .entry)))) h) × ((length (now r) ≡ 0 → ⊥) → length (now r) ≡ recordBytes) ⌝ }
+    ensures { λ r. ⌜ (actionIn (now r) ≡ getElem? (actionsOf (records (now (body .entry)))) h) × ((length (now r) ≡ 0 → ⊥) → recordBytes ≤ length (now r)) ⌝ }
 {
     let mut left = h;
     let mut at = 0;
@@ -149,8 +149,12 @@ fn action_at(body: &[u8], h: u8) -> &[u8]
             at += sizes::RECORD;
             continue;
         }
+        if body[at] == 15 {
+            at += sizes::RECORD;
+            continue;
+        }
         if left == 0 {
-            return &body[at..at + sizes::RECORD];
+            return &body[at..];
         }
         left -= 1;
         at += sizes::RECORD;
@@ -158,16 +162,16 @@ fn action_at(body: &[u8], h: u8) -> &[u8]
     &body[0..0]
 }
 
-// A new action against the old one that its hint names.
-fn hinted_no_wider(new: &[u8], body: &[u8], h: u8) -> bool
+// A new action, which `after` follows, against the old one that its hint names.
+fn hinted_no_wider(new: &[u8], after: &[u8], body: &[u8], h: u8) -> bool
     requires { ⌜ length (now new) ≡ recordBytes ⌝ }
-    ensures { λ r. ⌜ r ≡ noWiderThan (actionOf (now (new .entry))) (getElem? (actionsOf (records (now (body .entry)))) h) ⌝ }
+    ensures { λ r. ⌜ r ≡ noWiderThan (actionOf (now (new .entry)) (fileRuleNext (records (now (after .entry))))) (getElem? (actionsOf (records (now (body .entry)))) h) ⌝ }
 {
     let old = action_at(body, h);
-    if old.len() == 0 {
+    if old.len() < sizes::RECORD {
         return false;
     }
-    action_no_wider(new, old)
+    action_no_wider(new, after, &old[0..sizes::RECORD], &old[sizes::RECORD..])
 }
 
 // The actions of a new group against those of its source, by the hint's bytes; those that are not used are zero.
@@ -180,7 +184,12 @@ fn actions_no_wider(new: &[u8], hints: &[u8], old: &[u8]) -> bool
         if hints.len() <= i {
             return false;
         }
-        if !hinted_no_wider(&new[at..at + sizes::RECORD], old, hints[i]) {
+        if !hinted_no_wider(
+            &new[at..at + sizes::RECORD],
+            &new[at + sizes::RECORD..],
+            old,
+            hints[i],
+        ) {
             return false;
         }
         i += 1;

@@ -10,13 +10,19 @@ use lib.Dec.{eqb, ltb}
 use borrow.Author.Tests.{eq-eqb, ne-eqb, not-true, not-false}
 use Rattle.rules.specs.Sizes.{certificatesMax, delegationsMax}
 use Rattle.rules.specs.Numbers.{malformed, tooMany}
-use Rattle.rules.specs.Basics.{Bytes, number, records, recordFault, scan}
-use Rattle.rules.specs.Request.{certificateRecord, delegationRecord, PresentedCounts, certificateFault, delegationFault, presentedRecordFault, afterPresented, presentedEnd, presentedFault, requestFault, requestFrom, requestOf, hintRecord, hintFault}
+use Rattle.rules.specs.Basics.{Bytes, number, flag, records, orNext, firstFault, recordFault, scan}
+use Rattle.rules.specs.Request.{certificateRecord, delegationRecord, PresentedCounts, certificateFault, delegationFault, presentedRecordFault, afterPresented, presentedEnd, presentedFault, fileRequestRecord, fileNext, presentedAfter, requestFault, requestFrom, requestOf, hintRecord, hintFault}
+use Rattle.request.specs.Following.{followingFault}
 use Rattle.rules.proofs.Rows.{recordsFrom, scan-stop, scan-next, bad-record, full-record, sound-record, no-rows, rows-start, rows-at, rows-rest, lentRecord, lent-record, kind-at, lent-rest}
 
 -- the first record as code lends it, `&s[..64]`, and what follows
 request-rows : (s : Bytes) → 64 ≤ length s → records s ≡ take 64 s ∷ records (take (length s - 64) (drop 64 s))
 request-rows s h = sym (rows-start s) ∙ rows-at s 0 (omega arith) ∙ ap (λ (l : List Bytes). take 64 s ∷ l) (sym (rows-rest s 64))
+
+-- a fault and none after it
+next-none : {F : Type 0} (o : Option F) → orNext o none ≡ o
+next-none none = refl
+next-none (some f) = refl
 
 module _ (first : Bytes → Bool) (s : Bytes) where
   pub request-missing : length s < 64 → some malformed ≡ requestFault first (records s)
@@ -24,13 +30,36 @@ module _ (first : Bytes → Bool) (s : Bytes) where
   request-missing h = sym (ap (requestFault first) (no-rows s h))
 
   pub request-bad : (r : Bool) → 64 ≤ length s → r ≡ first (take 64 s) → not r ≡ true → some malformed ≡ requestFault first (records s)
-  unfolding requestFault
+  unfolding requestFault firstFault
   request-bad r h e n = sym (ap (requestFault first) (request-rows s h) ∙ rw (sym e ∙ not-true r n))
 
   pub request-rest : (r : Bool) (x : Option ℕ) → 64 ≤ length s → r ≡ first (take 64 s) → not r ≡ false
-      → x ≡ presentedFault (records (take (length s - 64) (drop 64 s))) → x ≡ requestFault first (records s)
-  unfolding requestFault
-  request-rest r x h e n p = p ∙ sym (ap (requestFault first) (request-rows s h) ∙ rw (sym e ∙ not-false r n))
+      → x ≡ followingFault (take 64 s) (records (take (length s - 64) (drop 64 s))) → x ≡ requestFault first (records s)
+  unfolding requestFault followingFault firstFault
+  request-rest r x h e n p =
+      let rest = records (take (length s - 64) (drop 64 s)) in
+      let f = presentedFault (presentedAfter (take 64 s) rest) in
+      let d : orNext f none ≡ f = next-none f in
+      p ∙ sym (ap (requestFault first) (request-rows s h) ∙ rw (sym e ∙ not-false r n, d))
+
+-- What follows a request record, by the flag that the code read.
+module _ (r s : Bytes) (f : Bool) (e : f ≡ flag 6 r) where
+  pub following-plain : (x : Option ℕ) → not f ≡ true → x ≡ presentedFault (records s) → x ≡ followingFault r (records s)
+  unfolding followingFault
+  following-plain x n p = p ∙ sym (rw (sym e ∙ not-true f n))
+
+  pub following-missing : not f ≡ false → length s < 64 → some malformed ≡ followingFault r (records s)
+  unfolding followingFault fileNext
+  following-missing n h = sym (ap (followingFault r) (no-rows s h) ∙ rw (sym e ∙ not-false f n))
+
+  module _ (n : not f ≡ false) (h : 64 ≤ length s) (b : Bool) (d : b ≡ fileRequestRecord (take 64 s)) where
+    pub following-bad : not b ≡ true → some malformed ≡ followingFault r (records s)
+    unfolding followingFault fileNext
+    following-bad k = sym (ap (followingFault r) (request-rows s h) ∙ rw (sym e ∙ not-false f n, sym d ∙ not-true b k))
+
+    pub following-file : (x : Option ℕ) → not b ≡ false → x ≡ presentedFault (records (take (length s - 64) (drop 64 s))) → x ≡ followingFault r (records s)
+    unfolding followingFault fileNext
+    following-file x k p = p ∙ sym (ap (followingFault r) (request-rows s h) ∙ rw (sym e ∙ not-false f n, sym d ∙ not-false b k))
 
 -- The turns of the loop over certificates and delegations, after n of the one and m of the other.
 module _ (s : Bytes) (at n m : ℕ) (x : Option ℕ)

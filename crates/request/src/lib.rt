@@ -1,10 +1,11 @@
-// A request file with its certificates and delegations, and a hints file: their first faults; a request's time, and what follows its first record.
+// A request file with what is presented, and a hints file: their first faults; a request's time, and what follows its first record.
 ghost use mathlib.Core.Path.{_≡_};
 ghost use lib.ListN.{length, drop};
 ghost use Rattle.rules.specs.Sizes.{recordBytes};
 ghost use Rattle.rules.specs.Basics.{records};
-ghost use Rattle.rules.specs.Request.{requestLaidOut, useOf, certificateRecord, delegationRecord, presentedFault, requestFault, requestOf, hintRecord, hintsFault};
+ghost use Rattle.rules.specs.Request.{requestLaidOut, standsAlone, fileRequestRecord, useOf, certificateRecord, delegationRecord, presentedFault, requestFault, requestOf, hintRecord, hintsFault};
 ghost use Rattle.files.specs.Faults.{faultOf};
+ghost use Rattle.request.specs.Following.{followingFault};
 use files::Checked;
 use refusals::Refusal;
 
@@ -24,6 +25,22 @@ pub fn request_record(rec: &[u8]) -> bool
         return layout::recovery_request(rec);
     }
     false
+}
+
+// .. one by itself, which announces no record of kind 15.
+pub fn stands_alone(rec: &[u8]) -> bool
+    requires { ⌜ length (now rec) ≡ recordBytes ⌝ }
+    ensures { λ r. ⌜ r ≡ standsAlone (now (rec .entry)) ⌝ }
+{
+    request_record(rec) & !fields::flag_of(6, rec)
+}
+
+// Whether a record is a well-formed one of kind 15, as a request has it.
+fn file_record(rec: &[u8]) -> bool
+    requires { ⌜ length (now rec) ≡ recordBytes ⌝ }
+    ensures { λ r. ⌜ r ≡ fileRequestRecord (now (rec .entry)) ⌝ }
+{
+    (rec[0] == 15) & layout::file_request(rec)
 }
 
 // Whether a record is a well-formed use of permission p.
@@ -81,6 +98,23 @@ fn presented_records(rest: &[u8]) -> Checked
     Checked::Sound
 }
 
+// The first fault of what follows a request record: kind 15 where it is announced, then certificates and delegations.
+fn following_records(rec: &[u8], rest: &[u8]) -> Checked
+    requires { ⌜ length (now rec) ≡ recordBytes ⌝ }
+    ensures { λ r. ⌜ faultOf r ≡ followingFault (now (rec .entry)) (records (now (rest .entry))) ⌝ }
+{
+    if !fields::flag_of(6, rec) {
+        return presented_records(rest);
+    }
+    if rest.len() < sizes::RECORD {
+        return Checked::Refused(Refusal::Malformed);
+    }
+    if !file_record(&rest[0..sizes::RECORD]) {
+        return Checked::Refused(Refusal::Malformed);
+    }
+    presented_records(&rest[sizes::RECORD..])
+}
+
 // The first fault of a request file's records.
 pub fn request_records(req: &[u8]) -> Checked
     ensures { λ r. ⌜ faultOf r ≡ requestFault requestLaidOut (records (now (req .entry))) ⌝ }
@@ -91,7 +125,7 @@ pub fn request_records(req: &[u8]) -> Checked
     if !request_record(&req[0..sizes::RECORD]) {
         return Checked::Refused(Refusal::Malformed);
     }
-    presented_records(&req[sizes::RECORD..])
+    following_records(&req[0..sizes::RECORD], &req[sizes::RECORD..])
 }
 
 // The first fault of the records of a request file that has to be a use of permission p.
@@ -104,7 +138,7 @@ pub fn use_records(p: u8, req: &[u8]) -> Checked
     if !use_record(p, &req[0..sizes::RECORD]) {
         return Checked::Refused(Refusal::Malformed);
     }
-    presented_records(&req[sizes::RECORD..])
+    following_records(&req[0..sizes::RECORD], &req[sizes::RECORD..])
 }
 
 // Whether a record is a well-formed hint.
@@ -139,7 +173,7 @@ pub fn time(req: &[u8]) -> u64
     fields::be64(&req[0..sizes::RECORD], 56)
 }
 
-// The part of a request file that holds its certificates and delegations: what follows the first record.
+// What follows the first record of a request file: a record of kind 15, certificates and delegations.
 pub fn presented(req: &[u8]) -> &[u8]
     ensures { λ r. ⌜ now r ≡ drop recordBytes (now (req .entry)) ⌝ }
 {

@@ -3,11 +3,15 @@ use Prim.Native.Nat.{_+_}
 use mathlib.Core.Path.{_≡_, refl}
 use mathlib.Core.List.{[], _∷_, _++_}
 use lib.ListN.{replicate}
-use Rattle.rules.specs.Sizes.{dayRecords, groupsMax}
+use Rattle.rules.specs.Sizes.{dayRecords, groupsMax, actionsMax}
 use Rattle.rules.specs.Basics.{Bytes, ascii}
 use Rattle.rules.specs.Day.{dayLines}
 use Rattle.rules.proofs.Computing.{computing}
-use Rattle.rules.proofs.Samples.{rec, repeated, hash, openGroup, signGroup, limited, certifiedGroup, counting, sign, decrypt, otherMechanism, keyless}
+use Rattle.rules.proofs.Samples.{rec, repeated, hash, openGroup, signAction, signGroup, limited, certifiedGroup, counting, sign, decrypt, otherMechanism, storedArchive, onDevices, recovery, storedRecovery, keyless}
+
+-- 825 records, seven fewer than the day takes: 48 groups that have blobs stored, then one for Sign
+abbrev longest : Bytes
+longest = repeated 48 (openGroup ++ repeated actionsMax (storedArchive ++ onDevices 5)) ++ openGroup ++ repeated actionsMax signAction
 
 -- "Two Sign groups, per load 1, then counter 3 maximum 2; four Signs"
 abbrev twoGroups : Bytes
@@ -37,6 +41,10 @@ pub record DayRows : Type 0 where
   pub certificate : prints twoGroups (sign 1 ++ otherMechanism) ≡ ascii "0 refuse 2\n"
   pub requests-not-whole : prints twoGroups (fourSigns ++ (0 ∷ [])) ≡ ascii "0 refuse 1\n"
   pub requests-too-many : prints twoGroups (repeated (dayRecords + 1) (sign 1)) ≡ ascii "0 refuse 1\n"
+  pub acl-with-blobfile : prints (signGroup ++ storedArchive ++ onDevices 5) (sign 1 ++ recovery) ≡ ascii "1 permit 0\n2 refuse 5\n"
+  pub flag-6 : prints (openGroup ++ storedArchive ++ onDevices 5) storedRecovery ≡ ascii "0 refuse 2\n"
+  pub acl-at-most : prints (longest ++ repeated 7 openGroup) (sign 1) ≡ ascii "1 permit 48\n"
+  pub acl-too-long : prints (longest ++ repeated 8 openGroup) (sign 1) ≡ ascii "0 refuse 1\n"
 
 pub day-rows : DayRows
 unfolding computing
@@ -57,4 +65,8 @@ day-rows =
       certificate = refl;
       requests-not-whole = refl;
       requests-too-many = refl;
+      acl-with-blobfile = refl;
+      flag-6 = refl;
+      acl-at-most = refl;
+      acl-too-long = refl;
     }

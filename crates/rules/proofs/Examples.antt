@@ -15,7 +15,7 @@ use Rattle.rules.specs.Suites.{suite}
 use Rattle.rules.specs.Desk.{Step, WB1, WB2, WB6, approach2, Verdict, accepted, failed, faulty, desk}
 use Rattle.rules.specs.Subject.{SubjectReply, written, unwritten, subjectReply, subjectBuffer}
 use Rattle.rules.proofs.Computing.{computing}
-use Rattle.rules.proofs.Samples.{rec, hash, openGroup, signGroup, limited, certifiedGroup, sign, decrypt, otherMechanism, certificate, delegation, signLink, decryptLink, counting, reducible, expandable, reduce, enlarge, hint, bundle, uncertifiedBundle, blob, cardset, softcard, directBlob, certifiedBlobGroup, archive, keyless}
+use Rattle.rules.proofs.Samples.{rec, hash, openGroup, signGroup, limited, certifiedGroup, sign, decrypt, otherMechanism, certificate, delegation, signLink, decryptLink, counting, reducible, expandable, reduce, enlarge, hint, hintTo, bundle, uncertifiedBundle, blob, cardset, softcard, directBlob, certifiedBlobGroup, archive, storedArchive, onDevices, recovery, storedRecovery, keyless}
 
 -- What an example states: the gate's answer with the whole ledger handed back, the desk's verdict, or the subject writer's reply with the whole
 -- buffer.
@@ -67,6 +67,10 @@ concat (file ∷ files) = file ++ concat files
 abbrev gate : ℕ → Bytes → Bytes → Stated
 gate time acl req = handed (request (load freshLedger time .ledger) (hash 0) acl req)
 
+-- Sign and ReduceACL, and recovery blobs stored on devices 0 and 2
+abbrev storing : Bytes
+storing = reducible ++ storedArchive ++ onDevices 5
+
 -- the desk on the passing bundle and an ACL
 abbrev attest : Bytes → Stated
 attest acl = judged (desk bundle acl)
@@ -106,7 +110,8 @@ starred =
 -- What document 01 shuts out ("denying all", "permitting all", "protection always 1", "a gate that never charges or spends a whole limit at load",
 -- "a narrowing check that always says 8", "made-up counters", "a writer that writes nothing") or fears ("Grading by the first blob action",
 -- "Trusting hkm because it is listed", "Letting two new groups share one source"), as far as no starred row does; and, of document 02, a refusal that
--- always carries group 0, and an open group's MakeArchiveBlob action without kahash.
+-- always carries group 0, an open group's MakeArchiveBlob action without kahash, and blobs stored where no action lets them or returned where one
+-- has them stored.
 unfoldable pub guards : List Example
 guards =
     gate 0 (counting 3 2) (sign 5) is answered (permit 0) (ledgerOf (1 ∷ []) (0 ∷ 0 ∷ 0 ∷ 1 ∷ []) 0 5)
@@ -128,6 +133,17 @@ guards =
     ∷ gate 0 (openGroup ++ keyless) (sign 5) is refuses 12 0
     ∷ gate 0 (certifiedGroup ++ keyless) (sign 5) is refusesNear 6 0 0
     ∷ attest (openGroup ++ keyless) is judged (faulty 12)
+    ∷ gate 0 (openGroup ++ storedArchive ++ onDevices 5) (storedRecovery ++ onDevices 4) is permits 0 5
+    ∷ gate 0 (openGroup ++ storedArchive ++ onDevices 5) (storedRecovery ++ onDevices 2) is refuses 5 0
+    ∷ gate 0 (openGroup ++ storedArchive ++ onDevices 5) (storedRecovery ++ onDevices 5) is refuses 2 0
+    ∷ gate 0 (openGroup ++ storedArchive ++ onDevices 5) recovery is refuses 5 0
+    ∷ gate 0 (openGroup ++ archive) (storedRecovery ++ onDevices 4) is refuses 5 0
+    ∷ gate 0 (openGroup ++ storedArchive) recovery is refuses 2 0
+    ∷ gate 0 (openGroup ++ archive ++ onDevices 5) recovery is refuses 2 0
+    ∷ gate 0 (openGroup ++ archive) storedRecovery is refuses 2 0
+    ∷ handed (narrow freshLedger (hash 0) storing (reduce 6) (openGroup ++ storedArchive ++ onDevices 4) (hintTo 0 1)) is permits 0 6
+    ∷ handed (narrow freshLedger (hash 0) storing (reduce 6) (openGroup ++ storedArchive ++ onDevices 6) (hintTo 0 1)) is refuses 8 0
+    ∷ handed (narrow freshLedger (hash 0) storing (reduce 6) (openGroup ++ archive) (hintTo 0 1)) is refuses 8 0
     ∷ []
 
 -- Document 02, request f, over a Sign group whose certifier is key 9 at mechanism 1: one delegation; four; four in another order; five; a mask without

@@ -4,12 +4,12 @@ use Prim.Native.Nat.{ℕ, _+_, _-_}
 use mathlib.Core.Path.{_≡_, refl}
 use mathlib.Core.List.{[], _∷_, _++_}
 use lib.ListN.{replicate}
-use Rattle.rules.specs.Sizes.{groupsMax, actionsMax, countersMax, certificatesMax, delegationsMax, aclRecords, requestRecords, hintRecords}
+use Rattle.rules.specs.Sizes.{groupsMax, actionsMax, countersMax, certificatesMax, delegationsMax, aclRecords, hintRecords}
 use Rattle.rules.specs.Basics.{Bytes}
 use Rattle.rules.specs.Ledger.{freshLedger}
 use Rattle.rules.specs.Gate.{Outcome, refused, permitted, request, narrow, expand}
 use Rattle.rules.proofs.Computing.{computing}
-use Rattle.rules.proofs.Samples.{rec, repeated, timed, hash, openGroup, signAction, signGroup, sign, decrypt, counting, reducible, expandable, reduce, enlarge, hint, keyless, delegation}
+use Rattle.rules.proofs.Samples.{rec, repeated, timed, hash, openGroup, signAction, signGroup, sign, decrypt, counting, reducible, expandable, reduce, enlarge, hint, keyless, delegation, storedArchive, onDevices, recovery, storedRecovery}
 use Rattle.rules.proofs.Examples.{ledgerOf}
 
 -- a request of a fresh ledger
@@ -35,6 +35,13 @@ signUnder limits = openGroup ++ limits ++ signAction
 abbrev certificate : Bytes
 certificate = rec (9 ∷ 0 ∷ 0 ∷ 0 ∷ [] ++ hash 9 ++ (0 ∷ 1 ∷ []))
 
+-- Stored recovery blobs, and the longest request for one.
+abbrev storing : Bytes
+storing = openGroup ++ storedArchive ++ onDevices 5
+
+abbrev longest : Bytes
+longest = storedRecovery ++ onDevices 4 ++ repeated certificatesMax certificate ++ repeated delegationsMax (delegation 9 13 0 16)
+
 -- a record that is out of place in every file
 abbrev stray : Bytes
 stray = rec []
@@ -49,6 +56,7 @@ pub record ManyRows : Type 0 where
   pub limit-too-many : asks (signUnder (limit 1 0 ++ limit 3 0 ++ limit 2 0 ++ limit 2 1 ++ limit 2 2)) (sign 5) ≡ refuses 3
   pub limits-of-two-groups : asks (signUnder (limit 1 0 ++ limit 3 0 ++ limit 2 7) ++ signUnder (limit 1 0 ++ limit 3 0 ++ limit 2 7)) (decrypt 5) ≡ refuses 5
   pub actions-at-most : asks (openGroup ++ repeated actionsMax signAction) (sign 5) ≡ permits
+  pub actions-with-files : asks (signGroup ++ repeated (actionsMax - 1) (storedArchive ++ onDevices 5)) (sign 5) ≡ permits
   pub action-too-many : asks (openGroup ++ repeated (actionsMax + 1) signAction) (sign 5) ≡ refuses 3
   pub certificates-at-most : asks signGroup (sign 5 ++ repeated certificatesMax certificate) ≡ permits
   pub certificate-too-many : asks signGroup (sign 5 ++ repeated (certificatesMax + 1) certificate) ≡ refuses 3
@@ -69,6 +77,7 @@ many-rows =
       limit-too-many = refl;
       limits-of-two-groups = refl;
       actions-at-most = refl;
+      actions-with-files = refl;
       action-too-many = refl;
       certificates-at-most = refl;
       certificate-too-many = refl;
@@ -84,11 +93,12 @@ pub record LengthRows : Type 0 where
   pub km0-19 : request freshLedger (replicate 19 0) signGroup (sign 5) ≡ refuses 1
   pub km0-21 : request freshLedger (replicate 21 0) signGroup (sign 5) ≡ refuses 1
   pub acl-not-whole : asks (signGroup ++ (0 ∷ [])) (sign 5) ≡ refuses 1
-  pub acl-at-most : asks (repeated groupsMax (openGroup ++ limit 1 0 ++ limit 3 0 ++ limit 2 0 ++ limit 2 1 ++ repeated actionsMax signAction)) (decrypt 5) ≡ refuses 5
+  pub acl-at-most : asks (repeated groupsMax (openGroup ++ limit 1 0 ++ limit 3 0 ++ limit 2 0 ++ limit 2 1 ++ repeated actionsMax (storedArchive ++ onDevices 5))) (decrypt 5) ≡ refuses 5
   pub acl-too-long : asks (repeated (aclRecords + 1) openGroup) (sign 5) ≡ refuses 1
   pub request-not-whole : asks signGroup (sign 5 ++ (0 ∷ [])) ≡ refuses 1
   pub request-empty : asks signGroup [] ≡ refuses 2
-  pub request-too-long : asks signGroup (repeated (requestRecords + 1) (sign 5)) ≡ refuses 1
+  pub request-at-most : asks storing longest ≡ permits
+  pub request-too-long : asks storing (longest ++ delegation 9 13 0 16) ≡ refuses 1
   pub new-acl-not-whole : narrow freshLedger (hash 0) reducible (reduce 6) (0 ∷ []) (hint 0) ≡ refuses 1
   pub hints-not-whole : narrow freshLedger (hash 0) reducible (reduce 6) signGroup (0 ∷ []) ≡ refuses 1
   pub hints-too-long : narrow freshLedger (hash 0) reducible (reduce 6) signGroup (repeated (hintRecords + 1) (hint 0)) ≡ refuses 1
@@ -105,6 +115,7 @@ length-rows =
       acl-too-long = refl;
       request-not-whole = refl;
       request-empty = refl;
+      request-at-most = refl;
       request-too-long = refl;
       new-acl-not-whole = refl;
       hints-not-whole = refl;
@@ -112,7 +123,7 @@ length-rows =
       expansion-not-whole = refl;
     }
 
--- "2 a record malformed or out of place": limits, places, mechanisms, token parameters, absent fields.
+-- "2 a record malformed or out of place": limits, places, mechanisms, token parameters, absent fields, kind 15.
 pub record PlaceRows : Type 0 where
   pub counter-highest : asks (counting (countersMax - 1) 9) (sign 5) ≡ permitted 0 (ledgerOf (1 ∷ []) (replicate (countersMax - 1) 0 ++ (1 ∷ [])) 0 5)
   pub counter-too-high : asks (counting countersMax 9) (sign 5) ≡ refuses 2
@@ -140,6 +151,15 @@ pub record PlaceRows : Type 0 where
   pub total-64 : asks (openGroup ++ rec (4 ∷ 0 ∷ 0 ∷ 16 ∷ [] ++ hash 0 ++ hash 0 ++ (0 ∷ 0 ∷ 1 ∷ 64 ∷ []))) (sign 5) ≡ refuses 5
   pub absent-kmhash : asks (openGroup ++ rec (4 ∷ 0 ∷ 0 ∷ 1 ∷ [] ++ hash 6)) (sign 5) ≡ refuses 2
   pub absent-token : asks signGroup (timed (7 ∷ 0 ∷ 0 ∷ 0 ∷ [] ++ hash 6 ++ hash 20) 5) ≡ refuses 2
+  pub absent-devices : asks (openGroup ++ storedArchive ++ rec (15 ∷ 0 ∷ 0 ∷ 0 ∷ 0 ∷ 0 ∷ 0 ∷ 1 ∷ [])) (sign 5) ≡ refuses 2
+  pub absent-template : asks (openGroup ++ storedArchive ++ rec (15 ∷ 0 ∷ 0 ∷ 0 ∷ 0 ∷ 0 ∷ 0 ∷ 0 ∷ [] ++ hash 3)) (sign 5) ≡ refuses 2
+  pub file-due-at-end : asks (signGroup ++ storedArchive) (sign 5) ≡ refuses 2
+  pub file-due-at-action : asks (openGroup ++ storedArchive ++ signAction) (sign 5) ≡ refuses 2
+  pub file-due-at-group : asks (openGroup ++ storedArchive ++ signGroup) (sign 5) ≡ refuses 2
+  pub file-twice : asks (storing ++ onDevices 5) (storedRecovery ++ onDevices 4) ≡ refuses 2
+  pub file-of-request-late : asks storing (storedRecovery ++ certificate ++ onDevices 4) ≡ refuses 2
+  pub file-of-request-unannounced : asks storing (recovery ++ onDevices 4) ≡ refuses 2
+  pub file-of-request-twice : asks storing (storedRecovery ++ onDevices 4 ++ onDevices 4) ≡ refuses 2
 
 pub place-rows : PlaceRows
 unfolding computing
@@ -171,6 +191,15 @@ place-rows =
       total-64 = refl;
       absent-kmhash = refl;
       absent-token = refl;
+      absent-devices = refl;
+      absent-template = refl;
+      file-due-at-end = refl;
+      file-due-at-action = refl;
+      file-due-at-group = refl;
+      file-twice = refl;
+      file-of-request-late = refl;
+      file-of-request-unannounced = refl;
+      file-of-request-twice = refl;
     }
 
 -- "Unlisted bytes, unlisted flag bits .. are zero."
@@ -184,7 +213,10 @@ pub record BlankRows : Type 0 where
   pub hint-record : narrow freshLedger (hash 0) reducible (reduce 6) signGroup (timed (13 ∷ []) 1) ≡ refuses 2
   pub byte-1 : asks (rec (1 ∷ 1 ∷ []) ++ signAction) (sign 5) ≡ refuses 2
   pub group-flag-2 : asks (rec (1 ∷ 0 ∷ 0 ∷ 4 ∷ []) ++ signAction) (sign 5) ≡ refuses 2
-  pub blob-flag-6 : asks (openGroup ++ rec (4 ∷ 0 ∷ 0 ∷ 64 ∷ [])) (sign 5) ≡ refuses 2
+  pub blob-flag-7 : asks (openGroup ++ rec (4 ∷ 0 ∷ 0 ∷ 128 ∷ [])) (sign 5) ≡ refuses 2
+  pub permissions-flag-6 : asks (openGroup ++ rec (3 ∷ 0 ∷ 0 ∷ 64 ∷ []) ++ onDevices 5) (sign 5) ≡ refuses 2
+  pub file-action : asks (openGroup ++ storedArchive ++ timed (15 ∷ []) 1) (sign 5) ≡ refuses 2
+  pub file-flag-2 : asks (openGroup ++ storedArchive ++ rec (15 ∷ 0 ∷ 0 ∷ 4 ∷ [])) (sign 5) ≡ refuses 2
   pub archive-flag-1 : asks (openGroup ++ rec (5 ∷ 0 ∷ 0 ∷ 2 ∷ [] ++ hash 0 ++ (0 ∷ 1 ∷ []))) (sign 5) ≡ refuses 2
   pub use-flag : asks signGroup (timed (6 ∷ 0 ∷ 0 ∷ 1 ∷ 4 ∷ []) 5) ≡ refuses 2
 
@@ -201,7 +233,10 @@ blank-rows =
       hint-record = refl;
       byte-1 = refl;
       group-flag-2 = refl;
-      blob-flag-6 = refl;
+      blob-flag-7 = refl;
+      permissions-flag-6 = refl;
+      file-action = refl;
+      file-flag-2 = refl;
       archive-flag-1 = refl;
       use-flag = refl;
     }

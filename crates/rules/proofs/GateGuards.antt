@@ -10,7 +10,7 @@ use Rattle.rules.specs.Basics.{Bytes}
 use Rattle.rules.specs.Ledger.{Ledger, freshLedger}
 use Rattle.rules.specs.Gate.{Outcome, refusedNear, refused, permitted, finished, request, load, clear, narrow, expand}
 use Rattle.rules.proofs.Computing.{computing}
-use Rattle.rules.proofs.Samples.{rec, timed, hash, openGroup, signAction, signGroup, limited, certifiedGroup, sign, counting, reducible, reduce, enlarge, hint, blob, cardset, softcard, archive}
+use Rattle.rules.proofs.Samples.{rec, timed, hash, openGroup, signAction, signGroup, limited, certifiedGroup, sign, counting, reducible, reduce, enlarge, hint, blob, cardset, softcard, archive, storedArchive, onDevices, storedRecovery, hintTo}
 use Rattle.rules.proofs.Examples.{ledgerOf}
 
 -- a request of a fresh ledger loaded at 0
@@ -106,6 +106,24 @@ plainBlob flags = openGroup ++ rec (4 ∷ 0 ∷ 0 ∷ flags ∷ [])
 abbrev recovery : ℕ → ℕ → Bytes
 recovery key mechanism = timed (8 ∷ 0 ∷ 0 ∷ 0 ∷ [] ++ hash key ++ (0 ∷ mechanism ∷ [])) 5
 
+-- recovery blobs stored under this record of kind 15
+abbrev storing : Bytes → Bytes
+storing file = storedArchive ++ file
+
+-- "a device mask (4-7, flag 0) and an ACL template hash (8-27, flag 1)": neither, a template alone, device 0 with a template
+abbrev anywhere : Bytes
+anywhere = rec (15 ∷ [])
+
+abbrev template : ℕ → Bytes
+template n = rec (15 ∷ 0 ∷ 0 ∷ 2 ∷ 0 ∷ 0 ∷ 0 ∷ 0 ∷ [] ++ hash n)
+
+abbrev deviceAndTemplate : ℕ → Bytes
+deviceAndTemplate n = rec (15 ∷ 0 ∷ 0 ∷ 3 ∷ 0 ∷ 0 ∷ 0 ∷ 1 ∷ [] ++ hash n)
+
+-- a direct blob under KM0 that is to be stored
+abbrev storedDirect : Bytes
+storedDirect = timed (7 ∷ 0 ∷ 0 ∷ 64 ∷ [] ++ hash 0) 5
+
 -- a charge of group 0 of a fresh ledger
 abbrev permits : Outcome
 permits = permitted 0 (ledgerOf (1 ∷ []) [] 0 5)
@@ -132,6 +150,17 @@ pub record BlobRows : Type 0 where
   pub recovery-same : asks (openGroup ++ archive) (recovery 7 2) ≡ permits
   pub recovery-another-key : asks (openGroup ++ archive) (recovery 8 2) ≡ refuses 5
   pub recovery-another-mechanism : asks (openGroup ++ archive) (recovery 7 1) ≡ refuses 5
+  pub stored-anywhere : asks (openGroup ++ storing anywhere) (storedRecovery ++ onDevices 8) ≡ permits
+  pub template-same : asks (openGroup ++ storing (template 3)) (storedRecovery ++ deviceAndTemplate 3) ≡ permits
+  pub template-another : asks (openGroup ++ storing (template 3)) (storedRecovery ++ deviceAndTemplate 4) ≡ refuses 5
+  pub template-unused : asks (openGroup ++ storing (template 3)) (storedRecovery ++ onDevices 1) ≡ refuses 5
+  pub template-unrestricted : asks (openGroup ++ storing (onDevices 1)) (storedRecovery ++ deviceAndTemplate 3) ≡ permits
+  pub no-device : asks (openGroup ++ storing anywhere) (storedRecovery ++ anywhere) ≡ refuses 2
+  pub stored-working-blob : asks (plainBlob 65 ++ onDevices 5) (storedDirect ++ onDevices 4) ≡ permits
+  pub working-device-outside : asks (plainBlob 65 ++ onDevices 5) (storedDirect ++ onDevices 2) ≡ refuses 5
+  pub working-template-same : asks (plainBlob 65 ++ template 3) (storedDirect ++ deviceAndTemplate 3) ≡ permits
+  pub working-template-another : asks (plainBlob 65 ++ template 3) (storedDirect ++ deviceAndTemplate 4) ≡ refuses 5
+  pub returned-working-blob : asks (plainBlob 65 ++ onDevices 1) (direct (hash 0)) ≡ refuses 5
 
 pub blob-rows : BlobRows
 unfolding computing
@@ -157,6 +186,17 @@ blob-rows =
       recovery-same = refl;
       recovery-another-key = refl;
       recovery-another-mechanism = refl;
+      stored-anywhere = refl;
+      template-same = refl;
+      template-another = refl;
+      template-unused = refl;
+      template-unrestricted = refl;
+      no-device = refl;
+      stored-working-blob = refl;
+      working-device-outside = refl;
+      working-template-same = refl;
+      working-template-another = refl;
+      returned-working-blob = refl;
     }
 
 -- a narrowing of a ledger in use: old ACL, new ACL, hints
@@ -194,6 +234,12 @@ pub record ReplaceRows : Type 0 where
   pub two-actions-from-one : narrows reducible (signGroup ++ signAction) (hint 0) ≡ permitted 0 (ledgerOf (4 ∷ []) (7 ∷ []) 0 6)
   pub bit-added : narrows reducible (openGroup ++ permitting 0 0x30) (hint 0) ≡ refused used 8
   pub another-kind : narrows reducible (plainBlob 1) (hint 0) ≡ refused used 8
+  pub mask-added : narrows (reducible ++ storing anywhere) (openGroup ++ storing (onDevices 1)) (hintTo 0 1) ≡ permitted 0 (ledgerOf (4 ∷ []) (7 ∷ []) 0 6)
+  pub mask-dropped : narrows (reducible ++ storing (onDevices 1)) (openGroup ++ storing anywhere) (hintTo 0 1) ≡ refused used 8
+  pub template-added : narrows (reducible ++ storing (onDevices 1)) (openGroup ++ storing (deviceAndTemplate 3)) (hintTo 0 1) ≡ permitted 0 (ledgerOf (4 ∷ []) (7 ∷ []) 0 6)
+  pub template-changed : narrows (reducible ++ storing (template 3)) (openGroup ++ storing (template 4)) (hintTo 0 1) ≡ refused used 8
+  pub template-dropped : narrows (reducible ++ storing (template 3)) (openGroup ++ storing anywhere) (hintTo 0 1) ≡ refused used 8
+  pub blobfile-added : narrows (reducible ++ archive) (openGroup ++ storing anywhere) (hintTo 0 1) ≡ refused used 8
   pub limit-dropped : narrows (reducibleUnder (limit 2 0 9)) signGroup (hint 0) ≡ refused used 8
   pub limit-larger : narrows (reducibleUnder (limit 2 0 9)) (signUnder (limit 2 0 10)) (hint 0) ≡ refused used 8
   pub limit-of-another-counter : narrows (reducibleUnder (limit 2 0 9)) (signUnder (limit 2 1 9)) (hint 0) ≡ refused used 8
@@ -227,6 +273,12 @@ replace-rows =
       two-actions-from-one = refl;
       bit-added = refl;
       another-kind = refl;
+      mask-added = refl;
+      mask-dropped = refl;
+      template-added = refl;
+      template-changed = refl;
+      template-dropped = refl;
+      blobfile-added = refl;
       limit-dropped = refl;
       limit-larger = refl;
       limit-of-another-counter = refl;

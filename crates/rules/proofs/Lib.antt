@@ -3,6 +3,7 @@ pub mod Choices
 pub mod Rows
 pub mod Few
 pub mod Faults
+pub mod Places
 pub mod Sets
 pub mod Computing
 pub mod Samples

@@ -11,7 +11,7 @@ use lib.ListN.{length, take, drop, getD, length-drop}
 use lib.Seq.{drop-drop, take-all, length-take-le, getD-take, getD-drop}
 use Rattle.rules.specs.Numbers.{malformed, tooMany}
 use Rattle.rules.specs.Basics.{Bytes, Every, part, chunks, records, orNext, firstFault, recordFault, eachFault, scan}
-use Rattle.rules.specs.Request.{wantedOf, requestFrom, requestOf}
+use Rattle.rules.specs.Request.{wantedOf, blobFileNext, requestFrom, requestOf}
 
 -- the records from a place on: shut, so that a search reads the file and the place off it
 unfoldable pub recordsFrom : Bytes → ℕ → List Bytes
@@ -35,10 +35,11 @@ pub no-rows : (s : Bytes) → length s < 64 → records s ≡ []
 unfolding records chunks
 no-rows s h = ap (λ (n : ℕ). chunks n s) (no-fuel (length s) h)
 
--- what a request file asks for, by its first record
-pub wanted-first : (s : Bytes) → 64 ≤ length s → wantedOf (take 64 s) ≡ requestOf s .wanted
+-- what a request file asks for, by its first record and what follows it
+pub wanted-first : (s rest : Bytes) → rest ≡ drop 64 s → 64 ≤ length s → wantedOf (take 64 s) (blobFileNext (records rest)) ≡ requestOf s .wanted
 unfolding requestFrom
-wanted-first s h = sym (ap (λ (l : List Bytes). requestFrom l .wanted) (first s h))
+wanted-first s rest p h =
+    ap (λ (r : Bytes). wantedOf (take 64 s) (blobFileNext (records r))) p ∙ sym (ap (λ (l : List Bytes). requestFrom l .wanted) (first s h))
 
 -- one record, and the rest
 pub rows-at : (s : Bytes) (at : ℕ) → 64 ≤ length s - at → recordsFrom s at ≡ part at 64 s ∷ recordsFrom s (at + 64)

@@ -82,6 +82,10 @@ enlarge time = timed (6 ∷ 0 ∷ 0 ∷ 0 ∷ 12 ∷ []) time
 abbrev pub hint : ℕ → Bytes
 hint source = rec (13 ∷ 0 ∷ 0 ∷ 0 ∷ source ∷ [])
 
+-- .. or another action of it
+abbrev pub hintTo : ℕ → ℕ → Bytes
+hintTo source action = rec (13 ∷ 0 ∷ 0 ∷ 0 ∷ source ∷ 0 ∷ 0 ∷ 0 ∷ action ∷ [])
+
 -- A bundle in which all passes; hkm is field 6. The signatures are given.
 abbrev pub fact : ℕ → Bytes → Bytes
 fact n h = rec (10 ∷ 0 ∷ 0 ∷ 0 ∷ n ∷ 0 ∷ 0 ∷ 0 ∷ [] ++ h)
@@ -126,6 +130,19 @@ certifiedBlobGroup = rec (1 ∷ 0 ∷ 0 ∷ 3 ∷ [] ++ hash 9 ++ (0 ∷ 1 ∷ [
 -- MakeArchiveBlob under hkre, by suite 3's mechanism
 abbrev pub archive : Bytes
 archive = rec (5 ∷ 0 ∷ 0 ∷ 1 ∷ [] ++ hash 7 ++ (0 ∷ 2 ∷ []))
+
+-- .. with blobfile; a record of kind 15 with this device mask; requests for a recovery blob, returned to the host or to be stored
+abbrev pub storedArchive : Bytes
+storedArchive = rec (5 ∷ 0 ∷ 0 ∷ 65 ∷ [] ++ hash 7 ++ (0 ∷ 2 ∷ []))
+
+abbrev pub onDevices : ℕ → Bytes
+onDevices mask = rec (15 ∷ 0 ∷ 0 ∷ 1 ∷ 0 ∷ 0 ∷ 0 ∷ mask ∷ [])
+
+abbrev pub recovery : Bytes
+recovery = timed (8 ∷ 0 ∷ 0 ∷ 0 ∷ [] ++ hash 7 ++ (0 ∷ 2 ∷ [])) 5
+
+abbrev pub storedRecovery : Bytes
+storedRecovery = timed (8 ∷ 0 ∷ 0 ∷ 64 ∷ [] ++ hash 7 ++ (0 ∷ 2 ∷ [])) 5
 
 -- MakeArchiveBlob without kahash
 abbrev pub keyless : Bytes

@@ -70,6 +70,11 @@ unfoldable pub allBelow : ℕ → (ℕ → Bool) → Bool
 allBelow zero p = true
 allBelow (suc k) p = p k && allBelow k p
 
+-- how many of the lowest k bits are set
+unfoldable pub bitCount : ℕ → ℕ → ℕ
+bitCount zero n = 0
+bitCount (suc k) n = (if bit k n then 1 else 0) + bitCount k n
+
 -- of the lowest k bits, those set in a are set in b
 unfoldable pub within : ℕ → ℕ → ℕ → Bool
 within k a b = allBelow k (λ i. implies (bit i a) (bit i b))

@@ -56,8 +56,8 @@ chained p k m cs ds = anyIn (level chainMax p k ds) (leadsToPresented m cs) ds
 -- "A use request is certified .. if .. a chain"; "With either blob request they are read but certify nothing."
 unfoldable pub delegated : Wanted → Bytes → Option ℕ → List Certificate → List Delegation → Bool
 delegated (operation p) k m cs ds = chained p k m cs ds
-delegated (workingBlob w) k m cs ds = false
-delegated (recoveryBlob w) k m cs ds = false
+delegated (workingBlob w f) k m cs ds = false
+delegated (recoveryBlob w f) k m cs ds = false
 
 -- "a presented certificate satisfies it, or a chain": of a key, and of a mechanism where one is named
 unfoldable pub vouched : Wanted → Bytes → Option ℕ → List Certificate → List Delegation → Bool

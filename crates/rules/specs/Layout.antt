@@ -4,7 +4,7 @@ use Prim.Native.Nat.{ℕ, _+_}
 use mathlib.Core.Bool.{Bool, not, _&&_, _||_}
 use lib.Dec.{eqb, leb, ltb}
 use Rattle.rules.specs.Sizes.{hashBytes, Capacity, today}
-use Rattle.rules.specs.Basics.{if_then_else_, Bytes, within, number, byte, blank, flag}
+use Rattle.rules.specs.Basics.{if_then_else_, Bytes, bitCount, within, number, byte, blank, flag}
 
 -- "Byte 0 is the kind, byte 1 zero, bytes 2-3 flags."; of the flags none but those listed is set
 unfoldable pub header : ℕ → Bytes → Bool
@@ -58,26 +58,26 @@ limitLaidOut = limitUnder today
 unfoldable pub permissionsLaidOut : Bytes → Bool
 permissionsLaidOut r = header 0 r && blank 6 58 r
 
--- 4 MakeBlob: flags 0 AllowKmOnly, 1 AllowNonKm0, 2 kmhash (4-23), 3 kthash (24-43), 4 ktparams (44-51), 5 AllowNullKmToken.
+-- 4 MakeBlob: flags 0 AllowKmOnly, 1 AllowNonKm0, 2 kmhash (4-23), 3 kthash (24-43), 4 ktparams (44-51), 5 AllowNullKmToken; "new flag 6".
 unfoldable pub blobActionLaidOut : Bytes → Bool
 blobActionLaidOut r =
-    header 63 r && zeroUnless 2 4 hashBytes r && zeroUnless 3 24 hashBytes r && tokenParametersIf 4 44 r && blank 52 12 r
+    header 127 r && zeroUnless 2 4 hashBytes r && zeroUnless 3 24 hashBytes r && tokenParametersIf 4 44 r && blank 52 12 r
 
--- 5 MakeArchiveBlob: flag 0 kahash (4-23); mechanism 24-25, not zero.
+-- 5 MakeArchiveBlob: flag 0 kahash (4-23); mechanism 24-25, not zero; "new flag 6".
 unfoldable pub archiveActionLaidOut : Bytes → Bool
-archiveActionLaidOut r = header 1 r && zeroUnless 0 4 hashBytes r && mechanismAt 24 r && blank 26 38 r
+archiveActionLaidOut r = header 65 r && zeroUnless 0 4 hashBytes r && mechanismAt 24 r && blank 26 38 r
 
 -- Requests, each with its time in 56-63. 6 use, byte 4 permission 0-15.
 unfoldable pub useLaidOut : Bytes → Bool
 useLaidOut r = header 0 r && ltb (byte 4 r) 16 && blank 5 51 r
 
--- 7 blob, flag 0 token used, 4-23 module key hash, 24-43 token hash, 44-51 token parameters.
+-- 7 blob, flag 0 token used, 4-23 module key hash, 24-43 token hash, 44-51 token parameters; "Requests of kinds 7 and 8 get flag 6".
 unfoldable pub blobRequestLaidOut : Bytes → Bool
-blobRequestLaidOut r = header 1 r && zeroUnless 0 24 hashBytes r && tokenParametersIf 0 44 r && blank 52 4 r
+blobRequestLaidOut r = header 65 r && zeroUnless 0 24 hashBytes r && tokenParametersIf 0 44 r && blank 52 4 r
 
 -- 8 recovery blob, 4-23 key hash, 24-25 mechanism, not zero.
 unfoldable pub recoveryLaidOut : Bytes → Bool
-recoveryLaidOut r = header 0 r && mechanismAt 24 r && blank 26 30 r
+recoveryLaidOut r = header 64 r && mechanismAt 24 r && blank 26 30 r
 
 -- 9 presented certificate: 4-23 key hash, 24-25 mechanism, not zero.
 unfoldable pub certificateLaidOut : Bytes → Bool
@@ -103,3 +103,11 @@ hintLaidOut r = header 0 r && blank 5 3 r && blank 16 48 r
 -- 14 delegation (document 02, request f): from-hash 4-23, to-hash 24-43, sixteen-bit permission mask 44-45.
 unfoldable pub delegationLaidOut : Bytes → Bool
 delegationLaidOut r = header 0 r && blank 46 18 r
+
+-- 15 blobfile (document 02, request i): "a device mask (4-7, flag 0) and an ACL template hash (8-27, flag 1)". Any mask may stand in an ACL.
+unfoldable pub fileLaidOut : Bytes → Bool
+fileLaidOut r = header 3 r && zeroUnless 0 4 4 r && zeroUnless 1 8 hashBytes r && blank 28 36 r
+
+-- .. in a request it "states exactly one device and, if used, the template"
+unfoldable pub fileRequestLaidOut : Bytes → Bool
+fileRequestLaidOut r = fileLaidOut r && flag 0 r && eqb (bitCount 32 (number 4 4 r)) 1

@@ -1,4 +1,4 @@
--- When a new ACL is a narrowing of an old one by given hints: document 01, "The ledger".
+-- When a new ACL is a narrowing of an old one by given hints: document 01, "The ledger"; document 02, request i.
 use Prim.Native.Nat.{ℕ, suc}
 use mathlib.Core.List.{List, [], _∷_}
 use mathlib.Core.Option.{Option, none, some}
@@ -6,7 +6,7 @@ use mathlib.Core.Bool.{Bool, true, false, _&&_}
 use lib.ListN.{getElem?}
 use lib.Dec.{eqb, leb}
 use Rattle.rules.specs.Basics.{Bytes, implies, any, all, allZero, same, within}
-use Rattle.rules.specs.Acl.{Parameters, BlobRule, ArchiveRule, Action, permissions, makeBlob, makeArchive, Limit, Group}
+use Rattle.rules.specs.Acl.{Parameters, BlobRule, ArchiveRule, FileRule, Action, permissions, makeBlob, makeArchive, Limit, Group}
 use Rattle.rules.specs.Request.{Hint}
 use Rattle.rules.specs.Grant.{tighter}
 
@@ -42,17 +42,28 @@ blobNoWider n o =
 abbrev pub archiveNoWider : ArchiveRule → ArchiveRule → Bool
 archiveNoWider n o = eqb (n .mechanism) (o .mechanism) && kept (n .kahash) (o .kahash)
 
+-- "may add or tighten the mask": what is there is a subset
+abbrev pub keptDevices : Option ℕ → Option ℕ → Bool
+keptDevices new old = keptBy (within 32) new old
+
+-- "A narrowing keeps flag 6 as it is, may add or tighten the mask or add a template, never drop either."
+abbrev pub fileNoWider : Option FileRule → Option FileRule → Bool
+fileNoWider none none = true
+fileNoWider none (some o) = false
+fileNoWider (some n) none = false
+fileNoWider (some n) (some o) = keptDevices (n .devices) (o .devices) && kept (n .template) (o .template)
+
 -- "each action is of the hinted action's kind and no wider: subset of permission bits"
 unfoldable pub noWider : Action → Action → Bool
 noWider (permissions n) (permissions o) = within 16 n o
-noWider (permissions n) (makeBlob o) = false
-noWider (permissions n) (makeArchive o) = false
-noWider (makeBlob n) (permissions o) = false
-noWider (makeBlob n) (makeBlob o) = blobNoWider n o
-noWider (makeBlob n) (makeArchive o) = false
-noWider (makeArchive n) (permissions o) = false
-noWider (makeArchive n) (makeBlob o) = false
-noWider (makeArchive n) (makeArchive o) = archiveNoWider n o
+noWider (permissions n) (makeBlob o h) = false
+noWider (permissions n) (makeArchive o h) = false
+noWider (makeBlob n f) (permissions o) = false
+noWider (makeBlob n f) (makeBlob o h) = blobNoWider n o && fileNoWider f h
+noWider (makeBlob n f) (makeArchive o h) = false
+noWider (makeArchive n f) (permissions o) = false
+noWider (makeArchive n f) (makeBlob o h) = false
+noWider (makeArchive n f) (makeArchive o h) = archiveNoWider n o && fileNoWider f h
 
 -- an action against the one that its hint names, if that is there
 abbrev pub noWiderThan : Action → Option Action → Bool

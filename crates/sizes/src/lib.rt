@@ -30,9 +30,11 @@ pub const DELEGATIONS: usize = 16;
 pub const LINKS: usize = 4;
 
 // The greatest lengths of files, in records.
-pub const ACL_RECORDS: usize = GROUPS * (1 + LIMITS + ACTIONS);
+pub const ACL_RECORDS: usize = GROUPS * (1 + LIMITS + 2 * ACTIONS);
 
-pub const REQUEST_RECORDS: usize = 1 + CERTIFICATES + DELEGATIONS;
+pub const DAY_ACL_RECORDS: usize = GROUPS * (1 + LIMITS + ACTIONS);
+
+pub const REQUEST_RECORDS: usize = 2 + CERTIFICATES + DELEGATIONS;
 
 pub const BUNDLE_RECORDS: usize = 13 + LISTED + 6 + 1;
 

@@ -16,9 +16,10 @@ use Rattle.rules.specs.Sizes.{groupsMax, limitsMax, actionsMax, countersMax}
 use Rattle.rules.specs.Numbers.{malformed, tooMany}
 use Rattle.rules.specs.Basics.{Bytes, any, Every, numberFrom, part, byte, kind, recordFault, scan, records}
 use Rattle.rules.specs.Layout.{counterUnder, counterOfSort, limitUnder, limitLaidOut}
-use Rattle.rules.specs.Acl.{Limit, limitOf, limitsOf, actionsOf, groupOf, groupsOf, aclOf, AclPlace, limitKey, among, limitInPlace, inPlaceUnder, inPlace, hasRoomUnder, hasRoom, afterRecord, recordFaultUnder, aclRecordFault, aclEnd, aclStart, aclFaultUnder, aclFault}
+use Rattle.rules.specs.Acl.{Limit, limitOf, limitsOf, actionsOf, groupOf, groupsOf, aclOf, AclPlace, limitKey, among, limitInPlace, inPlace, hasRoomUnder, hasRoom, afterRecord, recordFaultUnder, aclRecordFault, aclEnd, aclStart, aclFaultUnder, aclFault}
 use Rattle.rules.proofs.Laws.{never, and-left, and-right, and-both, not-both, or-right, every-at, unless-passed, orNext-first, orNext-next, fault-none-every}
 use Rattle.rules.proofs.Rows.{records-sized}
+use Rattle.rules.proofs.Places.{limit-placed}
 use Rattle.theorems.specs.Sizes.{LimitFits, Apart, GroupFits, AclFits}
 
 ruleset conj = (and-left, and-right, and-both)
@@ -73,9 +74,9 @@ Fresh keys (m ∷ ms) = (among (keyOf m) keys ≡ false) × Fresh (keys ++ (keyO
 -- what a limit record in its place says
 limit-record : (s : AclPlace) (r : Bytes) → kind r ≡ 2 → inPlace s r ≡ true → hasRoom s r ≡ true
     → LimitFits (limitOf r) × (among (limitKey r) (s .limits) ≡ false) × (length (s .limits) < limitsMax)
-unfolding inPlaceUnder hasRoomUnder limitInPlace
+unfolding hasRoomUnder limitInPlace
 limit-record s r q e d =
-    let a : (limitLaidOut r && limitInPlace s (limitKey r)) ≡ true = rw q at e in
+    let a = limit-placed s r q e in
     let b : limitInPlace s (limitKey r) ≡ true = and-right (limitLaidOut r) _ a in
     let c : not (among (limitKey r) (s .limits)) ≡ true = and-right (ltb 0 (s .groups) && eqb (s .actions) 0) _ b in
     (limit-fits r (and-left _ _ a), not-true _ c, ltb-true (length (s .limits)) limitsMax (rw q at d))
@@ -109,33 +110,42 @@ limits-fit s (r ∷ rs) w e h = pick (eqb (kind r) 2) refl (limits-fit (afterRec
     pick false q f = rw q (omega arith, tt, tt)
 
 -- the actions of a group, likewise
-after-action : (s : AclPlace) (r : Bytes) → eqb (kind r) 1 ≡ false → eqb (kind r) 2 ≡ false → afterRecord s r .actions ≡ s .actions + 1
+after-action : (s : AclPlace) (r : Bytes) → eqb (kind r) 1 ≡ false → eqb (kind r) 2 ≡ false → eqb (kind r) 15 ≡ false → afterRecord s r .actions ≡ s .actions + 1
 unfolding afterRecord
-after-action s r p q = rw (p, q)
+after-action s r p q t = rw (p, q, t)
 
-action-room : (s : AclPlace) (r : Bytes) → eqb (kind r) 1 ≡ false → eqb (kind r) 2 ≡ false → hasRoom s r ≡ true → s .actions < actionsMax
+action-room : (s : AclPlace) (r : Bytes) → eqb (kind r) 1 ≡ false → eqb (kind r) 2 ≡ false → eqb (kind r) 15 ≡ false → hasRoom s r ≡ true → s .actions < actionsMax
 unfolding hasRoomUnder
-action-room s r p q e = ltb-true (s .actions) actionsMax (rw (p, q) at e)
+action-room s r p q t e = ltb-true (s .actions) actionsMax (rw (p, q, t) at e)
+
+-- "Kind 15 does not count as an action."
+after-file : (s : AclPlace) (r : Bytes) → eqb (kind r) 1 ≡ false → eqb (kind r) 2 ≡ false → eqb (kind r) 15 ≡ true → afterRecord s r .actions ≡ s .actions
+unfolding afterRecord
+after-file s r p q t = rw (p, q, t)
 
 actions-fit : (s : AclPlace) (rs : List Bytes) → Reads s rs → s .actions ≤ actionsMax → s .actions + length (actionsOf rs) ≤ actionsMax
 unfolding actionsOf
 actions-fit s [] e h = omega arith
-actions-fit s (r ∷ rs) e h = pick (eqb (kind r) 1) refl (eqb (kind r) 2) refl (first-record s r rs e) (actions-fit (afterRecord s r) rs)
+actions-fit s (r ∷ rs) e h = pick (eqb (kind r) 1) refl (eqb (kind r) 2) refl (eqb (kind r) 15) refl (first-record s r rs e) (actions-fit (afterRecord s r) rs)
   where
-    pick : (b : Bool) → eqb (kind r) 1 ≡ b → (c : Bool) → eqb (kind r) 2 ≡ c
+    pick : (b : Bool) → eqb (kind r) 1 ≡ b → (c : Bool) → eqb (kind r) 2 ≡ c → (d : Bool) → eqb (kind r) 15 ≡ d
         → (inPlace s r ≡ true) × (hasRoom s r ≡ true) × Reads (afterRecord s r) rs
         → (Reads (afterRecord s r) rs → afterRecord s r .actions ≤ actionsMax → afterRecord s r .actions + length (actionsOf rs) ≤ actionsMax)
         → s .actions + length (actionsOf (r ∷ rs)) ≤ actionsMax
-    pick true p c q a f = rw p (omega arith)
-    pick false p true q a f =
+    pick true p c q d t a f = rw p (omega arith)
+    pick false p true q d t a f =
         let k = after-limit s r (eqb-true (kind r) 2 q) .1 in
         let z = f (a .2) (omega arith) in
         rw (p, q) (omega arith)
-    pick false p false q a f =
-        let k = after-action s r p q in
-        let room = action-room s r p q (a .1) in
+    pick false p false q true t a f =
+        let k = after-file s r p q t in
         let z = f (a .2) (omega arith) in
-        rw (p, q) (omega arith)
+        rw (p, q, t) (omega arith)
+    pick false p false q false t a f =
+        let k = after-action s r p q t in
+        let room = action-room s r p q t (a .1) in
+        let z = f (a .2) (omega arith) in
+        rw (p, q, t) (omega arith)
 
 -- Limits that are new one after the other are apart.
 among-kept : (k : ℕ) (keys more : List ℕ) → among k keys ≡ true → among k (keys ++ more) ≡ true
@@ -196,11 +206,12 @@ group-room s r q e = ltb-true (s .groups) groupsMax (rw q at e)
 
 same-groups : (s : AclPlace) (r : Bytes) → eqb (kind r) 1 ≡ false → afterRecord s r .groups ≡ s .groups
 unfolding afterRecord
-same-groups s r q = pick (eqb (kind r) 2) refl
+same-groups s r q = pick (eqb (kind r) 2) refl (eqb (kind r) 15) refl
   where
-    pick : (b : Bool) → eqb (kind r) 2 ≡ b → afterRecord s r .groups ≡ s .groups
-    pick true d = rw (q, d)
-    pick false d = rw (q, d)
+    pick : (b : Bool) → eqb (kind r) 2 ≡ b → (c : Bool) → eqb (kind r) 15 ≡ c → afterRecord s r .groups ≡ s .groups
+    pick true d c t = rw (q, d)
+    pick false d true t = rw (q, d, t)
+    pick false d false t = rw (q, d, t)
 
 -- a group whose record was read just before the rest
 group-fits : (s : AclPlace) (r : Bytes) (rs : List Bytes) → s .limits ≡ [] → s .actions ≡ 0 → Whole rs → Reads s rs → GroupFits (groupOf r rs)

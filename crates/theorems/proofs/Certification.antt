@@ -205,8 +205,8 @@ use-chained-is q k m = pick (q .wanted) refl
     pick (operation p) e =
         let x = chained-is p (q .delegations) k (q .certificates) m in
         (λ h. (p, e, x .0 (rw e at h)), λ u. let n : u .0 ≡ p = let z : operation (u .0) ≡ operation p = sym (u .1) ∙ e in cc in rw e (x .1 (rw n at (u .2))))
-    pick (workingBlob w) e = (λ h. absurd (false≢true (rw e at h)), λ u. let z : workingBlob w ≡ operation (u .0) = sym e ∙ u .1 in absurd (never (cc)))
-    pick (recoveryBlob w) e = (λ h. absurd (false≢true (rw e at h)), λ u. let z : recoveryBlob w ≡ operation (u .0) = sym e ∙ u .1 in absurd (never (cc)))
+    pick (workingBlob w f) e = (λ h. absurd (false≢true (rw e at h)), λ u. let z : workingBlob w f ≡ operation (u .0) = sym e ∙ u .1 in absurd (never (cc)))
+    pick (recoveryBlob w f) e = (λ h. absurd (false≢true (rw e at h)), λ u. let z : recoveryBlob w f ≡ operation (u .0) = sym e ∙ u .1 in absurd (never (cc)))
 
 pub vouched-is : (q : Request) (k : Bytes) (m : Option ℕ) → (vouched (q .wanted) k m (q .certificates) (q .delegations) ≡ true) ↔ Vouched q k m
 unfolding vouched

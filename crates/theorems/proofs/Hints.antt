@@ -12,10 +12,10 @@ use lib.Dec.{eqb, leb, ltb}
 use borrow.Author.Tests.{eq-eqb, leb-true, le-leb, lt-ltb}
 use Rattle.rules.specs.Sizes.{actionsMax}
 use Rattle.rules.specs.Basics.{Bytes, implies, any, all, allZero, Every, bit, within}
-use Rattle.rules.specs.Acl.{Parameters, BlobRule, ArchiveRule, Action, permissions, makeBlob, makeArchive, Limit, Group}
+use Rattle.rules.specs.Acl.{Parameters, BlobRule, ArchiveRule, FileRule, Action, permissions, makeBlob, makeArchive, Limit, Group}
 use Rattle.rules.specs.Request.{Hint}
 use Rattle.rules.specs.Grant.{tighter}
-use Rattle.rules.specs.Narrow.{kept, keptNumber, keptParameters, blobNoWider, archiveNoWider, noWider, noWiderThan, actionsNoWider, answers, isAnswered, groupNarrows, narrowsSource, narrowsFrom, narrows}
+use Rattle.rules.specs.Narrow.{kept, keptNumber, keptParameters, blobNoWider, archiveNoWider, keptDevices, fileNoWider, noWider, noWiderThan, actionsNoWider, answers, isAnswered, groupNarrows, narrowsSource, narrowsFrom, narrows}
 use Rattle.rules.proofs.Laws.{and-left, and-right, and-both, or-right, implication, allBelow-all, same-refl, every-at, any-here}
 
 ruleset conj = (and-left, and-right, and-both)
@@ -92,11 +92,22 @@ archive-self a =
     let y = kept-self (a .kahash) in
     search conj
 
+kept-devices-self : (o : Option ℕ) → keptDevices o o ≡ true
+kept-devices-self none = refl
+kept-devices-self (some n) = within-self 32 n
+
+file-self : (o : Option FileRule) → fileNoWider o o ≡ true
+file-self none = refl
+file-self (some f) =
+    let x = kept-devices-self (f .devices) in
+    let y = kept-self (f .template) in
+    search conj
+
 action-self : (a : Action) → noWider a a ≡ true
 unfolding noWider
 action-self (permissions n) = within-self 16 n
-action-self (makeBlob b) = blob-self b
-action-self (makeArchive a) = archive-self a
+action-self (makeBlob b f) = and-both (blobNoWider b b) (fileNoWider f f) (blob-self b) (file-self f)
+action-self (makeArchive a f) = and-both (archiveNoWider a a) (fileNoWider f f) (archive-self a) (file-self f)
 
 limit-self : (m : Limit) → answers m m ≡ true
 unfolding answers

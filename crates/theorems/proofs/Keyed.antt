@@ -5,18 +5,18 @@ use Prim.Native.Nat.{ℕ}
 use mathlib.Core.Path.{_≡_, refl}
 use mathlib.Core.List.{List, [], _∷_}
 use mathlib.Core.Option.{Option, none}
-use mathlib.Core.Bool.{Bool, true, false, _&&_, false≢true}
+use mathlib.Core.Bool.{Bool, true, false, false≢true}
 use lib.Dec.{eqb}
 use Rattle.rules.specs.Numbers.{malformed, openArchive}
 use Rattle.rules.specs.Basics.{Bytes, Every, kind, flag, optional, present, scan, records}
-use Rattle.rules.specs.Acl.{Action, permissions, makeBlob, makeArchive, actionOf, actionsOf, Group, groupOf, groupsOf, aclOf, AclPlace, aclStart, actionLaidOut, actionInPlace, inPlaceUnder, inPlace, keyed, afterRecord, recordFaultUnder, aclRecordFault, aclEnd, aclFaultUnder, aclFault}
+use Rattle.rules.specs.Acl.{FileRule, Action, permissions, makeBlob, makeArchive, actionOf, fileRuleNext, actionsOf, Group, groupOf, groupsOf, aclOf, AclPlace, aclStart, actionLaidOut, actionInPlace, fileRecord, placedUnder, inPlaceUnder, inPlace, keyed, afterRecord, recordFaultUnder, aclRecordFault, aclEnd, aclFaultUnder, aclFault}
 use Rattle.rules.proofs.Laws.{never, and-left, implied, unless-passed, orNext-first, orNext-next, fault-none-every}
 
 -- a MakeArchiveBlob action that has kahash; an action of another kind needs none
 abbrev pub HasKey : Action → Type 0
 HasKey (permissions bits) = Unit {0}
-HasKey (makeBlob b) = Unit {0}
-HasKey (makeArchive a) = present (a .kahash) ≡ true
+HasKey (makeBlob b f) = Unit {0}
+HasKey (makeArchive a f) = present (a .kahash) ≡ true
 
 -- "Open means no certifier.": a group without one has no MakeArchiveBlob action that lacks kahash
 abbrev pub Closed : Group → Type 0
@@ -32,15 +32,24 @@ announced true a e = refl
 announced false a e = e
 
 -- an action record that is in place, and keyed in an open group
-action-keyed : (r : Bytes) → actionLaidOut r ≡ true → keyed true r ≡ true → HasKey (actionOf r)
+action-keyed : (r : Bytes) (f : Option FileRule) → actionLaidOut r ≡ true → keyed true r ≡ true → HasKey (actionOf r f)
 unfolding actionLaidOut actionOf keyed
-action-keyed r e d = pick (eqb (kind r) 3) refl (eqb (kind r) 4) refl (eqb (kind r) 5) refl
+action-keyed r f e d = pick (eqb (kind r) 3) refl (eqb (kind r) 4) refl (eqb (kind r) 5) refl
   where
-    pick : (a : Bool) → eqb (kind r) 3 ≡ a → (b : Bool) → eqb (kind r) 4 ≡ b → (c : Bool) → eqb (kind r) 5 ≡ c → HasKey (actionOf r)
+    pick : (a : Bool) → eqb (kind r) 3 ≡ a → (b : Bool) → eqb (kind r) 4 ≡ b → (c : Bool) → eqb (kind r) 5 ≡ c → HasKey (actionOf r f)
     pick true x b y c z = rw x tt
     pick false x true y c z = rw (x, y) tt
     pick false x false y true z = rw (x, y) (announced (flag 0 r) _ (implied (eqb (kind r) 5) (flag 0 r) d z))
-    pick false x false y false z = let f : false ≡ true = rw (x, y, z) at e in absurd (false≢true f)
+    pick false x false y false z = let g : false ≡ true = rw (x, y, z) at e in absurd (false≢true g)
+
+-- a record in place that is neither a group, nor a limit, nor of kind 15 is an action
+action-placed : (s : AclPlace) (r : Bytes) → inPlace s r ≡ true → eqb (kind r) 1 ≡ false → eqb (kind r) 2 ≡ false → eqb (kind r) 15 ≡ false → actionLaidOut r ≡ true
+unfolding inPlaceUnder fileRecord placedUnder
+action-placed s r e x y z = pick (s .fileDue) refl
+  where
+    pick : (b : Bool) → s .fileDue ≡ b → actionLaidOut r ≡ true
+    pick true d = let f : false ≡ true = rw (d, z) at e in absurd (false≢true f)
+    pick false d = and-left (actionLaidOut r) (actionInPlace s) (rw (d, x, y) at e)
 
 -- the rest of an ACL read from a place without fault
 abbrev read : AclPlace → List Bytes → Option ℕ
@@ -48,25 +57,27 @@ read s rs = scan aclRecordFault afterRecord aclEnd s rs
 
 -- its groups are closed; and, where the group begun is open, so are the actions left of that
 read-closed : (s : AclPlace) (rs : List Bytes) → read s rs ≡ none → Every Closed (groupsOf rs) × (s .isOpen ≡ true → Every HasKey (actionsOf rs))
-unfolding scan recordFaultUnder afterRecord inPlaceUnder groupsOf actionsOf
+unfolding scan recordFaultUnder afterRecord groupsOf actionsOf
 read-closed s [] e = (tt, λ o. tt)
 read-closed s (r ∷ rs) e =
     let later = orNext-next (aclRecordFault s r) (read (afterRecord s r) rs) e in
     let h = fault-none-every _ (orNext-first (aclRecordFault s r) (read (afterRecord s r) rs) e) in
     let p : inPlace s r ≡ true = unless-passed (inPlace s r) malformed (h .0) in
     let k : keyed (s .isOpen) r ≡ true = unless-passed (keyed (s .isOpen) r) openArchive (h .1 .1 .0) in
-    pick (eqb (kind r) 1) refl (eqb (kind r) 2) refl p k (read-closed (afterRecord s r) rs later)
+    pick (eqb (kind r) 1) refl (eqb (kind r) 2) refl (eqb (kind r) 15) refl p k (read-closed (afterRecord s r) rs later)
   where
-    pick : (a : Bool) → eqb (kind r) 1 ≡ a → (b : Bool) → eqb (kind r) 2 ≡ b → inPlace s r ≡ true → keyed (s .isOpen) r ≡ true
+    pick : (a : Bool) → eqb (kind r) 1 ≡ a → (b : Bool) → eqb (kind r) 2 ≡ b → (c : Bool) → eqb (kind r) 15 ≡ c → inPlace s r ≡ true → keyed (s .isOpen) r ≡ true
         → Every Closed (groupsOf rs) × (afterRecord s r .isOpen ≡ true → Every HasKey (actionsOf rs))
         → Every Closed (groupsOf (r ∷ rs)) × (s .isOpen ≡ true → Every HasKey (actionsOf (r ∷ rs)))
-    pick true x b y p k f =
+    pick true x b y c z p k f =
         let first : Closed (groupOf r rs) = λ n. f .1 (rw (x, unannounced (flag 0 r) _ n)) in
         (rw x (first, f .0), λ o. rw x tt)
-    pick false x true y p k f = (rw x (f .0), λ o. rw (x, y) (f .1 (rw (x, y) o)))
-    pick false x false y p k f =
-        let t : (actionLaidOut r && actionInPlace s) ≡ true = rw (x, y) at p in
-        (rw x (f .0), λ o. rw (x, y) (action-keyed r (and-left (actionLaidOut r) (actionInPlace s) t) (rw o at k), f .1 (rw (x, y) o)))
+    pick false x true y c z p k f = (rw x (f .0), λ o. rw (x, y) (f .1 (rw (x, y) o)))
+    pick false x false y true z p k f = (rw x (f .0), λ o. rw (x, y, z) (f .1 (rw (x, y, z) o)))
+    pick false x false y false z p k f = (
+      rw x (f .0),
+      λ o. rw (x, y, z) (action-keyed r (fileRuleNext rs) (action-placed s r p x y z) (rw o at k), f .1 (rw (x, y, z) o)),
+    )
 
 -- Every group of an ACL that has no fault is closed.
 pub acl-closed : (acl : Bytes) → aclFault (records acl) ≡ none → Every Closed (aclOf acl)

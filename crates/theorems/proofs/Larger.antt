@@ -12,9 +12,9 @@ use lib.Dec.{eqb, leb, ltb}
 use borrow.Author.Tests.{leb-true, le-leb, ltb-true, lt-ltb}
 use Rattle.rules.specs.Sizes.{recordBytes, Capacity, today, aclRecordsUnder}
 use Rattle.rules.specs.Numbers.{badLength, malformed, tooMany, openArchive}
-use Rattle.rules.specs.Basics.{Bytes, kind, byte, fits, unless, orNext, firstFault, scan, fileFault, records}
+use Rattle.rules.specs.Basics.{if_then_else_, Bytes, kind, byte, fits, unless, orNext, firstFault, scan, fileFault, records}
 use Rattle.rules.specs.Layout.{counterUnder, limitUnder}
-use Rattle.rules.specs.Acl.{AclPlace, aclStart, limitKey, limitInPlace, inPlaceUnder, hasRoomUnder, keyed, afterRecord, recordFaultUnder, aclEnd, aclFaultUnder, aclFileFaultUnder, aclFileFault}
+use Rattle.rules.specs.Acl.{AclPlace, aclStart, limitKey, limitInPlace, fileRecord, placedUnder, inPlaceUnder, hasRoomUnder, keyed, afterRecord, recordFaultUnder, aclEnd, aclFaultUnder, aclFileFaultUnder, aclFileFault}
 use Rattle.rules.specs.Request.{hintsFault, hintsFileFault}
 use Rattle.rules.proofs.Laws.{and-left, and-right, and-both, unless-passed, orNext-first, orNext-next, fault-none-every}
 use Rattle.theorems.specs.Capacity.{base}
@@ -58,16 +58,24 @@ module _ (small large : Capacity) (more-groups : small .groups ≤ large .groups
       let a : counterUnder large (byte 4 r) (byte 5 r) ≡ true = counter-more (byte 4 r) (byte 5 r) (search conj) in
       search conj
 
-  place-more : (s : AclPlace) (r : Bytes) → inPlaceUnder small s r ≡ true → inPlaceUnder large s r ≡ true
-  unfolding inPlaceUnder
-  place-more s r e = pick (eqb (kind r) 1) refl (eqb (kind r) 2) refl
+  placed-more : (s : AclPlace) (r : Bytes) → placedUnder small s r ≡ true → placedUnder large s r ≡ true
+  unfolding placedUnder
+  placed-more s r e = pick (eqb (kind r) 1) refl (eqb (kind r) 2) refl
     where
-      pick : (a : Bool) → eqb (kind r) 1 ≡ a → (b : Bool) → eqb (kind r) 2 ≡ b → inPlaceUnder large s r ≡ true
+      pick : (a : Bool) → eqb (kind r) 1 ≡ a → (b : Bool) → eqb (kind r) 2 ≡ b → placedUnder large s r ≡ true
       pick true x b y = rw x (rw x at e)
       pick false x true y =
           let d : (limitUnder small r && limitInPlace s (limitKey r)) ≡ true = rw (x, y) at e in
           rw (x, y) (and-both (limitUnder large r) _ (limit-more r (and-left (limitUnder small r) _ d)) (and-right (limitUnder small r) _ d))
       pick false x false y = rw (x, y) (rw (x, y) at e)
+
+  place-more : (s : AclPlace) (r : Bytes) → inPlaceUnder small s r ≡ true → inPlaceUnder large s r ≡ true
+  unfolding inPlaceUnder
+  place-more s r e = pick (s .fileDue) e
+    where
+      pick : (b : Bool) → (if b then fileRecord r else placedUnder small s r) ≡ true → (if b then fileRecord r else placedUnder large s r) ≡ true
+      pick true e = e
+      pick false e = placed-more s r e
 
   room-more : (s : AclPlace) (r : Bytes) → hasRoomUnder small s r ≡ true → hasRoomUnder large s r ≡ true
   unfolding hasRoomUnder

@@ -11,17 +11,17 @@ use lib.ListN.{getElem?}
 use lib.Dec.{eqb, leb, ltb}
 use borrow.Author.Tests.{eqb-true, eq-eqb, leb-true, le-leb, ltb-true}
 use Rattle.rules.specs.Basics.{Bytes, implies, Every, same, bit, within, present, bothSame, matches}
-use Rattle.rules.specs.Acl.{Parameters, BlobRule, ArchiveRule, Action, permissions, makeBlob, makeArchive, Group}
-use Rattle.rules.specs.Request.{Token, WorkingBlob, RecoveryBlob, Wanted, operation, workingBlob, recoveryBlob, Hint}
-use Rattle.rules.specs.Grant.{timeAnswers, tighter, meets, nullKey, admitsDirect, admitsToken, admitsKey, admitsUnder, admitsBlob, admitsArchive, admits, admitsUse, admitsWorking, admitsRecovery}
-use Rattle.rules.specs.Narrow.{kept, keptParameters, blobNoWider, archiveNoWider, noWider, noWiderThan, actionsNoWider, groupNarrows, narrowsSource, narrowsFrom}
+use Rattle.rules.specs.Acl.{Parameters, BlobRule, ArchiveRule, FileRule, Action, permissions, makeBlob, makeArchive, Group}
+use Rattle.rules.specs.Request.{Token, WorkingBlob, RecoveryBlob, BlobFile, Wanted, operation, workingBlob, recoveryBlob, Hint}
+use Rattle.rules.specs.Grant.{timeAnswers, tighter, meets, nullKey, admitsDirect, admitsToken, admitsKey, admitsUnder, admitsBlob, admitsArchive, admitsDevice, admitsTemplate, admitsFile, admits, admitsUse, admitsWorking, admitsRecovery}
+use Rattle.rules.specs.Narrow.{kept, keptParameters, blobNoWider, archiveNoWider, keptDevices, fileNoWider, noWider, noWiderThan, actionsNoWider, groupNarrows, narrowsSource, narrowsFrom}
 use Rattle.rules.proofs.Laws.{never, and-left, and-right, and-both, or-cases, or-left, or-right, implied, implication, every-at, allBelow-at, allBelow-all, same-eq, eq-same, bothSame-eq}
 
 -- a permission that a request can name
 abbrev pub Known : Wanted → Type 0
 Known (operation p) = p < 16
-Known (workingBlob w) = Unit {0}
-Known (recoveryBlob w) = Unit {0}
+Known (workingBlob w f) = Unit {0}
+Known (recoveryBlob w f) = Unit {0}
 
 pub within-at : (k a b i : ℕ) → i < k → within k a b ≡ true → bit i a ≡ true → bit i b ≡ true
 unfolding within
@@ -129,24 +129,51 @@ archive-wider n o w e d =
     let b = kept-matches (n .kahash) (o .kahash) (w .key) (search conj) (search conj) in
     search conj
 
+-- A mask that is kept has the device, and a template that is kept is the one used.
+device-wider : (n o : Option ℕ) (d : ℕ) → keptDevices n o ≡ true → admitsDevice n d ≡ true → admitsDevice o d ≡ true
+device-wider n none d e p = refl
+device-wider none (some o) d e p = absurd (false≢true e)
+device-wider (some n) (some o) d e p = within-trans 32 d n o p e
+
+template-wider : (n o used : Option Bytes) → kept n o ≡ true → admitsTemplate n used ≡ true → admitsTemplate o used ≡ true
+template-wider n none used e p = refl
+template-wider none (some o) used e p = absurd (false≢true e)
+template-wider (some n) (some o) used e p = rw (same-eq n o e) at p
+
+file-wider : (n o : Option FileRule) (f : Option BlobFile) → fileNoWider n o ≡ true → admitsFile n f ≡ true → admitsFile o f ≡ true
+file-wider none none f e d = d
+file-wider none (some o) f e d = absurd (false≢true e)
+file-wider (some n) none f e d = absurd (false≢true e)
+file-wider (some n) (some o) none e d = d
+file-wider (some n) (some o) (some f) e d =
+    let a : admitsDevice (o .devices) (f .device) ≡ true = device-wider (n .devices) (o .devices) (f .device) (search conj) (search conj) in
+    let b : admitsTemplate (o .template) (f .template) ≡ true = template-wider (n .template) (o .template) (f .template) (search conj) (search conj) in
+    search conj
+
 -- What an action admits, a wider one admits.
 pub admits-wider : (km0 : Bytes) (w : Wanted) (n o : Action) → Known w → noWider n o ≡ true → admits km0 w n ≡ true → admits km0 w o ≡ true
 unfolding admits admitsUse admitsWorking admitsRecovery noWider
 admits-wider km0 (operation p) (permissions n) (permissions o) k e d = within-at 16 n o p k e d
-admits-wider km0 (operation p) (permissions n) (makeBlob o) k e d = e
-admits-wider km0 (operation p) (permissions n) (makeArchive o) k e d = e
-admits-wider km0 (operation p) (makeBlob n) o k e d = absurd (false≢true d)
-admits-wider km0 (operation p) (makeArchive n) o k e d = absurd (false≢true d)
-admits-wider km0 (workingBlob w) (permissions n) o k e d = absurd (false≢true d)
-admits-wider km0 (workingBlob w) (makeBlob n) (permissions o) k e d = e
-admits-wider km0 (workingBlob w) (makeBlob n) (makeBlob o) k e d = blob-wider n o e km0 w d
-admits-wider km0 (workingBlob w) (makeBlob n) (makeArchive o) k e d = e
-admits-wider km0 (workingBlob w) (makeArchive n) o k e d = absurd (false≢true d)
-admits-wider km0 (recoveryBlob w) (permissions n) o k e d = absurd (false≢true d)
-admits-wider km0 (recoveryBlob w) (makeBlob n) o k e d = absurd (false≢true d)
-admits-wider km0 (recoveryBlob w) (makeArchive n) (permissions o) k e d = e
-admits-wider km0 (recoveryBlob w) (makeArchive n) (makeBlob o) k e d = e
-admits-wider km0 (recoveryBlob w) (makeArchive n) (makeArchive o) k e d = archive-wider n o w e d
+admits-wider km0 (operation p) (permissions n) (makeBlob o h) k e d = e
+admits-wider km0 (operation p) (permissions n) (makeArchive o h) k e d = e
+admits-wider km0 (operation p) (makeBlob n g) o k e d = absurd (false≢true d)
+admits-wider km0 (operation p) (makeArchive n g) o k e d = absurd (false≢true d)
+admits-wider km0 (workingBlob w f) (permissions n) o k e d = absurd (false≢true d)
+admits-wider km0 (workingBlob w f) (makeBlob n g) (permissions o) k e d = e
+admits-wider km0 (workingBlob w f) (makeBlob n g) (makeBlob o h) k e d =
+    and-both (admitsBlob km0 o w) (admitsFile h f)
+    (blob-wider n o (and-left (blobNoWider n o) (fileNoWider g h) e) km0 w (and-left (admitsBlob km0 n w) (admitsFile g f) d))
+    (file-wider g h f (and-right (blobNoWider n o) (fileNoWider g h) e) (and-right (admitsBlob km0 n w) (admitsFile g f) d))
+admits-wider km0 (workingBlob w f) (makeBlob n g) (makeArchive o h) k e d = e
+admits-wider km0 (workingBlob w f) (makeArchive n g) o k e d = absurd (false≢true d)
+admits-wider km0 (recoveryBlob w f) (permissions n) o k e d = absurd (false≢true d)
+admits-wider km0 (recoveryBlob w f) (makeBlob n g) o k e d = absurd (false≢true d)
+admits-wider km0 (recoveryBlob w f) (makeArchive n g) (permissions o) k e d = e
+admits-wider km0 (recoveryBlob w f) (makeArchive n g) (makeBlob o h) k e d = e
+admits-wider km0 (recoveryBlob w f) (makeArchive n g) (makeArchive o h) k e d =
+    and-both (admitsArchive o w) (admitsFile h f)
+    (archive-wider n o w (and-left (archiveNoWider n o) (fileNoWider g h) e) (and-left (admitsArchive n w) (admitsFile g f) d))
+    (file-wider g h f (and-right (archiveNoWider n o) (fileNoWider g h) e) (and-right (admitsArchive n w) (admitsFile g f) d))
 
 -- If all that the source's actions admit is good (of a KM0 and a wanted thing), so is all that the new group's actions admit.
 module _ (Good : Bytes → Wanted → Type 0) where

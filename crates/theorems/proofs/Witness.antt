@@ -11,7 +11,7 @@ use Rattle.rules.specs.Gate.{Answer, permit, refuse}
 use Rattle.rules.specs.Bundle.{policyOf}
 use Rattle.rules.specs.Desk.{Grade, approach2, accepted, classOf, policyAdmits, desk}
 use Rattle.rules.proofs.Computing.{computing}
-use Rattle.rules.proofs.Samples.{rec, timed, hash, openGroup, limited, sign, decrypt, certificate, delegation, signLink, decryptLink, reduce, hint, bundle, blob, cardset, archive}
+use Rattle.rules.proofs.Samples.{rec, timed, hash, openGroup, limited, sign, decrypt, certificate, signLink, decryptLink, reduce, hint, bundle, blob, cardset, archive, delegation, storedArchive, onDevices, recovery, storedRecovery}
 use Rattle.theorems.specs.Demands.{Call, requesting, narrowing, State, outcome, after, byOfficer, officerSigned, asked, Allowed, EveryPermit}
 use Rattle.theorems.proofs.Demand3.{demand-3}
 
@@ -20,26 +20,27 @@ abbrev pub replies : State → List Call → List Answer
 replies s [] = []
 replies s (c ∷ cs) = outcome s c .answer ∷ replies (after s c) cs
 
--- at most 5 uses per load; Sign and ReduceACL; a cardset of 1 of 2 under hkm; a recovery action; then Decrypt, by key 9 at mechanism 1
+-- at most 6 uses per load; Sign and ReduceACL; a cardset of 1 of 2 under hkm; a recovery action, and one with blobfile; then Decrypt, by key 9 at
+-- mechanism 1
 abbrev pub useful : Bytes
 useful =
-    openGroup ++ rec (2 ∷ 0 ∷ 0 ∷ 0 ∷ 1 ∷ 0 ∷ 0 ∷ 0 ∷ 0 ∷ 0 ∷ 0 ∷ 5 ∷ []) ++ rec (3 ∷ 0 ∷ 0 ∷ 0 ∷ 0 ∷ 0x14 ∷ []) ++ blob 30 (hash 20) cardset ++ archive
+    openGroup ++ rec (2 ∷ 0 ∷ 0 ∷ 0 ∷ 1 ∷ 0 ∷ 0 ∷ 0 ∷ 0 ∷ 0 ∷ 0 ∷ 6 ∷ []) ++ rec (3 ∷ 0 ∷ 0 ∷ 0 ∷ 0 ∷ 0x14 ∷ []) ++ blob 30 (hash 20) cardset ++ archive
+    ++ storedArchive ++ onDevices 5
     ++ rec (1 ∷ 0 ∷ 0 ∷ 3 ∷ [] ++ hash 9 ++ (0 ∷ 1 ∷ [])) ++ rec (3 ∷ 0 ∷ 0 ∷ 0 ∷ 2 ∷ 0 ∷ [])
 
--- at most 4 uses per load; Sign
+-- at most 5 uses per load; Sign
 abbrev pub smaller : Bytes
-smaller = limited 1 4
+smaller = limited 1 5
 
 abbrev pub tokenBlob : Bytes
 tokenBlob = timed (7 ∷ 0 ∷ 0 ∷ 1 ∷ [] ++ hash 6 ++ hash 20 ++ cardset) 5
-
-abbrev pub recovery : Bytes
-recovery = timed (8 ∷ 0 ∷ 0 ∷ 0 ∷ [] ++ hash 7 ++ (0 ∷ 2 ∷ [])) 5
 
 abbrev pub calls : List Call
 calls =
     requesting (hash 0) tokenBlob
     ∷ requesting (hash 0) recovery
+    ∷ requesting (hash 0) (storedRecovery ++ onDevices 4)
+    ∷ requesting (hash 0) (storedRecovery ++ onDevices 2)
     ∷ requesting (hash 0) (decrypt 5 ++ certificate 13 1 ++ decryptLink 9 10 ++ decryptLink 10 13)
     ∷ requesting (hash 0) (decrypt 5 ++ certificate 13 1 ++ decryptLink 9 10 ++ signLink 10 13)
     ∷ narrowing (hash 0) (reduce 6) (smaller ++ smaller) (hint 0 ++ hint 0)
@@ -65,8 +66,8 @@ exporting = requesting (hash 0) (timed (6 ∷ 0 ∷ 0 ∷ 0 ∷ 10 ∷ []) 5 ++ 
 -- the bundle and the ACL are accepted; the calls are answered so; none of them presents the officer's certificate or a chain from the officer's
 -- key. Last, that the premise about chains is needed: a call that presents such a chain is permitted what the policy does not admit.
 pub witness : (desk bundle useful ≡ accepted (approach2 grade))
-    × (replies start calls ≡ (permit 0 ∷ permit 0 ∷ permit 1 ∷ refuse 6 (some 1) ∷ refuse 8 none ∷ permit 0 ∷ permit 0 ∷ refuse 7 (some 0) ∷ refuse 4 none ∷ []))
-    × (map (officerSigned (records bundle)) calls ≡ (false ∷ false ∷ false ∷ false ∷ false ∷ false ∷ false ∷ false ∷ false ∷ []))
+    × (replies start calls ≡ (permit 0 ∷ permit 0 ∷ permit 0 ∷ refuse 5 none ∷ permit 1 ∷ refuse 6 (some 1) ∷ refuse 8 none ∷ permit 0 ∷ permit 0 ∷ refuse 7 (some 0) ∷ refuse 4 none ∷ []))
+    × (map (officerSigned (records bundle)) calls ≡ (false ∷ false ∷ false ∷ false ∷ false ∷ false ∷ false ∷ false ∷ false ∷ false ∷ false ∷ []))
     × (desk bundle officers ≡ accepted (approach2 (record { protection = 4; recoverable = true })))
     × (replies (record { ledger = freshLedger; acl = officers }) (exporting ∷ []) ≡ (permit 0 ∷ []))
     × (officerSigned (records bundle) exporting ≡ true)
@@ -78,4 +79,4 @@ witness = (refl, refl, refl, refl, refl, refl, refl)
 pub witness-covered : EveryPermit (λ s c. Allowed (records bundle) grade (asked c)) start calls
 unfolding byOfficer computing
 witness-covered =
-    demand-3 bundle useful grade (witness .0) freshLedger calls (refl, (refl, (refl, (refl, (refl, (refl, (refl, (refl, (refl, tt)))))))))
+    demand-3 bundle useful grade (witness .0) freshLedger calls (refl, (refl, (refl, (refl, (refl, (refl, (refl, (refl, (refl, (refl, (refl, tt)))))))))))

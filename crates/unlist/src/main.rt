@@ -32,6 +32,7 @@ fn main() {
         );
         return;
     }
+    // no listing fills the buffer, so that a longer text is cut and still has a bad line
     let mut text = [0u8; listing::LONGEST + 1];
     let input = arguments::read(1, b"TEXT", &mut text);
     let Input::Read(n) = input else {

@@ -1,3 +1,4 @@
+use borrow.Author.Needs.{needs}
 use Prim.Native.Nat.{_≤_, _-_}
 use mathlib.Core.Path.{_≡_}
 use lib.ListN.{length}
@@ -6,8 +7,7 @@ use Rattle.rules.specs.Basics.{records, scan}
 use Rattle.rules.specs.Acl.{aclRecordFault, afterRecord, aclEnd, aclFaultUnder, aclFault}
 use Rattle.rules.proofs.Rows.{recordsFrom, scan-stop, scan-next, scan-done}
 use Rattle.acl.specs.Places.{placeOf}
-use Rattle.acl.proofs.Laws.{was-true, bad-record, full-record, open-record, sound-record}
-use borrow.Author.Needs.{needs}
+use Rattle.acl.proofs.Laws.{was-true, acl-bad, acl-full, acl-open, acl-sound, end-due, end-sound}
 use Rattle.acl.proofs.acl_records.Statement.{statement}
 use Rattle.acl.proofs.acl_records.Tie as tie
 
@@ -43,34 +43,22 @@ in-place-requires : tie.Need-in-place-requires Inv-loop μ-loop
 in-place-requires c κs = search needs
 
 returns : tie.Need-returns Inv-loop μ-loop
-returns c =
-    let l = c .before .before .before in
-    let b = bad-record _ _ _ (c .before .in-place .ensures) (c .if1 .taken) in
-    scan-stop _ _ _ _ _ _ _ (l .before .loop .inv .1 .1) _ (l .loop-test .taken) b
+returns c = search (needs, scan-stop, acl-bad)
 
 has-room-requires : tie.Need-has-room-requires Inv-loop μ-loop
 has-room-requires c κs = search needs
 
 returns-2 : tie.Need-returns-2 Inv-loop μ-loop
-returns-2 c = search (needs, scan-stop, full-record)
+returns-2 c = search (needs, scan-stop, acl-full)
 
 is-keyed-requires : tie.Need-is-keyed-requires Inv-loop μ-loop
 is-keyed-requires c κs = search needs
 
 returns-3 : tie.Need-returns-3 Inv-loop μ-loop
-returns-3 c =
-    let e = c .before .before in
-    let h = e .before in
-    let f = h .before in
-    let g = f .before in
-    let l = g .before .before in
-    let b = open-record _ _ _ (g .in-place .ensures) (f .if1 .left) _ (h .has-room .ensures) (e .if2 .left) _ (c .before .is-keyed .ensures) (c .if3 .taken) in
-    scan-stop _ _ _ _ _ _ _ (l .before .loop .inv .1 .1) _ (l .loop-test .taken) b
+returns-3 c = search (needs, scan-stop, acl-open)
 
 after-requires : tie.Need-after-requires Inv-loop μ-loop
-after-requires c κs =
-    let e = c .before .before in
-    (was-true _ _ (e .before .has-room .ensures) (e .if2 .left), search needs, search needs)
+after-requires c κs = (was-true _ _ (c .before .before .before .has-room .ensures) (c .before .before .if2 .left), search needs, search needs)
 
 add-at : tie.Need-add-at Inv-loop μ-loop
 add-at c = search needs
@@ -80,17 +68,21 @@ loop-less c = search needs
 
 loop-again : tie.Need-loop-again Inv-loop μ-loop
 loop-again c =
-    let j = c .before in
-    let e = j .before .before in
-    let h = e .before in
+    let e = c .before in
+    let k = e .before in
+    let i = k .before in
+    let h = i .before in
     let f = h .before in
     let g = f .before in
     let l = g .before .before in
-    let s = sound-record _ _ _ (g .in-place .ensures) (f .if1 .left) _ (h .has-room .ensures) (e .if2 .left) _ (j .before .is-keyed .ensures) (j .if3 .left) in
+    let s = acl-sound _ _ _ (g .in-place .ensures) _ (h .has-room .ensures) (f .if1 .left) _ (k .is-keyed .ensures) (i .if2 .left) (e .if3 .left) in
     (search needs, (search needs, scan-next _ _ _ _ _ _ _ (l .before .loop .inv .1 .1) _ (l .loop-test .taken) s (c .after .ensures .0)))
 
 returns-4 : tie.Need-returns-4 Inv-loop μ-loop
-returns-4 c = search (needs, scan-done)
+returns-4 c = search (needs, scan-done, end-due)
+
+returns-5 : tie.Need-returns-5 Inv-loop μ-loop
+returns-5 c = search (needs, scan-done, end-sound)
 
 pub acl-records-spec : {M : Type 1} → statement M
 acl-records-spec =
@@ -115,4 +107,5 @@ acl-records-spec =
     add-at
     loop-less
     loop-again
-    returns-4)
+    returns-4
+    returns-5)

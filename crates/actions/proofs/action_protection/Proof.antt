@@ -7,13 +7,13 @@ shared-slice-read-kind : tie.Need-shared-slice-read-kind
 shared-slice-read-kind c = search needs
 
 returns : tie.Need-returns
-returns c = search (needs, kept-by-none)
+returns c = λ f. search (needs, kept-by-none)
 
 blob-protection-requires : tie.Need-blob-protection-requires
 blob-protection-requires c κs = search needs
 
 returns-2 : tie.Need-returns-2
-returns-2 c = search (needs, kept-by-blob)
+returns-2 c = λ f. search (needs, kept-by-blob)
 
 pub action-protection-spec : {M : Type 1} → statement M
 action-protection-spec =

@@ -15,21 +15,21 @@ permission-step-requires c κs = search needs
 
 returns : tie.Need-returns
 unfolding failureUnder
-returns c = let a = c .before .before .before .before .before .before .args in by-kind (failureUnder (policyAs (a .policy)) (given (a .hkm .now)) (given (a .hkre .now))) (a .rec .now) _ (search (needs, picks))
+returns c = λ f. let a = c .before .before .before .before .before .before .args in by-kind (failureUnder (policyAs (a .policy)) (given (a .hkm .now)) (given (a .hkre .now))) (a .rec .now) f _ (search (needs, picks))
 
 blob-steps-requires : tie.Need-blob-steps-requires
 blob-steps-requires c κs = search needs
 
 returns-2 : tie.Need-returns-2
 unfolding failureUnder
-returns-2 c = let a = c .before .before .before .before .before .before .before .args in by-kind (failureUnder (policyAs (a .policy)) (given (a .hkm .now)) (given (a .hkre .now))) (a .rec .now) _ (search (needs, picks))
+returns-2 c = λ f. let a = c .before .before .before .before .before .before .before .args in by-kind (failureUnder (policyAs (a .policy)) (given (a .hkm .now)) (given (a .hkre .now))) (a .rec .now) f _ (search (needs, picks))
 
 archive-steps-requires : tie.Need-archive-steps-requires
 archive-steps-requires c κs = search needs
 
 returns-3 : tie.Need-returns-3
 unfolding failureUnder
-returns-3 c = let a = c .before .before .before .before .before .before .before .args in by-kind (failureUnder (policyAs (a .policy)) (given (a .hkm .now)) (given (a .hkre .now))) (a .rec .now) _ (search (needs, picks))
+returns-3 c = λ f. let a = c .before .before .before .before .before .before .before .args in by-kind (failureUnder (policyAs (a .policy)) (given (a .hkm .now)) (given (a .hkre .now))) (a .rec .now) f _ (search (needs, picks))
 
 pub action-steps-spec : {M : Type 1} → statement M
 action-steps-spec =

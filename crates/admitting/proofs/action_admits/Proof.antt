@@ -13,7 +13,7 @@ admits-use-requires : tie.Need-admits-use-requires
 admits-use-requires c κs = search needs
 
 returns : tie.Need-returns
-returns c = search (needs, asks-use)
+returns c = asks-use _ _ _ _ _ _ (search needs) (c .admits-use .ensures _)
 
 admits-working-requires : tie.Need-admits-working-requires
 admits-working-requires c κs = search needs

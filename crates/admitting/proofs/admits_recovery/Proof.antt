@@ -15,9 +15,19 @@ returns-2 c = search (needs, recovery-blob)
 admits-archive-requires : tie.Need-admits-archive-requires
 admits-archive-requires c κs = search needs
 
+admits-place-requires : tie.Need-admits-place-requires
+admits-place-requires c κs = search needs
+
 returns-3 : tie.Need-returns-3
 returns-3 c = search (needs, recovery-is)
 
 pub admits-recovery-spec : {M : Type 1} → statement M
 admits-recovery-spec =
-    tie.close (tie.spec shared-slice-read-kind returns returns-2 admits-archive-requires returns-3)
+    tie.close
+    (tie.spec
+    shared-slice-read-kind
+    returns
+    returns-2
+    admits-archive-requires
+    admits-place-requires
+    returns-3)

@@ -12,9 +12,13 @@ returns c = search (needs, working-other)
 admits-blob-requires : tie.Need-admits-blob-requires
 admits-blob-requires c κs = search needs
 
+admits-place-requires : tie.Need-admits-place-requires
+admits-place-requires c κs = search needs
+
 returns-2 : tie.Need-returns-2
 returns-2 c = search (needs, working-is)
 
 pub admits-working-spec : {M : Type 1} → statement M
 admits-working-spec =
-    tie.close (tie.spec shared-slice-read-if1 returns admits-blob-requires returns-2)
+    tie.close
+    (tie.spec shared-slice-read-if1 returns admits-blob-requires admits-place-requires returns-2)

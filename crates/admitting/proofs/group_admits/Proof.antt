@@ -3,19 +3,19 @@ use mathlib.Core.Path.{_≡_, refl}
 use lib.ListN.{length}
 use Rattle.rules.specs.Basics.{any, records}
 use Rattle.rules.specs.Acl.{actionsOf}
-use Rattle.rules.specs.Request.{wantedOf}
+use Rattle.rules.specs.Request.{blobFileNext, wantedOf}
 use Rattle.rules.specs.Grant.{admits}
 use Rattle.rules.proofs.Rows.{recordsFrom}
-use Rattle.admitting.proofs.Laws.{acts-found, acts-next, acts-pass, acts-stop, acts-none}
+use Rattle.admitting.proofs.Laws.{acts-found, acts-next, acts-pass, acts-skip, acts-stop, acts-none}
 use borrow.Author.Needs.{needs}
 use Rattle.admitting.proofs.group_admits.Statement.{statement}
 use Rattle.admitting.proofs.group_admits.Tie as tie
 
 abbrev Inv-loop : tie.InvT-loop
-Inv-loop km0 rec body at₀ at = (at ≤ length body) × (any (admits km0 (wantedOf rec)) (actionsOf (recordsFrom body at)) ≡ any (admits km0 (wantedOf rec)) (actionsOf (records body)))
+Inv-loop km0 rec rest body at₀ at = (at ≤ length body) × (any (admits km0 (wantedOf rec (blobFileNext (records rest)))) (actionsOf (recordsFrom body at)) ≡ any (admits km0 (wantedOf rec (blobFileNext (records rest)))) (actionsOf (records body)))
 
 abbrev μ-loop : tie.MeasureT-loop
-μ-loop km0 rec body at₀ at = length body - at
+μ-loop km0 rec rest body at₀ at = length body - at
 
 loop-holds : tie.Need-loop-holds Inv-loop μ-loop
 unfolding recordsFrom
@@ -42,6 +42,18 @@ loop-less c = search needs
 loop-again : tie.Need-loop-again Inv-loop μ-loop
 loop-again c = (search needs, search (needs, acts-pass))
 
+shared-slice-read-if3 : tie.Need-shared-slice-read-if3 Inv-loop μ-loop
+shared-slice-read-if3 c = search needs
+
+add-at-2 : tie.Need-add-at-2 Inv-loop μ-loop
+add-at-2 c = search needs
+
+loop-less-2 : tie.Need-loop-less-2 Inv-loop μ-loop
+loop-less-2 c = search needs
+
+loop-again-2 : tie.Need-loop-again-2 Inv-loop μ-loop
+loop-again-2 c = (search needs, search (needs, acts-skip))
+
 add-action-admits : tie.Need-add-action-admits Inv-loop μ-loop
 add-action-admits c = search needs
 
@@ -54,24 +66,42 @@ part-action-admits-start c = search needs
 part-action-admits-end : tie.Need-part-action-admits-end Inv-loop μ-loop
 part-action-admits-end c = search needs
 
+add-action-admits-2 : tie.Need-add-action-admits-2 Inv-loop μ-loop
+add-action-admits-2 c = search needs
+
+sub-action-admits-2 : tie.Need-sub-action-admits-2 Inv-loop μ-loop
+sub-action-admits-2 c = search needs
+
+part-action-admits-start-2 : tie.Need-part-action-admits-start-2 Inv-loop μ-loop
+part-action-admits-start-2 c = search needs
+
+part-action-admits-end-2 : tie.Need-part-action-admits-end-2 Inv-loop μ-loop
+part-action-admits-end-2 c = search needs
+
 action-admits-requires : tie.Need-action-admits-requires Inv-loop μ-loop
 action-admits-requires c κs = search needs
 
 returns-2 : tie.Need-returns-2 Inv-loop μ-loop
-returns-2 c = search (needs, acts-found)
-
-add-at-2 : tie.Need-add-at-2 Inv-loop μ-loop
-add-at-2 c = search needs
-
-loop-less-2 : tie.Need-loop-less-2 Inv-loop μ-loop
-loop-less-2 c = search needs
-
-loop-again-2 : tie.Need-loop-again-2 Inv-loop μ-loop
-loop-again-2 c =
-    let two = c .before .before .before in
+returns-2 c =
+    let three = c .before .before .before .before in
+    let two = three .before .before in
     let one = two .before .before in
     let l = one .before .before in
-    (search needs, acts-next _ _ _ _ (l .before .loop .inv .1) _ (l .loop-test .taken) (one .if1 .left) (two .if2 .left) (c .before .action-admits .ensures) (c .if3 .left))
+    acts-found _ _ _ _ (l .before .loop .inv .1) _ (l .loop-test .taken) (one .if1 .left) (two .if2 .left) (three .if3 .left) (c .before .action-admits .ensures) (c .if4 .taken)
+
+add-at-3 : tie.Need-add-at-3 Inv-loop μ-loop
+add-at-3 c = search needs
+
+loop-less-3 : tie.Need-loop-less-3 Inv-loop μ-loop
+loop-less-3 c = search needs
+
+loop-again-3 : tie.Need-loop-again-3 Inv-loop μ-loop
+loop-again-3 c =
+    let three = c .before .before .before .before in
+    let two = three .before .before in
+    let one = two .before .before in
+    let l = one .before .before in
+    (search needs, acts-next _ _ _ _ (l .before .loop .inv .1) _ (l .loop-test .taken) (one .if1 .left) (two .if2 .left) (three .if3 .left) (c .before .action-admits .ensures) (c .if4 .left))
 
 returns-3 : tie.Need-returns-3 Inv-loop μ-loop
 returns-3 c = search (needs, acts-none)
@@ -90,13 +120,21 @@ group-admits-spec =
     add-at
     loop-less
     loop-again
+    shared-slice-read-if3
+    add-at-2
+    loop-less-2
+    loop-again-2
     add-action-admits
     sub-action-admits
     part-action-admits-start
     part-action-admits-end
+    add-action-admits-2
+    sub-action-admits-2
+    part-action-admits-start-2
+    part-action-admits-end-2
     action-admits-requires
     returns-2
-    add-at-2
-    loop-less-2
-    loop-again-2
+    add-at-3
+    loop-less-3
+    loop-again-3
     returns-3)

@@ -22,20 +22,20 @@ loop-holds c = (search needs, refl)
 sub-loop : tie.Need-sub-loop Inv-loop μ-loop
 sub-loop c = search needs
 
-add-request-record : tie.Need-add-request-record Inv-loop μ-loop
-add-request-record c = search needs
+add-stands-alone : tie.Need-add-stands-alone Inv-loop μ-loop
+add-stands-alone c = search needs
 
-sub-request-record : tie.Need-sub-request-record Inv-loop μ-loop
-sub-request-record c = search needs
+sub-stands-alone : tie.Need-sub-stands-alone Inv-loop μ-loop
+sub-stands-alone c = search needs
 
-part-request-record-start : tie.Need-part-request-record-start Inv-loop μ-loop
-part-request-record-start c = search needs
+part-stands-alone-start : tie.Need-part-stands-alone-start Inv-loop μ-loop
+part-stands-alone-start c = search needs
 
-part-request-record-end : tie.Need-part-request-record-end Inv-loop μ-loop
-part-request-record-end c = search needs
+part-stands-alone-end : tie.Need-part-stands-alone-end Inv-loop μ-loop
+part-stands-alone-end c = search needs
 
-request-record-requires : tie.Need-request-record-requires Inv-loop μ-loop
-request-record-requires c κs = search needs
+stands-alone-requires : tie.Need-stands-alone-requires Inv-loop μ-loop
+stands-alone-requires c κs = search needs
 
 returns : tie.Need-returns Inv-loop μ-loop
 returns c = search (needs, each-stop, request-bad)
@@ -60,11 +60,11 @@ each-request-spec =
     μ-loop
     loop-holds
     sub-loop
-    add-request-record
-    sub-request-record
-    part-request-record-start
-    part-request-record-end
-    request-record-requires
+    add-stands-alone
+    sub-stands-alone
+    part-stands-alone-start
+    part-stands-alone-end
+    stands-alone-requires
     returns
     add-at
     loop-less

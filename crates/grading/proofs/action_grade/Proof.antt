@@ -14,7 +14,7 @@ is-archive-requires c κs = search needs
 
 returns : tie.Need-returns
 unfolding actionGraded
-returns c = rw (c .before .before .action-steps .ensures, c .before .action-protection .ensures, c .is-archive .ensures)
+returns c = λ f. rw (c .before .before .action-steps .ensures f, c .before .action-protection .ensures f, c .is-archive .ensures f)
 
 pub action-grade-spec : {M : Type 1} → statement M
 action-grade-spec =

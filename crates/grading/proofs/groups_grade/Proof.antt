@@ -6,7 +6,7 @@ use Rattle.rules.specs.Acl.{groupsOf}
 use Rattle.facts.specs.Found.{policyAs}
 use Rattle.evidence.specs.Given.{given}
 use Rattle.grading.specs.Grades.{gradedAs, both, groupsGraded}
-use Rattle.grading.proofs.Laws.{join-most, first-most, left, left-first, left-group, left-past, left-action, left-done}
+use Rattle.grading.proofs.Laws.{join-most, first-most, left, left-first, left-group, left-past, left-file, left-action, left-done}
 use borrow.Author.Needs.{needs}
 use Rattle.grading.proofs.groups_grade.Statement.{statement}
 use Rattle.grading.proofs.groups_grade.Tie as tie
@@ -76,11 +76,8 @@ loop-less-2 c = search needs
 loop-again-2 : tie.Need-loop-again-2 Inv-loop μ-loop
 loop-again-2 c = (search needs, (search needs, search (needs, left-past)))
 
-action-grade-requires : tie.Need-action-grade-requires Inv-loop μ-loop
-action-grade-requires c κs = search needs
-
-joined-requires-2 : tie.Need-joined-requires-2 Inv-loop μ-loop
-joined-requires-2 c κs = search needs
+shared-slice-read-if3 : tie.Need-shared-slice-read-if3 Inv-loop μ-loop
+shared-slice-read-if3 c = search needs
 
 add-at-3 : tie.Need-add-at-3 Inv-loop μ-loop
 add-at-3 c = search needs
@@ -89,13 +86,29 @@ loop-less-3 : tie.Need-loop-less-3 Inv-loop μ-loop
 loop-less-3 c = search needs
 
 loop-again-3 : tie.Need-loop-again-3 Inv-loop μ-loop
-loop-again-3 c =
-    let f = c .before .before in
+loop-again-3 c = (search needs, (search needs, search (needs, left-file)))
+
+action-grade-requires : tie.Need-action-grade-requires Inv-loop μ-loop
+action-grade-requires c κs = search needs
+
+joined-requires-2 : tie.Need-joined-requires-2 Inv-loop μ-loop
+joined-requires-2 c κs = search needs
+
+add-at-4 : tie.Need-add-at-4 Inv-loop μ-loop
+add-at-4 c = search needs
+
+loop-less-4 : tie.Need-loop-less-4 Inv-loop μ-loop
+loop-less-4 c = search needs
+
+loop-again-4 : tie.Need-loop-again-4 Inv-loop μ-loop
+loop-again-4 c =
+    let g = c .before .before in
+    let f = g .before .before in
     let t = f .before .before in
     let l = t .before .before .before in
     let i = l .before .loop .inv in
     let e = c .joined2 .ensures in
-    (search needs, (join-most _ _ _ e (i .1 .0), left-action _ _ _ _ _ _ _ _ _ (i .1 .1) _ _ (l .loop-test .taken) (t .if1 .left) (f .if2 .left) (c .before .action-grade .ensures) e))
+    (search needs, (join-most _ _ _ e (i .1 .0), left-action _ _ _ _ _ _ _ _ _ (i .1 .1) _ _ (l .loop-test .taken) (t .if1 .left) (f .if2 .left) (g .if3 .left) (c .before .action-grade .ensures) e))
 
 returns : tie.Need-returns Inv-loop μ-loop
 returns c = search (needs, left-done)
@@ -124,9 +137,13 @@ groups-grade-spec =
     add-at-2
     loop-less-2
     loop-again-2
-    action-grade-requires
-    joined-requires-2
+    shared-slice-read-if3
     add-at-3
     loop-less-3
     loop-again-3
+    action-grade-requires
+    joined-requires-2
+    add-at-4
+    loop-less-4
+    loop-again-4
     returns)

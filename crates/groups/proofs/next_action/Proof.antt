@@ -4,7 +4,7 @@ use lib.ListN.{length, drop}
 use Rattle.rules.specs.Basics.{records}
 use Rattle.rules.proofs.Rows.{recordsFrom}
 use Rattle.rules.specs.Acl.{actionsOf}
-use Rattle.groups.proofs.Laws.{next-group, next-none, next-skip, next-here, act-group, act-none, act-skip, act-here}
+use Rattle.groups.proofs.Laws.{next-group, next-none, next-skip, next-pass, next-here, act-group, act-none, act-skip, act-pass, act-here}
 use Rattle.groups.specs.Parts.{actionPlace}
 use borrow.Author.Needs.{needs}
 use Rattle.groups.proofs.next_action.Statement.{statement}
@@ -32,9 +32,6 @@ returns c = search (needs, next-group, act-group)
 shared-slice-read-if2 : tie.Need-shared-slice-read-if2 Inv-loop μ-loop
 shared-slice-read-if2 c = search needs
 
-returns-2 : tie.Need-returns-2 Inv-loop μ-loop
-returns-2 c = search (needs, next-here, act-here)
-
 add-i : tie.Need-add-i Inv-loop μ-loop
 add-i c = search needs
 
@@ -43,6 +40,21 @@ loop-less c = search needs
 
 loop-again : tie.Need-loop-again Inv-loop μ-loop
 loop-again c = (search needs, (search needs, (search (needs, next-skip), search (needs, act-skip))))
+
+shared-slice-read-if3 : tie.Need-shared-slice-read-if3 Inv-loop μ-loop
+shared-slice-read-if3 c = search needs
+
+returns-2 : tie.Need-returns-2 Inv-loop μ-loop
+returns-2 c = search (needs, next-here, act-here)
+
+add-i-2 : tie.Need-add-i-2 Inv-loop μ-loop
+add-i-2 c = search needs
+
+loop-less-2 : tie.Need-loop-less-2 Inv-loop μ-loop
+loop-less-2 c = search needs
+
+loop-again-2 : tie.Need-loop-again-2 Inv-loop μ-loop
+loop-again-2 c = (search needs, (search needs, (search (needs, next-pass), search (needs, act-pass))))
 
 returns-3 : tie.Need-returns-3 Inv-loop μ-loop
 returns-3 c = search (needs, next-none, act-none)
@@ -58,8 +70,12 @@ next-action-spec =
     shared-slice-read-if1
     returns
     shared-slice-read-if2
-    returns-2
     add-i
     loop-less
     loop-again
+    shared-slice-read-if3
+    returns-2
+    add-i-2
+    loop-less-2
+    loop-again-2
     returns-3)

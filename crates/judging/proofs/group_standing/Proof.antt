@@ -1,9 +1,13 @@
+use mathlib.Core.Path.{refl}
 use Rattle.judging.specs.Standings.{recordStanding}
 use Rattle.judging.proofs.Laws.{admits-asked}
-use Rattle.rules.proofs.Choices.{vias}
+use Rattle.rules.proofs.Choices.{via-not-true, via-not-false}
 use borrow.Author.Needs.{needs}
 use Rattle.judging.proofs.group_standing.Statement.{statement}
 use Rattle.judging.proofs.group_standing.Tie as tie
+
+presented-requires : tie.Need-presented-requires
+presented-requires c κs = search needs
 
 sub-group-admits : tie.Need-sub-group-admits
 sub-group-admits c = search needs
@@ -19,30 +23,60 @@ group-admits-requires c κs = search needs
 
 returns : tie.Need-returns
 unfolding recordStanding
-returns c = search (needs, vias, admits-asked)
+returns c =
+    let g = c .before in
+    let p = g .before .before in
+    let s = p .before .before .before .before .before .before in
+    let a = admits-asked _ (s .args .req .now) _ _ _ (g .group-admits .ensures) (p .presented .ensures) (s .pre .0 .0) in
+    via-not-true _ _ _ _ _ a (c .if1 .taken) refl
 
 is-certified-requires : tie.Need-is-certified-requires
 is-certified-requires c κs = search needs
 
 returns-2 : tie.Need-returns-2
 unfolding recordStanding
-returns-2 c = search (needs, vias, admits-asked)
+returns-2 c =
+    let f = c .before .before in
+    let g = f .before in
+    let p = g .before .before in
+    let s = p .before .before .before .before .before .before in
+    let a = admits-asked _ (s .args .req .now) _ _ _ (g .group-admits .ensures) (p .presented .ensures) (s .pre .0 .0) in
+    via-not-false _ _ _ _ _ a (f .if1 .left) (via-not-true _ _ _ _ _ (c .before .is-certified .ensures) (c .if2 .taken) refl)
 
 is-unspent-requires : tie.Need-is-unspent-requires
 is-unspent-requires c κs = search needs
 
 returns-3 : tie.Need-returns-3
 unfolding recordStanding
-returns-3 c = search (needs, vias, admits-asked)
+returns-3 c =
+    let e = c .before .before in
+    let f = e .before .before in
+    let g = f .before in
+    let p = g .before .before in
+    let s = p .before .before .before .before .before .before in
+    let a = admits-asked _ (s .args .req .now) _ _ _ (g .group-admits .ensures) (p .presented .ensures) (s .pre .0 .0) in
+    via-not-false _ _ _ _ _ a (f .if1 .left)
+    (via-not-false _ _ _ _ _ (e .before .is-certified .ensures) (e .if2 .left)
+    (via-not-true _ _ _ _ _ (c .before .is-unspent .ensures) (c .if3 .taken) refl))
 
 returns-4 : tie.Need-returns-4
 unfolding recordStanding
-returns-4 c = search (needs, vias, admits-asked)
+returns-4 c =
+    let e = c .before .before in
+    let f = e .before .before in
+    let g = f .before in
+    let p = g .before .before in
+    let s = p .before .before .before .before .before .before in
+    let a = admits-asked _ (s .args .req .now) _ _ _ (g .group-admits .ensures) (p .presented .ensures) (s .pre .0 .0) in
+    via-not-false _ _ _ _ _ a (f .if1 .left)
+    (via-not-false _ _ _ _ _ (e .before .is-certified .ensures) (e .if2 .left)
+    (via-not-false _ _ _ _ _ (c .before .is-unspent .ensures) (c .if3 .left) refl))
 
 pub group-standing-spec : {M : Type 1} → statement M
 group-standing-spec =
     tie.close
     (tie.spec
+    presented-requires
     sub-group-admits
     part-group-admits-start
     part-group-admits-end

@@ -4,7 +4,7 @@ use lib.ListN.{length, getElem?}
 use Rattle.rules.proofs.Rows.{recordsFrom}
 use Rattle.rules.specs.Basics.{records}
 use Rattle.rules.specs.Acl.{actionsOf}
-use Rattle.narrowing.proofs.Laws.{at-found, at-next, at-limit, at-group, at-none, lent-length}
+use Rattle.narrowing.proofs.Laws.{at-found, at-next, at-limit, at-file, at-group, at-none, rest-length}
 use borrow.Author.Needs.{needs}
 use Rattle.narrowing.proofs.action_at.Statement.{statement}
 use Rattle.narrowing.proofs.action_at.Tie as tie
@@ -49,8 +49,17 @@ loop-less c = search needs
 loop-again : tie.Need-loop-again Inv-loop μ-loop
 loop-again c = (search needs, search (needs, at-limit))
 
-add-result : tie.Need-add-result Inv-loop μ-loop
-add-result c = search needs
+shared-slice-read-if3 : tie.Need-shared-slice-read-if3 Inv-loop μ-loop
+shared-slice-read-if3 c = search needs
+
+add-at-2 : tie.Need-add-at-2 Inv-loop μ-loop
+add-at-2 c = search needs
+
+loop-less-2 : tie.Need-loop-less-2 Inv-loop μ-loop
+loop-less-2 c = search needs
+
+loop-again-2 : tie.Need-loop-again-2 Inv-loop μ-loop
+loop-again-2 c = (search needs, search (needs, at-file))
 
 sub-result-2 : tie.Need-sub-result-2 Inv-loop μ-loop
 sub-result-2 c = search needs
@@ -62,19 +71,19 @@ part-result-end-2 : tie.Need-part-result-end-2 Inv-loop μ-loop
 part-result-end-2 c = search needs
 
 returns-2 : tie.Need-returns-2 Inv-loop μ-loop
-returns-2 c = (search (needs, at-found), λ z. search (needs, lent-length))
+returns-2 c = (search (needs, at-found), λ z. search (needs, rest-length))
 
 sub-left : tie.Need-sub-left Inv-loop μ-loop
 sub-left c = search needs
 
-add-at-2 : tie.Need-add-at-2 Inv-loop μ-loop
-add-at-2 c = search needs
+add-at-3 : tie.Need-add-at-3 Inv-loop μ-loop
+add-at-3 c = search needs
 
-loop-less-2 : tie.Need-loop-less-2 Inv-loop μ-loop
-loop-less-2 c = search needs
+loop-less-3 : tie.Need-loop-less-3 Inv-loop μ-loop
+loop-less-3 c = search needs
 
-loop-again-2 : tie.Need-loop-again-2 Inv-loop μ-loop
-loop-again-2 c = (search needs, search (needs, at-next))
+loop-again-3 : tie.Need-loop-again-3 Inv-loop μ-loop
+loop-again-3 c = (search needs, search (needs, at-next))
 
 sub-result-3 : tie.Need-sub-result-3 Inv-loop μ-loop
 sub-result-3 c = search needs
@@ -105,15 +114,18 @@ action-at-spec =
     add-at
     loop-less
     loop-again
-    add-result
+    shared-slice-read-if3
+    add-at-2
+    loop-less-2
+    loop-again-2
     sub-result-2
     part-result-start-2
     part-result-end-2
     returns-2
     sub-left
-    add-at-2
-    loop-less-2
-    loop-again-2
+    add-at-3
+    loop-less-3
+    loop-again-3
     sub-result-3
     part-result-start-3
     part-result-end-3

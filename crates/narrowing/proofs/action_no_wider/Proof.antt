@@ -33,11 +33,17 @@ returns-2 c = search (needs, bits-compared)
 blob-no-wider-requires : tie.Need-blob-no-wider-requires
 blob-no-wider-requires c κs = search needs
 
+place-no-wider-requires : tie.Need-place-no-wider-requires
+place-no-wider-requires c κs = search needs
+
 returns-3 : tie.Need-returns-3
 returns-3 c = search (needs, blobs-compared)
 
 archive-no-wider-requires : tie.Need-archive-no-wider-requires
 archive-no-wider-requires c κs = search needs
+
+place-no-wider-requires-2 : tie.Need-place-no-wider-requires-2
+place-no-wider-requires-2 c κs = search needs
 
 returns-4 : tie.Need-returns-4
 returns-4 c = search (needs, archives-compared)
@@ -56,6 +62,8 @@ action-no-wider-spec =
     subset16-requires
     returns-2
     blob-no-wider-requires
+    place-no-wider-requires
     returns-3
     archive-no-wider-requires
+    place-no-wider-requires-2
     returns-4)

@@ -20,5 +20,9 @@ returns-3 : tie.Need-returns-3
 unfolding hasRoomUnder
 returns-3 c = search (needs, picks)
 
+returns-4 : tie.Need-returns-4
+unfolding hasRoomUnder
+returns-4 c = search (needs, picks)
+
 pub has-room-spec : {M : Type 1} → statement M
-has-room-spec = tie.close (tie.spec shared-slice-read-kind returns returns-2 returns-3)
+has-room-spec = tie.close (tie.spec shared-slice-read-kind returns returns-2 returns-3 returns-4)
