@@ -62,6 +62,7 @@ typedef struct {
 #define AKUBOLINFE_UNKNOWN_SUITE 11
 #define AKUBOLINFE_OPEN_ARCHIVE 12
 #define AKUBOLINFE_NO_SLOT 13
+#define AKUBOLINFE_OTHER_FORM 14
 #define AKUBOLINFE_NOT_LISTING 15
 
 /* The fresh ledger: all zero. */
@@ -189,5 +190,65 @@ akubolinfe_listing akubolinfe_write_listing(const uint8_t *acl, size_t acl_lengt
 
 /* The ACL of a listing at the front of the buffer. */
 akubolinfe_listing akubolinfe_read_listing(const uint8_t *text, size_t text_length, uint8_t *buffer, size_t buffer_length);
+
+/* A decoded certificate: the hash of its key, and its mechanism, which is not zero. */
+typedef struct {
+    uint8_t hash[AKUBOLINFE_HASH];
+    uint16_t mechanism;
+} akubolinfe_certificate;
+
+/* Greatest lengths: the certificates of a run, and its request records, without and with a prepared form. */
+#define AKUBOLINFE_CERTIFICATES 32
+#define AKUBOLINFE_RUN_RECORDS 100
+#define AKUBOLINFE_PREPARED_RECORDS 1000
+
+/* An answer in the buffer of a run has eight bytes, each number in four of them, greatest place first: 0 for a permit or the
+ * refusal's number, then the group that permits or came nearest, 0xffffffff where none is named. */
+#define AKUBOLINFE_ANSWER_BYTES 8
+
+/* What a run's `answer` is: run, with the number of its requests; or refused as a whole, with the refusal's number, ledger and
+ * buffer as they were. */
+#define AKUBOLINFE_RAN 1
+#define AKUBOLINFE_NOT_RUN 2
+
+typedef struct {
+    akubolinfe_ledger ledger;
+    uint64_t answer;
+    uint64_t number;
+} akubolinfe_run_outcome;
+
+/* A run of request records, at most 100, asked one after the other with the certificates of a row: their answers at the front of
+ * the buffer. A refused request changes nothing, and the run goes on. */
+akubolinfe_run_outcome akubolinfe_run(akubolinfe_ledger ledger, const uint8_t *km0, size_t km0_length, const uint8_t *acl,
+                                      size_t acl_length, const akubolinfe_certificate *row, size_t row_length,
+                                      const uint8_t *requests, size_t requests_length, uint8_t *answers,
+                                      size_t answers_length);
+
+/* The prepared form of an ACL, sets of its groups, bit g for group g: for each permission those with an action that sets its bit,
+ * and those with an action for working blobs and for recovery blobs. */
+typedef struct {
+    uint64_t uses[16];
+    uint64_t working;
+    uint64_t recovery;
+} akubolinfe_form;
+
+/* What a preparation's `answer` is: prepared, with the form; or refused, with the ACL's refusal and an empty form. */
+#define AKUBOLINFE_PREPARED 1
+#define AKUBOLINFE_NOT_PREPARED 2
+
+typedef struct {
+    akubolinfe_form form;
+    uint64_t answer;
+    uint64_t number;
+} akubolinfe_preparation;
+
+/* The form of an ACL, made once. */
+akubolinfe_preparation akubolinfe_prepare(const uint8_t *acl, size_t acl_length);
+
+/* A run of at most 1,000 request records on a prepared ACL. A form that is not this ACL's is refused with 14. */
+akubolinfe_run_outcome akubolinfe_prepared_run(akubolinfe_ledger ledger, const uint8_t *km0, size_t km0_length,
+                                               const uint8_t *acl, size_t acl_length, const akubolinfe_certificate *row,
+                                               size_t row_length, akubolinfe_form form, const uint8_t *requests,
+                                               size_t requests_length, uint8_t *answers, size_t answers_length);
 
 #endif

@@ -67,6 +67,37 @@ struct RawListing {
     line: u64,
 }
 
+/// A decoded certificate: the hash of its key, and its mechanism, which is not zero.
+#[repr(C)]
+#[derive(Clone, Copy, PartialEq, Eq, Debug)]
+pub struct Certificate {
+    pub hash: [u8; 20],
+    pub mechanism: u16,
+}
+
+/// The prepared form of an ACL: sets of its groups, bit g for group g, for each permission and for each kind of blob.
+#[repr(C)]
+#[derive(Clone, Copy, PartialEq, Eq, Debug)]
+pub struct Form {
+    pub uses: [u64; 16],
+    pub working: u64,
+    pub recovery: u64,
+}
+
+#[repr(C)]
+struct RawRun {
+    ledger: Ledger,
+    answer: u64,
+    number: u64,
+}
+
+#[repr(C)]
+struct RawPreparation {
+    form: Form,
+    answer: u64,
+    number: u64,
+}
+
 /// A load or a clear is done, a group permits, or a refusal with its number and, where that is 6 or 7, the group that came nearest.
 #[derive(Clone, Copy, PartialEq, Eq, Debug)]
 pub enum Reply {
@@ -127,10 +158,19 @@ extern "C" {
     fn akubolinfe_subject(c: u64, s: u64, h: *const u8, hn: usize, b: *mut u8, bn: usize) -> RawWritten;
     fn akubolinfe_write_listing(a: *const u8, an: usize, b: *mut u8, bn: usize) -> RawListing;
     fn akubolinfe_read_listing(t: *const u8, tn: usize, b: *mut u8, bn: usize) -> RawListing;
+    fn akubolinfe_prepare(a: *const u8, an: usize) -> RawPreparation;
+    fn akubolinfe_run(
+        l: Ledger, k: *const u8, kn: usize, a: *const u8, an: usize, c: *const Certificate, cn: usize, r: *const u8,
+        rn: usize, b: *mut u8, bn: usize,
+    ) -> RawRun;
+    fn akubolinfe_prepared_run(
+        l: Ledger, k: *const u8, kn: usize, a: *const u8, an: usize, c: *const Certificate, cn: usize, f: Form,
+        r: *const u8, rn: usize, b: *mut u8, bn: usize,
+    ) -> RawRun;
 }
 
 // A slice's pointer; NULL where it is empty, as C programs pass it.
-fn ptr(s: &[u8]) -> *const u8 {
+fn ptr<T>(s: &[T]) -> *const T {
     if s.is_empty() { std::ptr::null() } else { s.as_ptr() }
 }
 
@@ -277,4 +317,43 @@ pub fn write_listing(acl: &[u8], buffer: &mut [u8]) -> Result<u64, NotListed> {
 /// The ACL of a listing, at the front of the buffer: its length.
 pub fn read_listing(text: &[u8], buffer: &mut [u8]) -> Result<u64, NotListed> {
     listed(unsafe { akubolinfe_read_listing(ptr(text), text.len(), ptr_mut(buffer), buffer.len()) })
+}
+
+fn ran(o: RawRun) -> (Ledger, Result<u64, u64>) {
+    (o.ledger, if o.answer == 1 { Ok(o.number) } else { Err(o.number) })
+}
+
+/// Runs of request records, asked one after the other with the certificates of a row. The answers stand at the front of the buffer,
+/// eight bytes each: 0 or the refusal's number in four, the group in four, all ones where none is named. The reply is the number
+/// of requests, or the number of a refusal of the run as a whole.
+impl Ledger {
+    /// A run of at most 100 requests.
+    pub fn run(
+        self, km0: &[u8], acl: &[u8], certificates: &[Certificate], requests: &[u8], answers: &mut [u8],
+    ) -> (Ledger, Result<u64, u64>) {
+        ran(unsafe {
+            akubolinfe_run(
+                self, ptr(km0), km0.len(), ptr(acl), acl.len(), ptr(certificates), certificates.len(), ptr(requests),
+                requests.len(), ptr_mut(answers), answers.len(),
+            )
+        })
+    }
+
+    /// A run of at most 1,000 requests on a prepared ACL; a form that is not this ACL's is refused with 14.
+    pub fn prepared_run(
+        self, km0: &[u8], acl: &[u8], certificates: &[Certificate], form: Form, requests: &[u8], answers: &mut [u8],
+    ) -> (Ledger, Result<u64, u64>) {
+        ran(unsafe {
+            akubolinfe_prepared_run(
+                self, ptr(km0), km0.len(), ptr(acl), acl.len(), ptr(certificates), certificates.len(), form, ptr(requests),
+                requests.len(), ptr_mut(answers), answers.len(),
+            )
+        })
+    }
+}
+
+/// The form of an ACL, or the ACL's refusal.
+pub fn prepare(acl: &[u8]) -> Result<Form, u64> {
+    let p = unsafe { akubolinfe_prepare(ptr(acl), acl.len()) };
+    if p.answer == 1 { Ok(p.form) } else { Err(p.number) }
 }

@@ -34,7 +34,7 @@ module _ (l : Ledger) (o r : Outcome) (there : Bool) where
   is-there h p = p ∙ sym (rw (not-false there h))
 
 -- the ledger made of a slot and the counters
-ledger-made : (xs : List Slot) (counters : List ℕ) (k : ℕ)
+pub ledger-made : (xs : List Slot) (counters : List ℕ) (k : ℕ)
     → rules.ledgerWith (slotOf (getD xs k (record { counts = []; loaded = 0; last = 0 }))) counters ≡ rules.ledgerAt (record { slots = map slotOf xs; counters = counters }) k
 ledger-made xs counters k = ap (λ (s : rules.Slot). rules.ledgerWith s counters) (sym (List·getD-map slotOf xs k (record { counts = []; loaded = 0; last = 0 })))
 
@@ -42,6 +42,12 @@ slot-written : (xs : List Slot) (k : ℕ) (x : Slot) → map slotOf (set xs k x)
 slot-written [] k x = refl
 slot-written (y ∷ ys) zero x = refl
 slot-written (y ∷ ys) (suc k) x = ap (λ (zs : List rules.Slot). slotOf y ∷ zs) (slot-written ys k x)
+
+-- the cabinet with a ledger put back
+pub ledger-handed : (xs : List Slot) (counters after : List ℕ) (k : ℕ) (x : Slot)
+    → let r : rules.Cabinet = record { slots = map slotOf (set xs k x); counters = after } in
+    r ≡ rules.putBack (record { slots = map slotOf xs; counters = counters }) k (rules.ledgerWith (slotOf x) after)
+ledger-handed xs counters after k x = ap (λ (ss : List rules.Slot). let r : rules.Cabinet = record { slots = ss; counters = after } in r) (slot-written xs k x)
 
 -- the cabinet with a slot written
 abbrev outcome : Answer → List rules.Slot → List ℕ → rules.CabinetOutcome

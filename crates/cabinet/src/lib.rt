@@ -5,9 +5,9 @@ ghost use Prim.Native.Nat.{_<_};
 ghost use lib.Dec.{ltb};
 ghost use Rattle.rules.specs.Sizes.{slotsMax};
 ghost use Rattle.rules.specs.Gate.{request, narrow, expand};
-ghost use Rattle.rules.specs.Cabinet.{freshCabinet, asGate, cabinetRefused, cabinetLoad, cabinetClear, cabinetRequest, cabinetNarrow, cabinetExpand};
+ghost use Rattle.rules.specs.Cabinet.{freshCabinet, ledgerAt, putBack, asGate, cabinetRefused, cabinetLoad, cabinetClear, cabinetRequest, cabinetNarrow, cabinetExpand};
 ghost use Rattle.judging.specs.Standings.{tablesOf};
-ghost use Rattle.gate.specs.Outcomes.{settledOf};
+ghost use Rattle.gate.specs.Outcomes.{ledgerOf, settledOf};
 ghost use Rattle.refusals.specs.Refusals.{refusalNumber};
 ghost use Rattle.cabinet.specs.Kept.{placeOf, ifThere, cabinetOf, cabinetOutcomeOf};
 use gate::Ledger;
@@ -131,6 +131,39 @@ impl Cabinet {
             slots: [slot; Cabinet::SLOTS],
             counters: [0u32; Ledger::COUNTERS],
         }
+    }
+
+    // The ledger that the gate is handed for a slot.
+    pub fn ledger(self, slot: usize) -> Ledger
+        requires { ⌜ slot < slotsMax ⌝ }
+        ensures { λ r. ⌜ ledgerOf r ≡ ledgerAt (cabinetOf self) slot ⌝ }
+    {
+        let s = self.slots[slot];
+        let counts = s.counts;
+        let counters = self.counters;
+        Ledger {
+            counts,
+            counters,
+            loaded: s.loaded,
+            last: s.last,
+        }
+    }
+
+    // The cabinet with the ledger that the gate handed back for a slot, put into its places.
+    pub fn with_ledger(mut self, slot: usize, l: Ledger) -> Cabinet
+        requires { ⌜ slot < slotsMax ⌝ }
+        ensures { λ r. ⌜ cabinetOf r ≡ putBack (cabinetOf self) slot (ledgerOf l) ⌝ }
+    {
+        let counts = l.counts;
+        let counters = l.counters;
+        let s = Slot {
+            counts,
+            loaded: l.loaded,
+            last: l.last,
+        };
+        self.slots[slot] = s;
+        self.counters = counters;
+        self
     }
 
     // A refusal: the cabinet stands.

@@ -55,6 +55,23 @@ lowest-at test place (x ∷ xs) k g e = pick (test place x) refl (lowest-at test
         let r = f (rw q at e) in
         (suc (r .0), omega (arith, r .1), r .2, r .3)
 
+-- the counters that the limits of an unspent group name are not full
+pub limits-room : (counters : List ℕ) (own elapsed : ℕ) (ms : List Limit) → limitsLeft counters own elapsed ms ≡ true → all (limitHasRoom counters) ms ≡ true
+unfolding all limitLeft limitHasRoom
+limits-room counters own elapsed [] e = refl
+limits-room counters own elapsed (m ∷ ms) e =
+    and-both (limitHasRoom counters m) (all (limitHasRoom counters) ms)
+    (implication (eqb (m .sort) 2) (ltb (getD counters (m .counter) 0) fullCount) one)
+    (limits-room counters own elapsed ms (and-right (limitLeft counters own elapsed m) (all (limitLeft counters own elapsed) ms) e))
+  where
+    one : eqb (m .sort) 2 ≡ true → ltb (getD counters (m .counter) 0) fullCount ≡ true
+    one s =
+        let q2 = eqb-true (m .sort) 2 s in
+        let n = getD counters (m .counter) 0 in
+        let d : limitLeft counters own elapsed m ≡ true = and-left (limitLeft counters own elapsed m) (all (limitLeft counters own elapsed) ms) e in
+        let f : (ltb n (m .maximum) && ltb n fullCount) ≡ true = rw q2 at d in
+        and-right (ltb n (m .maximum)) (ltb n fullCount) f
+
 module _ (l : Ledger) (km0 : Bytes) (gs : List Group) (q : Request) where
   judge-found : (k : ℕ) (g : Group) → judge l km0 gs q ≡ granted k g → lowest (grants l km0 q) 0 gs ≡ group k g
   unfolding judge
@@ -91,28 +108,12 @@ module _ (l : Ledger) (km0 : Bytes) (gs : List Group) (q : Request) where
       let r = granted-limits k e in
       p ∙ rw (m ∙ r .2, t, r .1)
 
-  -- its own count and its named counters are not full
+  -- its own count is not full
   count-room : (k : ℕ) (g : Group) → grants l km0 q k g ≡ true → getD (l .counts) k 0 < fullCount
   count-room k g e =
       let u : unspent l k q g ≡ true = and-right (groupAdmits km0 q g && certified q g) (unspent l k q g) e in
       let own = getD (l .counts) k 0 in
       ltb-true own fullCount (and-left (ltb own fullCount) (limitsLeft (l .counters) own (q .time - l .loaded) (g .limits)) u)
-
-  limits-room : (own elapsed : ℕ) (ms : List Limit) → limitsLeft (l .counters) own elapsed ms ≡ true → all (limitHasRoom (l .counters)) ms ≡ true
-  unfolding all limitLeft limitHasRoom
-  limits-room own elapsed [] e = refl
-  limits-room own elapsed (m ∷ ms) e =
-      and-both (limitHasRoom (l .counters) m) (all (limitHasRoom (l .counters)) ms)
-      (implication (eqb (m .sort) 2) (ltb (getD (l .counters) (m .counter) 0) fullCount) one)
-      (limits-room own elapsed ms (and-right (limitLeft (l .counters) own elapsed m) (all (limitLeft (l .counters) own elapsed) ms) e))
-    where
-      one : eqb (m .sort) 2 ≡ true → ltb (getD (l .counters) (m .counter) 0) fullCount ≡ true
-      one s =
-          let q2 = eqb-true (m .sort) 2 s in
-          let n = getD (l .counters) (m .counter) 0 in
-          let d : limitLeft (l .counters) own elapsed m ≡ true = and-left (limitLeft (l .counters) own elapsed m) (all (limitLeft (l .counters) own elapsed) ms) e in
-          let f : (ltb n (m .maximum) && ltb n fullCount) ≡ true = rw q2 at d in
-          and-right (ltb n (m .maximum)) (ltb n fullCount) f
 
   charge-able : (k : ℕ) (ms : List Limit) → Every GroupFits gs → Granted k ≡ judgedAs (judge l km0 gs q) → ms ≡ firstLimits (drop k gs)
       → (getD (l .counts) k 0 < fullCount) × Chargeable (l .counters) ms
@@ -123,7 +124,7 @@ module _ (l : Ledger) (km0 : Bytes) (gs : List Group) (q : Request) where
       let u : unspent l k q g ≡ true = and-right (groupAdmits km0 q g && certified q g) (unspent l k q g) (r .3) in
       let x = and-right (ltb own fullCount) (limitsLeft (l .counters) own (q .time - l .loaded) (g .limits)) u in (
         count-room k g (r .3),
-        record { room = rw (m ∙ r .2) (limits-room own (q .time - l .loaded) (g .limits) x); apart = rw m (first-apart k gs f) },
+        record { room = rw (m ∙ r .2) (limits-room (l .counters) own (q .time - l .loaded) (g .limits) x); apart = rw m (first-apart k gs f) },
       )
 
 -- .. on an ACL without fault

@@ -150,6 +150,21 @@ impl Ledger {
     }
 }
 
+// A charge of the group at a place, on lent tables: own count and each named counter plus 1 where they stand. The group is unspent, so that no count is
+// full. `body` is what follows the group's first record.
+pub fn charge(
+    counts: &mut [u32; Ledger::GROUPS],
+    counters: &mut [u32; Ledger::COUNTERS],
+    place: usize,
+    body: &[u8],
+)
+    requires { ⌜ (length (now counts) ≡ groupsMax) × (length (now counters) ≡ countersMax) × (getD (now counts) place 0 < fullCount) × Chargeable (now counters) (limitsOf (records (now body))) ⌝ }
+    ensures { λ _. ⌜ (now (counts .exit) ≡ raised (now (counts .entry)) place (now (counts .entry))) × (now (counters .exit) ≡ raisedBy (now (counters .entry)) (limitsOf (records (now (body .entry)))) (now (counters .entry))) ⌝ }
+{
+    raise_named(counters, body);
+    raise_count(counts, place);
+}
+
 // What a grant comes to: a permit, but 8 where hints are to show a narrowing and do not.
 fn grant(place: usize, shown: bool) -> Reply
     ensures { λ r. ⌜ answerOf r ≡ permitIf shown place ⌝ }

@@ -5,18 +5,29 @@ ghost use Rattle.rules.specs.Gate.{load, clear, request, narrow, expand};
 ghost use Rattle.rules.specs.Cabinet.{freshCabinet, cabinetLoad, cabinetClear, cabinetRequest, cabinetNarrow, cabinetExpand};
 ghost use Rattle.rules.specs.Desk.{desk};
 ghost use Rattle.rules.specs.Subject.{subjectReply, subjectBuffer};
+ghost use Rattle.rules.specs.Runs.{run};
+ghost use Rattle.rules.specs.Prepared.{prepare, preparedRun};
+ghost use Rattle.rules.specs.CabinetRuns.{cabinetRun, cabinetPreparedRun};
 ghost use Rattle.listings.specs.Listing.{writeListing, readListingInto};
 ghost use Rattle.desk.specs.Replies as replies;
 ghost use Rattle.gate.specs.Outcomes.{ledgerOf};
 ghost use Rattle.cabinet.specs.Kept.{cabinetOf};
+ghost use Rattle.prepared.specs.Forms.{formAs, preparationFor};
+ghost use Rattle.row.specs.Rows.{rowAs};
+ghost use Rattle.told.specs.Surface.{hostRunOf, hostRunFor, hostCabinetRunOf, hostCabinetRunFor, hostFormOf, formTold};
 ghost use Rattle.surface.specs.Surface.{toldBy, toldFor, cabinetToldBy, cabinetToldFor, wroteBy, wroteFor, judgedBy, judgedIn, listedBy, listedFor};
 use cabinet::Cabinet;
 use gate::Ledger;
+use prepared::Prepared;
+use row::Certificate;
 use surface::HostCabinetOutcome;
 use surface::HostListing;
 use surface::HostOutcome;
 use surface::HostVerdict;
 use surface::HostWritten;
+use told::HostCabinetRun;
+use told::HostForm;
+use told::HostRun;
 
 // The fresh ledger.
 #[no_mangle]
@@ -195,4 +206,85 @@ pub extern "C" fn akubolinfe_read_listing(text: &[u8], buffer: &mut [u8]) -> Hos
     ensures bytes { λ _. ⌜ now (buffer .exit) ≡ readListingInto (now (text .entry)) (now (buffer .entry)) .buffer ⌝ }
 {
     surface::listed(listing::read_listing(text, buffer))
+}
+
+// The form of an ACL.
+#[no_mangle]
+pub extern "C" fn akubolinfe_prepare(acl: &[u8]) -> HostForm
+    ensures { λ r. ⌜ hostFormOf r ≡ formTold (preparationFor (prepare (now (acl .entry)))) ⌝ }
+{
+    told::form(prepared::prepare(acl))
+}
+
+// A run over decoded certificates.
+#[no_mangle]
+pub extern "C" fn akubolinfe_run(
+    ledger: Ledger,
+    km0: &[u8],
+    acl: &[u8],
+    row: &[Certificate],
+    requests: &[u8],
+    answers: &mut [u8],
+) -> HostRun
+    ensures { λ r. ⌜ hostRunOf r (now (answers .exit)) ≡ hostRunFor (run (ledgerOf ledger) (now (km0 .entry)) (now (acl .entry)) (rowAs (now (row .entry))) (now (requests .entry)) (now (answers .entry))) ⌝ }
+{
+    told::run(runs::run(ledger, km0, acl, row, requests, answers))
+}
+
+// A run on a prepared ACL.
+#[no_mangle]
+pub extern "C" fn akubolinfe_prepared_run(
+    ledger: Ledger,
+    km0: &[u8],
+    acl: &[u8],
+    row: &[Certificate],
+    form: Prepared,
+    requests: &[u8],
+    answers: &mut [u8],
+) -> HostRun
+    ensures { λ r. ⌜ hostRunOf r (now (answers .exit)) ≡ hostRunFor (preparedRun (ledgerOf ledger) (now (km0 .entry)) (now (acl .entry)) (rowAs (now (row .entry))) (formAs form) (now (requests .entry)) (now (answers .entry))) ⌝ }
+{
+    told::run(runs::prepared_run(ledger, km0, acl, row, form, requests, answers))
+}
+
+// A run over decoded certificates in a slot of a cabinet.
+#[no_mangle]
+pub extern "C" fn akubolinfe_cabinet_run(
+    cabinet: Cabinet,
+    slot: usize,
+    km0: &[u8],
+    acl: &[u8],
+    row: &[Certificate],
+    requests: &[u8],
+    answers: &mut [u8],
+) -> HostCabinetRun
+    ensures { λ r. ⌜ hostCabinetRunOf r (now (answers .exit)) ≡ hostCabinetRunFor (cabinetRun (cabinetOf cabinet) slot (now (km0 .entry)) (now (acl .entry)) (rowAs (now (row .entry))) (now (requests .entry)) (now (answers .entry))) ⌝ }
+{
+    told::cabinet_run(slots::run(cabinet, slot, km0, acl, row, requests, answers))
+}
+
+// A run on a prepared ACL in a slot of a cabinet.
+#[no_mangle]
+pub extern "C" fn akubolinfe_cabinet_prepared_run(
+    cabinet: Cabinet,
+    slot: usize,
+    km0: &[u8],
+    acl: &[u8],
+    row: &[Certificate],
+    form: Prepared,
+    requests: &[u8],
+    answers: &mut [u8],
+) -> HostCabinetRun
+    ensures { λ r. ⌜ hostCabinetRunOf r (now (answers .exit)) ≡ hostCabinetRunFor (cabinetPreparedRun (cabinetOf cabinet) slot (now (km0 .entry)) (now (acl .entry)) (rowAs (now (row .entry))) (formAs form) (now (requests .entry)) (now (answers .entry))) ⌝ }
+{
+    told::cabinet_run(slots::prepared_run(
+        cabinet,
+        slot,
+        km0,
+        acl,
+        row,
+        form,
+        requests,
+        answers,
+    ))
 }

@@ -88,7 +88,7 @@ fn limits_left(counters: &[u32], own: u32, elapsed: u64, body: &[u8]) -> bool
 }
 
 // Whether a group is unspent.
-fn is_unspent(counters: &[u32], own: u32, elapsed: u64, body: &[u8]) -> bool
+pub fn is_unspent(counters: &[u32], own: u32, elapsed: u64, body: &[u8]) -> bool
     ensures { λ r. ⌜ r ≡ unspentWith (now (counters .entry)) own elapsed (limitsOf (records (now (body .entry)))) ⌝ }
 {
     (own < FULL) & limits_left(counters, own, elapsed, body)

@@ -6,7 +6,7 @@ use mathlib.Core.Bool.{Bool, true, false, _&&_}
 use lib.Dec.{eqb, leb}
 use Rattle.rules.specs.Basics.{if_then_else_}
 use Rattle.refusals.specs.declared.Refusal.{Refusal}
-use Rattle.refusals.specs.declared.Refusal.the-variants.{BadLength, Malformed, TooMany, NotNarrower, ShortBuffer, OutOfRange, UnknownSuite, OpenArchive, NoSlot}
+use Rattle.refusals.specs.declared.Refusal.the-variants.{BadLength, Malformed, TooMany, NotNarrower, ShortBuffer, OutOfRange, UnknownSuite, OpenArchive, NoSlot, OtherForm}
 use Rattle.refusals.specs.declared.Denial.{Denial}
 use Rattle.refusals.specs.declared.Denial.the-variants.{Early, Unadmitted, Uncertified, Exhausted}
 use Rattle.refusals.specs.Refusals.{refusalNumber, denialNumber, denialGroup}
@@ -22,7 +22,8 @@ refusalBack n =
     else if eqb n 10 then OutOfRange
     else if eqb n 11 then UnknownSuite
     else if eqb n 12 then OpenArchive
-    else NoSlot
+    else if eqb n 13 then NoSlot
+    else OtherForm
 
 -- .. it is what was read
 pub refusal-back : (r : Refusal) → refusalBack (refusalNumber r) ≡ r
@@ -35,6 +36,7 @@ refusal-back OutOfRange = refl
 refusal-back UnknownSuite = refl
 refusal-back OpenArchive = refl
 refusal-back NoSlot = refl
+refusal-back OtherForm = refl
 
 -- .. with its group, of a denial
 abbrev pub denialBack : ℕ → Option ℕ → Denial
@@ -61,6 +63,7 @@ refusal-not-denied OutOfRange = refl
 refusal-not-denied UnknownSuite = refl
 refusal-not-denied OpenArchive = refl
 refusal-not-denied NoSlot = refl
+refusal-not-denied OtherForm = refl
 
 pub denial-denied : (d : Denial) → denies (denialNumber d) ≡ true
 denial-denied Early = refl

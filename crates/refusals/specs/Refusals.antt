@@ -3,7 +3,7 @@ use Prim.Native.Nat.{ℕ}
 use mathlib.Core.Option.{Option, none, some}
 use Rattle.rules.specs.Numbers as numbers
 use Rattle.refusals.specs.declared.Refusal.{Refusal}
-use Rattle.refusals.specs.declared.Refusal.the-variants.{BadLength, Malformed, TooMany, NotNarrower, ShortBuffer, OutOfRange, UnknownSuite, OpenArchive, NoSlot}
+use Rattle.refusals.specs.declared.Refusal.the-variants.{BadLength, Malformed, TooMany, NotNarrower, ShortBuffer, OutOfRange, UnknownSuite, OpenArchive, NoSlot, OtherForm}
 use Rattle.refusals.specs.declared.Denial.{Denial}
 use Rattle.refusals.specs.declared.Denial.the-variants.{Early, Unadmitted, Uncertified, Exhausted}
 
@@ -18,6 +18,7 @@ refusalNumber OutOfRange = numbers.outOfRange
 refusalNumber UnknownSuite = numbers.unknownSuite
 refusalNumber OpenArchive = numbers.openArchive
 refusalNumber NoSlot = numbers.noSlot
+refusalNumber OtherForm = numbers.otherForm
 
 -- .. 4 to 7
 abbrev pub denialNumber : Denial → ℕ

@@ -14,6 +14,7 @@ pub enum Refusal {
     UnknownSuite,
     OpenArchive,
     NoSlot,
+    OtherForm,
 }
 
 // Why no group grants: the time goes back; none admits; none that admits is certified, with the lowest that admits; none of those is unspent, with the
@@ -39,6 +40,7 @@ pub fn number(r: Refusal) -> u8
         Refusal::UnknownSuite => 11,
         Refusal::OpenArchive => 12,
         Refusal::NoSlot => 13,
+        Refusal::OtherForm => 14,
     }
 }
 

@@ -5,6 +5,11 @@ pub mod Few
 pub mod Faults
 pub mod Places
 pub mod Sets
+pub mod Joined
+pub mod Written
+pub mod Asking
+pub mod GroupSets
+pub mod Forms
 pub mod Computing
 pub mod Samples
 pub mod Examples
@@ -14,3 +19,5 @@ pub mod FileGuards
 pub mod DayGuards
 pub mod SubjectGuards
 pub mod CabinetExamples
+pub mod RunExamples
+pub mod PreparedExamples

@@ -26,6 +26,12 @@ pub set-rest : (b : Bool) (n : ℕ) → ((if b then 1 else 0) + 2 * n) / 2 ≡ n
 set-rest true n = omega arith
 set-rest false n = omega arith
 
+-- tests that agree make the same set
+pub set-alike : {A : Type 0} (t u : A → Bool) (xs : List A) → ((x : A) → t x ≡ u x) → setOf t xs ≡ setOf u xs
+unfolding setOf
+set-alike t u [] f = refl
+set-alike t u (x ∷ xs) f = rw (f x, set-alike t u xs f)
+
 -- a set of n elements has n bits
 pub set-bits : {A : Type 0} (t : A → Bool) (xs : List A) → setOf t xs < 2 ^ length xs
 unfolding setOf

@@ -2,7 +2,7 @@
 use Prim.Native.Nat.{ℕ, zero, suc, _+_, _*_, _/_, _%_, _^_}
 use Prim.Native.String.{String}
 use Prim.Native.Char.{code}
-use mathlib.Core.List.{List, [], _∷_, map}
+use mathlib.Core.List.{List, [], _∷_, _++_, map}
 use mathlib.Core.Option.{Option, none, some}
 use mathlib.Core.Bool.{Bool, true, false, not, _&&_, _||_}
 use lib.ListN.{length, getD, take, drop}
@@ -142,6 +142,11 @@ chunks (suc n) bs = take recordBytes bs ∷ chunks n (drop recordBytes bs)
 -- "Files are records of 64 bytes, no header."
 unfoldable pub records : Bytes → List Bytes
 records bs = chunks (length bs / recordBytes) bs
+
+-- the file of given records, one after the other
+unfoldable pub joined : List Bytes → Bytes
+joined [] = []
+joined (r ∷ rs) = r ++ joined rs
 
 -- whole records, and not more than `most` of them
 unfoldable pub fits : ℕ → Bytes → Bool

@@ -29,6 +29,12 @@ pub const DELEGATIONS: usize = 16;
 
 pub const LINKS: usize = 4;
 
+// Permissions.
+pub const PERMISSIONS: usize = 16;
+
+// Bytes of an answer in a run.
+pub const ANSWER: usize = 8;
+
 // The greatest lengths of files, in records.
 pub const ACL_RECORDS: usize = GROUPS * (1 + LIMITS + 2 * ACTIONS);
 
@@ -39,3 +45,7 @@ pub const REQUEST_RECORDS: usize = 2 + CERTIFICATES + DELEGATIONS;
 pub const BUNDLE_RECORDS: usize = 13 + LISTED + 6 + 1;
 
 pub const HINT_RECORDS: usize = GROUPS;
+
+pub const RUN_RECORDS: usize = 100;
+
+pub const PREPARED_RECORDS: usize = 1000;

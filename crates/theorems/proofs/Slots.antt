@@ -104,7 +104,7 @@ slots-kept c x = pick (kinds x)
     pick (inr p) = rw (p .1) (ap (λ (ss : List Slot). length ss) (clear-slots c (p .0)))
 
 -- a slot's ledger put back as it was
-put-back : (c : Cabinet) (k : ℕ) → putBack c k (ledgerAt c k) ≡ c
+pub put-back : (c : Cabinet) (k : ℕ) → putBack c k (ledgerAt c k) ≡ c
 put-back c k = ap (λ (ss : List Slot). let d : Cabinet = record { slots = ss; counters = c .counters } in d) (set-getD (c .slots) k emptySlot)
 
 clear-refused : (c : Cabinet) (counter n : ℕ) (near : Option ℕ) → cabinetOutcome c (clearingAll counter) .answer ≡ refuse n near → cabinetAfter c (clearingAll counter) ≡ c

@@ -1,0 +1,232 @@
+// The requests of a run one after the other: the test of a record, the judgement, the charge in place on the lent tables, and the answer of eight
+// bytes.
+ghost use mathlib.Core.Path.{_≡_};
+ghost use Prim.Native.Nat.{_≤_, _<_, _+_, _*_, _/_};
+ghost use lib.ListN.{length, getD, drop};
+ghost use Rattle.rules.specs.Sizes.{recordBytes, answerBytes, groupsMax, countersMax, fullCount, preparedRecords};
+ghost use Rattle.rules.specs.Numbers.{malformed};
+ghost use Rattle.rules.specs.Basics.{records};
+ghost use Rattle.rules.specs.Acl.{limitsOf, aclOf};
+ghost use Rattle.rules.specs.Ledger.{raised, raisedBy};
+ghost use Rattle.rules.specs.Written.{bigEndian};
+ghost use Rattle.rules.specs.Runs.{answerWith};
+ghost use Rattle.rules.proofs.Asking.{overAt, writing};
+ghost use Rattle.prepared.specs.Places.{Inside};
+ghost use Rattle.judging.specs.Standings.{tablesOf};
+ghost use Rattle.choosing.specs.Deciding.{Ready, askSets};
+ghost use Rattle.refusals.specs.Refusals.{denialGroup};
+ghost use Rattle.gate.specs.Outcomes.{Chargeable};
+ghost use Rattle.asking.specs.Answers.{placeAs, numberAs, placeOr, nearAs, shownAs, Answers};
+ghost use Rattle.asking.specs.Written.{Wrote};
+use choosing::Sets;
+use judging::Judged;
+use refusals::Denial;
+use refusals::Refusal;
+
+// A charge of the group at a place, whose limits begin where a table says.
+fn charge_at(
+    counts: &mut [u32; sizes::GROUPS],
+    counters: &mut [u32; sizes::COUNTERS],
+    acl: &[u8],
+    bodies: &[usize; sizes::GROUPS],
+    k: usize,
+)
+    requires { ⌜ (k < groupsMax) × (length (now counts) ≡ groupsMax) × (length (now counters) ≡ countersMax) × (getD (now counts) k 0 < fullCount) × Inside (now acl) (now bodies) × Chargeable (now counters) (limitsOf (records (drop (getD (now bodies) k 0) (now acl)))) ⌝ }
+    ensures { λ _. ⌜ (now (counts .exit) ≡ raised (now (counts .entry)) k (now (counts .entry))) × (now (counters .exit) ≡ raisedBy (now (counters .entry)) (limitsOf (records (drop (getD (now (bodies .entry)) k 0) (now (acl .entry))))) (now (counters .entry))) ⌝ }
+{
+    let at = bodies[k];
+    gate::charge(counts, counters, k, &acl[at..]);
+}
+
+// No group is named: all ones.
+const NO_GROUP: u32 = 4294967295;
+
+// What becomes of one request: its answer, and the last time after it.
+struct Answered {
+    number: u32,
+    group: u32,
+    last: u64,
+}
+
+// The group that grants; past the last place where none does.
+fn group_of(judged: Judged) -> usize
+    ensures { λ r. ⌜ r ≡ placeAs judged ⌝ }
+{
+    match judged {
+        Judged::Granted(k) => k,
+        Judged::Denied(_) => sizes::GROUPS,
+    }
+}
+
+// The number of a judgement; 0 where a group grants.
+fn number_of(judged: Judged) -> u32
+    ensures { λ r. ⌜ r ≡ numberAs judged ⌝ }
+{
+    match judged {
+        Judged::Granted(_) => 0,
+        Judged::Denied(d) => refusals::denial_number(d) as u32,
+    }
+}
+
+// The group that a denial names; past the last place where it names none.
+fn denial_near(denial: Denial) -> usize
+    ensures { λ r. ⌜ r ≡ placeOr (denialGroup denial) ⌝ }
+{
+    match denial {
+        Denial::Early => sizes::GROUPS,
+        Denial::Unadmitted => sizes::GROUPS,
+        Denial::Uncertified(k) => k,
+        Denial::Exhausted(k) => k,
+    }
+}
+
+// .. of a judgement.
+fn near_of(judged: Judged) -> usize
+    ensures { λ r. ⌜ r ≡ nearAs judged ⌝ }
+{
+    match judged {
+        Judged::Granted(_) => sizes::GROUPS,
+        Judged::Denied(d) => denial_near(d),
+    }
+}
+
+// A group as an answer shows it: all ones past the last place.
+fn shown(near: usize) -> u32
+    ensures { λ r. ⌜ r ≡ shownAs near ⌝ }
+{
+    if near < sizes::GROUPS {
+        return near as u32;
+    }
+    NO_GROUP
+}
+
+// A refusal: the last time stands.
+fn refusal(number: u32, near: usize, last: u64) -> Answered
+    ensures { λ r. ⌜ (r .number ≡ number) × (r .group ≡ shownAs near) × (r .last ≡ last) ⌝ }
+{
+    Answered {
+        number,
+        group: shown(near),
+        last,
+    }
+}
+
+// The answer of a malformed record: 2, and no group.
+fn bad_record(last: u64) -> Answered
+    ensures { λ r. ⌜ (r .number ≡ malformed) × (r .group ≡ shownAs groupsMax) × (r .last ≡ last) ⌝ }
+{
+    let number = refusals::number(Refusal::Malformed) as u32;
+    refusal(number, sizes::GROUPS, last)
+}
+
+// A permit: the last time is the request's.
+fn permit(k: usize, time: u64) -> Answered
+    requires { ⌜ k < groupsMax ⌝ }
+    ensures { λ r. ⌜ (r .number ≡ 0) × (r .group ≡ k) × (r .last ≡ time) ⌝ }
+{
+    Answered {
+        number: 0,
+        group: k as u32,
+        last: time,
+    }
+}
+
+// One request of a run: the tables are charged in place.
+fn answer_one(
+    counts: &mut [u32; sizes::GROUPS],
+    counters: &mut [u32; sizes::COUNTERS],
+    loaded: u64,
+    last: u64,
+    km0: &[u8],
+    acl: &[u8],
+    bodies: &[usize; sizes::GROUPS],
+    uses: &[u64; sizes::PERMISSIONS],
+    sets: Sets,
+    rec: &[u8],
+) -> Answered
+    requires { ⌜ Ready (now acl) (now bodies) (now uses) (sets .working) (sets .recovery) × (length (now counts) ≡ groupsMax) × (length (now counters) ≡ countersMax) × (length (now rec) ≡ recordBytes) ⌝ }
+    ensures { λ r. ⌜ Answers (askSets (now (km0 .entry)) (aclOf (now (acl .entry))) (sets .certified) (tablesOf (now (counts .entry)) (now (counters .entry)) loaded last) (now (rec .entry))) (now (counts .exit)) (now (counters .exit)) loaded (r .number) (r .group) (r .last) ⌝ }
+{
+    if !request::stands_alone(rec) {
+        return bad_record(last);
+    }
+    let judged = choosing::judge_record(
+        counts,
+        counters,
+        loaded,
+        last,
+        km0,
+        acl,
+        bodies,
+        uses,
+        sets,
+        rec,
+    );
+    let k = group_of(judged);
+    if sizes::GROUPS <= k {
+        return refusal(number_of(judged), near_of(judged), last);
+    }
+    charge_at(counts, counters, acl, bodies, k);
+    permit(k, fields::be64(rec, 56))
+}
+
+// Four bytes of a buffer, the greatest place first.
+fn put32(buf: &mut [u8], at: usize, n: u32)
+    requires { ⌜ at + 4 ≤ length (now buf) ⌝ }
+    ensures { λ _. ⌜ now (buf .exit) ≡ overAt at (bigEndian 4 n) (now (buf .entry)) ⌝ }
+{
+    buf[at] = (n / 16777216) as u8;
+    buf[at + 1] = (n / 65536 % 256) as u8;
+    buf[at + 2] = (n / 256 % 256) as u8;
+    buf[at + 3] = (n % 256) as u8;
+}
+
+// An answer: a number, then a group. The group is written first: the compiler then makes one store of its four bytes.
+fn put_answer(buf: &mut [u8], at: usize, number: u32, group: u32)
+    requires { ⌜ at + answerBytes ≤ length (now buf) ⌝ }
+    ensures { λ _. ⌜ now (buf .exit) ≡ overAt at (answerWith number group) (now (buf .entry)) ⌝ }
+{
+    put32(buf, at + 4, group);
+    put32(buf, at, number);
+}
+
+// The requests of a run one after the other, on the lent tables; the last time after them.
+pub fn run_records(
+    counts: &mut [u32; sizes::GROUPS],
+    counters: &mut [u32; sizes::COUNTERS],
+    loaded: u64,
+    before: u64,
+    km0: &[u8],
+    acl: &[u8],
+    bodies: &[usize; sizes::GROUPS],
+    uses: &[u64; sizes::PERMISSIONS],
+    sets: Sets,
+    requests: &[u8],
+    buf: &mut [u8],
+) -> u64
+    requires { ⌜ Ready (now acl) (now bodies) (now uses) (sets .working) (sets .recovery) × (length (now counts) ≡ groupsMax) × (length (now counters) ≡ countersMax) × (length (now requests) ≤ preparedRecords * recordBytes) × (length (now requests) / recordBytes * answerBytes ≤ length (now buf)) ⌝ }
+    ensures { λ r. ⌜ Wrote (now (counts .exit)) (now (counters .exit)) loaded r (now (buf .exit)) (writing (askSets (now (km0 .entry)) (aclOf (now (acl .entry))) (sets .certified)) (tablesOf (now (counts .entry)) (now (counters .entry)) loaded before) (now (buf .entry)) 0 (records (now (requests .entry)))) ⌝ }
+{
+    let mut last = before;
+    let mut at = 0;
+    let mut out = 0;
+    while sizes::RECORD <= requests.len() - at {
+        let a = answer_one(
+            counts,
+            counters,
+            loaded,
+            last,
+            km0,
+            acl,
+            bodies,
+            uses,
+            sets,
+            &requests[at..at + sizes::RECORD],
+        );
+        put_answer(buf, out, a.number, a.group);
+        last = a.last;
+        at += sizes::RECORD;
+        out += sizes::ANSWER;
+    }
+    last
+}

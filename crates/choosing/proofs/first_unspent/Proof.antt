@@ -1,0 +1,54 @@
+use Prim.Native.Nat.{_<_, _^_}
+use mathlib.Core.Path.{_≡_, refl}
+use Rattle.rules.specs.Sizes.{groupsMax}
+use Rattle.rules.proofs.GroupSets.{firstIn}
+use Rattle.choosing.specs.Members.{leftAt}
+use Rattle.choosing.proofs.Laws.{lowest-group, walk-stop, walk-next, walk-done, walk-less, walk-within}
+use borrow.Author.Needs.{needs}
+use Rattle.choosing.proofs.first_unspent.Statement.{statement}
+use Rattle.choosing.proofs.first_unspent.Tie as tie
+
+abbrev Inv-loop : tie.InvT-loop
+Inv-loop counts counters elapsed acl bodies set left₀ left = (left < 2 ^ groupsMax) × (firstIn (leftAt counts counters elapsed acl bodies) 64 left ≡ firstIn (leftAt counts counters elapsed acl bodies) 64 set)
+
+abbrev μ-loop : tie.MeasureT-loop
+μ-loop counts counters elapsed acl bodies set left₀ left = left
+
+loop-holds : tie.Need-loop-holds Inv-loop μ-loop
+loop-holds c = (search needs, refl)
+
+lowest-requires : tie.Need-lowest-requires Inv-loop μ-loop
+lowest-requires c κs = search needs
+
+left-at-requires : tie.Need-left-at-requires Inv-loop μ-loop
+left-at-requires c κs = (search (needs, lowest-group), search needs)
+
+returns : tie.Need-returns Inv-loop μ-loop
+returns c = search (needs, walk-stop)
+
+sub-left : tie.Need-sub-left Inv-loop μ-loop
+sub-left c = search needs
+
+loop-less : tie.Need-loop-less Inv-loop μ-loop
+loop-less c = search (needs, walk-less)
+
+loop-again : tie.Need-loop-again Inv-loop μ-loop
+loop-again c = (search (needs, walk-within), search (needs, walk-next))
+
+returns-2 : tie.Need-returns-2 Inv-loop μ-loop
+returns-2 c = search (needs, walk-done)
+
+pub first-unspent-spec : {M : Type 1} → statement M
+first-unspent-spec =
+    tie.close
+    (tie.spec
+    Inv-loop
+    μ-loop
+    loop-holds
+    lowest-requires
+    left-at-requires
+    returns
+    sub-left
+    loop-less
+    loop-again
+    returns-2)

@@ -1,0 +1,4 @@
+pub mod Making
+pub mod Placing
+pub mod Preparing
+pub mod Determined

@@ -1,0 +1,24 @@
+-- What a table of places in an ACL file says.
+use Prim.Native.Nat.{ℕ, _-_, _≤_, _<_}
+use mathlib.Core.List.{List}
+use mathlib.Core.Path.{_≡_}
+use mathlib.Core.Option.{some}
+use lib.ListN.{length, getD, drop, getElem?}
+use Rattle.rules.specs.Sizes.{recordBytes, groupsMax}
+use Rattle.rules.specs.Basics.{Bytes, Every, part, records}
+use Rattle.rules.specs.Acl.{groupOf, aclOf}
+
+-- every place of a table stands in a file, or at its end
+unfoldable pub Inside : Bytes → List ℕ → Type 0
+Inside acl bodies = Every (λ b. b ≤ length acl) bodies
+
+-- group k stands before the byte b: its first record ends there, and its limits and actions follow
+pub record BodyAt (acl : Bytes) (k b : ℕ) : Type 0 where
+  pub after : recordBytes ≤ b
+  pub there : getElem? (aclOf acl) k ≡ some (groupOf (part (b - recordBytes) recordBytes acl) (records (drop b acl)))
+
+-- a table of where each group's limits and actions begin
+pub record Bodies (acl : Bytes) (bodies : List ℕ) : Type 0 where
+  pub sized : length bodies ≡ groupsMax
+  pub inside : Inside acl bodies
+  pub filled : (k : ℕ) → k < length (aclOf acl) → BodyAt acl k (getD bodies k 0)

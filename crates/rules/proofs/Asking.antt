@@ -1,0 +1,208 @@
+-- What it means to ask the gate with a row of decoded certificates: the file that the row stands for reads back as the row, and of its faults only the
+-- request record's own is left once the run as a whole is not refused.
+use Prim.Native.Nat.{ℕ, _+_, _*_, _≤_}
+use native.Mathlib.Omega.{arith}
+use native.Mathlib.Nat.{add-zero}
+use mathlib.Core.Path.{_≡_, refl, sym, _∙_, ap, ap₂}
+use mathlib.Core.List.{List, [], _∷_, _++_, map, append-assoc}
+use mathlib.Core.Option.{Option, none, some}
+use mathlib.Core.Bool.{Bool, true, false, _&&_}
+use lib.ListN.{length, take, drop, length-append, length-drop, length-map, take-append-drop}
+use lib.Seq.{take-at, drop-at, drop-drop, length-take-le}
+use lib.Dec.{eqb, ltb}
+use borrow.Author.Tests.{eqb-false, not-true, leb-true, lt-ltb}
+use Rattle.rules.specs.Sizes.{recordBytes, hashBytes, aclRecords, certificatesMax, requestRecords, answerBytes}
+use Rattle.rules.specs.Numbers.{badLength, malformed, tooMany, shortBuffer}
+use Rattle.rules.specs.Basics.{Bytes, all, Every, number, kind, orNext, firstFault, recordFault, scan, records, fits}
+use Rattle.rules.specs.Acl.{announcesFile, aclOf, aclFault}
+use Rattle.rules.specs.Request.{Certificate, certificatesOf, delegationsOf, blobFileNext, requestFrom, requestLaidOut, standsAlone, requestRecordFault, certificateFault, presentedRecordFault, afterPresented, presentedEnd, presentedFault, fileRequestRecord, fileNext, requestFault}
+use Rattle.rules.specs.Ledger.{Ledger}
+use Rattle.rules.specs.Gate.{Answer, done, permit, refuse, Outcome, judge, permitted, unlessFault, settle, request}
+use Rattle.rules.specs.Written.{bigEndian, certificateBytes}
+use Rattle.rules.specs.Runs.{withRow, requestWith, askGate, answerOf, asked, requestsIn, runLengthsFit, mechanismNamed, runFault}
+use Rattle.rules.proofs.Laws.{and-left, and-right, unless-passed, fault-none-every}
+use Rattle.rules.proofs.Joined.{Whole, joined-records, joined-fits}
+use Rattle.rules.proofs.Written.{certificate-whole, certificate-read, certificate-laid-out}
+
+-- What the Rattle type of a decoded certificate sees to: a hash of 20 bytes.
+abbrev pub Decoded : Certificate → Type 0
+Decoded c = length (c .hash) ≡ hashBytes
+
+named : (c : Certificate) → mechanismNamed c ≡ true → (c .mechanism ≡ 0 → ⊥)
+named c m e = eqb-false (c .mechanism) 0 (not-true (eqb (c .mechanism) 0) m) e
+
+-- The file's records: the request record, and one for each certificate.
+row-whole : (row : List Certificate) → Every Decoded row → Every Whole (map certificateBytes row)
+row-whole [] d = tt
+row-whole (c ∷ cs) d = (certificate-whole c (d .0), row-whole cs (d .1))
+
+file-records : (r : Bytes) (row : List Certificate) → length r ≡ recordBytes → Every Decoded row → records (withRow r row) ≡ r ∷ map certificateBytes row
+unfolding withRow
+file-records r row n d = joined-records (r ∷ map certificateBytes row) (n, row-whole row d)
+
+-- the file is whole records, and not too long
+file-fits : (r : Bytes) (row : List Certificate) → length r ≡ recordBytes → Every Decoded row → length row ≤ certificatesMax → fits requestRecords (withRow r row) ≡ true
+unfolding withRow
+file-fits r row n d few =
+    let l = length-map row certificateBytes in
+    joined-fits requestRecords (r ∷ map certificateBytes row) (n, row-whole row d) (omega arith)
+
+-- its certificates have no fault, and are the row
+kind-9 : (c : Certificate) → kind (certificateBytes c) ≡ 9
+unfolding certificateBytes
+kind-9 c = refl
+
+row-sound : (n : ℕ) (row : List Certificate) → Every Decoded row → n + length row ≤ certificatesMax → all mechanismNamed row ≡ true
+    → scan presentedRecordFault afterPresented presentedEnd (record { certificates = n; delegations = 0 }) (map certificateBytes row) ≡ none
+unfolding scan presentedRecordFault certificateFault afterPresented recordFault firstFault all
+row-sound n [] d few m = refl
+row-sound n (c ∷ cs) d few m =
+    let g = certificate-laid-out c (d .0) (named c (and-left (mechanismNamed c) (all mechanismNamed cs) m)) in
+    let t : ltb n certificatesMax ≡ true = lt-ltb n certificatesMax (omega arith) in
+    rw (kind-9 c, g, t) (row-sound (n + 1) cs (d .1) (omega arith) (and-right (mechanismNamed c) (all mechanismNamed cs) m))
+
+row-back : (row : List Certificate) → Every Decoded row → (certificatesOf (map certificateBytes row) ≡ row) × (delegationsOf (map certificateBytes row) ≡ [])
+unfolding certificatesOf delegationsOf
+row-back [] d = (refl, refl)
+row-back (c ∷ cs) d = let i = row-back cs (d .1) in (rw (kind-9 c, certificate-read c (d .0), i .0), rw (kind-9 c, i .1))
+
+-- no record of kind 15 comes next
+no-file : (row : List Certificate) → (fileNext (map certificateBytes row) ≡ false) × (blobFileNext (map certificateBytes row) ≡ none)
+unfolding fileNext fileRequestRecord blobFileNext
+no-file [] = (refl, refl)
+no-file (c ∷ cs) = (rw (kind-9 c), rw (kind-9 c))
+
+-- The file's fault is the request record's own: one that announces a record of kind 15 is malformed here.
+row-fault : (r : Bytes) (row : List Certificate) → Every Decoded row → length row ≤ certificatesMax → all mechanismNamed row ≡ true → requestFault requestLaidOut (r ∷ map certificateBytes row) ≡ requestRecordFault r
+unfolding requestFault requestRecordFault standsAlone presentedFault firstFault
+row-fault r row d few m = pick (requestLaidOut r) refl (announcesFile r) refl
+  where
+    pick : (a : Bool) → requestLaidOut r ≡ a → (b : Bool) → announcesFile r ≡ b → requestFault requestLaidOut (r ∷ map certificateBytes row) ≡ requestRecordFault r
+    pick false e b f = rw e
+    pick true e true f = rw (e, f, no-file row .0)
+    pick true e false f = rw (e, f, row-sound 0 row d (omega arith) m)
+
+-- .. and it asks for what its records say
+row-request : (r : Bytes) (row : List Certificate) → Every Decoded row → requestFrom (r ∷ map certificateBytes row) ≡ requestWith r row
+unfolding requestFrom
+row-request r row d = let b = row-back row d in rw (no-file row .1, b .0, b .1)
+
+-- What a run not refused whole knows of its ACL, KM0 and row.
+pub record Sound (km0 acl : Bytes) (row : List Certificate) : Type 0 where
+  pub decoded : Every Decoded row
+  pub few : length row ≤ certificatesMax
+  pub named : all mechanismNamed row ≡ true
+  pub km0Length : eqb (length km0) hashBytes ≡ true
+  pub aclLength : fits aclRecords acl ≡ true
+  pub aclSound : aclFault (records acl) ≡ none
+
+-- One request of such a run, asked of the gate: its record's own fault, or else the judgement of what it asks with the row's certificates.
+pub ask-gate : (km0 acl : Bytes) (row : List Certificate) → Sound km0 acl row → (l : Ledger) (r : Bytes) → length r ≡ recordBytes
+    → askGate km0 acl row l r ≡ unlessFault l (requestRecordFault r) (settle l (number 56 8 r) permitted (judge l km0 (aclOf acl) (requestWith r row)))
+unfolding request firstFault
+ask-gate km0 acl row s l r n =
+    let rs = file-records r row n (s .decoded) in
+    let a = file-fits r row n (s .decoded) (s .few) in
+    let f = row-fault r row (s .decoded) (s .few) (s .named) in
+    rw (rs, s .km0Length, s .aclLength, a, s .aclSound, f) (pick (requestRecordFault r) refl)
+  where
+    pick : (o : Option ℕ) → requestRecordFault r ≡ o
+        → unlessFault l (orNext (requestRecordFault r) none) (settle l (requestFrom (r ∷ map certificateBytes row) .time) permitted (judge l km0 (aclOf acl) (requestFrom (r ∷ map certificateBytes row))))
+        ≡ unlessFault l (requestRecordFault r) (settle l (number 56 8 r) permitted (judge l km0 (aclOf acl) (requestWith r row)))
+    pick (some f) e = rw e
+    pick none e = rw (e, row-request r row (s .decoded))
+
+-- a run that is not refused whole
+pub run-sound : (most : ℕ) (km0 acl : Bytes) (row : List Certificate) (requests buffer : Bytes) → Every Decoded row → runFault most km0 acl row requests buffer ≡ none
+    → Sound km0 acl row × (requestsIn requests * answerBytes ≤ length buffer)
+unfolding runFault
+run-sound most km0 acl row requests buffer d e =
+    let h = fault-none-every _ e in
+    let t = unless-passed (runLengthsFit most km0 acl requests) badLength (h .0) in
+    let files = and-left (fits most requests && fits aclRecords acl) (eqb (length km0) hashBytes) t in (
+      record {
+        decoded = d;
+        few = leb-true (length row) certificatesMax (unless-passed _ tooMany (h .1 .0));
+        named = unless-passed (all mechanismNamed row) malformed (h .1 .1 .0);
+        km0Length = and-right (fits most requests && fits aclRecords acl) (eqb (length km0) hashBytes) t;
+        aclLength = and-right (fits most requests) (fits aclRecords acl) files;
+        aclSound = h .1 .1 .1 .0;
+      },
+      leb-true (requestsIn requests * answerBytes) (length buffer) (unless-passed _ shortBuffer (h .1 .1 .1 .1 .0)),
+    )
+
+-- two ways to ask that agree on records of 64 bytes have the same answers and ledger
+pub asked-alike : (ask tell : Ledger → Bytes → Outcome) (l : Ledger) (rs : List Bytes) → Every (λ r. length r ≡ recordBytes) rs
+    → ((l : Ledger) (r : Bytes) → length r ≡ recordBytes → ask l r ≡ tell l r) → asked ask l rs ≡ asked tell l rs
+unfolding asked
+asked-alike ask tell l [] n f = refl
+asked-alike ask tell l (r ∷ rs) n f = rw (f l r (n .0), asked-alike ask tell (tell l r .ledger) rs (n .1) f)
+
+-- each answer has eight bytes
+answer-length : (a : Answer) → length (answerOf a) ≡ answerBytes
+unfolding answerOf bigEndian
+answer-length done = refl
+answer-length (permit place) = refl
+answer-length (refuse f near) = refl
+
+pub answers-length : (ask : Ledger → Bytes → Outcome) (l : Ledger) (rs : List Bytes) → length (asked ask l rs .answers) ≡ length rs * answerBytes
+unfolding asked
+answers-length ask l [] = refl
+answers-length ask l (r ∷ rs) =
+    let i = answers-length ask (ask l r .ledger) rs in
+    let n = answer-length (ask l r .answer) in
+    omega (arith, length-append (answerOf (ask l r .answer)) (asked ask (ask l r .ledger) rs .answers))
+
+-- A run as a loop does it: the answer buffer as it stands, the place of the next answer, and the records that are left.
+pub record Running : Type 0 where
+  pub ledger : Ledger
+  pub buffer : Bytes
+
+-- new bytes over those from a place on
+unfoldable pub overAt : ℕ → Bytes → Bytes → Bytes
+overAt at new old = take at old ++ (new ++ drop (at + length new) old)
+
+unfoldable pub writing : (Ledger → Bytes → Outcome) → Ledger → Bytes → ℕ → List Bytes → Running
+writing ask l buffer at [] = record { ledger = l; buffer = buffer }
+writing ask l buffer at (r ∷ rs) = writing ask (ask l r .ledger) (overAt at (answerOf (ask l r .answer)) buffer) (at + answerBytes) rs
+
+over-none : (at : ℕ) (old : Bytes) → overAt at [] old ≡ old
+unfolding overAt
+over-none at old = rw add-zero (take-append-drop at old)
+
+over-over : (at : ℕ) (new rest old : Bytes) → at + (length new + length rest) ≤ length old → overAt (at + length new) rest (overAt at new old) ≡ overAt at (new ++ rest) old
+unfolding overAt
+over-over at new rest old h =
+    let p : Bytes = take at old ++ new in
+    let q : Bytes = drop (at + length new) old in
+    let t : length (take at old) ≡ at = length-take-le at old (omega arith) in
+    let n : length p ≡ at + length new = length-append (take at old) new ∙ rw t in
+    let s : take at old ++ (new ++ q) ≡ p ++ q = sym (append-assoc (take at old) new q) in
+    let a : take (at + length new) (p ++ q) ≡ p = take-at p q (at + length new) n in
+    let b : drop (at + length new) (p ++ q) ≡ q = drop-at p q (at + length new) n in
+    let c : drop (at + length new + length rest) (p ++ q) ≡ drop (length rest) q = sym (drop-drop (length rest) (at + length new) (p ++ q)) ∙ ap (drop (length rest)) b in
+    let m : at + length new + length rest ≡ at + length (new ++ rest) = omega (arith, length-append new rest) in
+    let e : drop (length rest) q ≡ drop (at + length (new ++ rest)) old = drop-drop (length rest) (at + length new) old ∙ ap (λ (k : ℕ). drop k old) m in
+    rw s (ap₂ (λ (x y : Bytes). x ++ (rest ++ y)) a (c ∙ e) ∙ append-assoc (take at old) new (rest ++ drop (at + length (new ++ rest)) old)
+    ∙ ap (λ (x : Bytes). take at old ++ x) (sym (append-assoc new rest (drop (at + length (new ++ rest)) old))))
+
+pub length-over : (at : ℕ) (new old : Bytes) → at + length new ≤ length old → length (overAt at new old) ≡ length old
+unfolding overAt
+length-over at new old h =
+    let t : length (take at old) ≡ at = length-take-le at old (omega arith) in
+    omega (arith, length-append (take at old) (new ++ drop (at + length new) old), length-append new (drop (at + length new) old), length-drop (at + length new) old)
+
+-- The loop comes to what asking one by one comes to: so a loop's invariant is that what is left has the whole's answer.
+pub writing-is : (ask : Ledger → Bytes → Outcome) (l : Ledger) (buffer : Bytes) (at : ℕ) (rs : List Bytes) → at + length rs * answerBytes ≤ length buffer
+    → writing ask l buffer at rs ≡ record { ledger = asked ask l rs .ledger; buffer = overAt at (asked ask l rs .answers) buffer }
+unfolding writing asked
+writing-is ask l buffer at [] h = rw over-none
+writing-is ask l buffer at (r ∷ rs) h =
+    let o = ask l r in
+    let a = answerOf (o .answer) in
+    let n : length a ≡ answerBytes = answer-length (o .answer) in
+    let k = answers-length ask (o .ledger) rs in
+    let m : at + answerBytes ≡ at + length a = omega arith in
+    let sized : length (overAt at a buffer) ≡ length buffer = length-over at a buffer (omega arith) in
+    let i = writing-is ask (o .ledger) (overAt at a buffer) (at + answerBytes) rs (omega arith) in
+    i ∙ rw m (ap (λ (b : Bytes). record { ledger = asked ask (o .ledger) rs .ledger; buffer = b }) (over-over at a (asked ask (o .ledger) rs .answers) buffer (omega arith)))

@@ -1,0 +1,36 @@
+use mathlib.Core.Path.{_∙_, ap}
+use Rattle.rules.specs.Ledger as rules
+use Rattle.cabinet.specs.Kept.{cabinetOf}
+use Rattle.runs.specs.Judged.{runSeen}
+use Rattle.slots.proofs.Laws.{slot-missing, slot-there}
+use borrow.Author.Needs.{needs}
+use Rattle.slots.proofs.run_judged.Statement.{statement}
+use Rattle.slots.proofs.run_judged.Tie as tie
+
+no-slot-requires : tie.Need-no-slot-requires
+no-slot-requires c κs = search needs
+
+returns : tie.Need-returns
+returns c = c .no-slot .ensures _ ∙ slot-missing _ _ _ _ (search needs)
+
+ledger-requires : tie.Need-ledger-requires
+ledger-requires c κs = search needs
+
+run-judged-requires : tie.Need-run-judged-requires
+run-judged-requires c κs = search needs
+
+put-back-requires : tie.Need-put-back-requires
+put-back-requires c κs = search needs
+
+same-length : tie.Need-same-length
+same-length c = search needs
+
+returns-2 : tie.Need-returns-2
+returns-2 c =
+    let j = c .before in
+    slot-there _ _ _ _ _ _ (search needs) (c .put-back .ensures _) (j .run-judged .ensures ∙ ap (λ (l : rules.Ledger). runSeen l _ _ _ _ _) (j .before .ledger .ensures))
+
+pub run-judged-spec : {M : Type 1} → statement M
+run-judged-spec =
+    tie.close
+    (tie.spec no-slot-requires returns ledger-requires run-judged-requires put-back-requires same-length returns-2)

@@ -1,0 +1,144 @@
+// Runs in a slot of a cabinet: the gate's own run, on the slot's counts and times and the shared counters. The entries, which take the row of
+// certificates, are proved by hand: each reads the row and leaves the rest to one function with plain parameters.
+ghost use mathlib.Core.Path.{_≡_};
+ghost use Prim.Native.Nat.{_<_};
+ghost use Rattle.rules.specs.Sizes.{slotsMax};
+ghost use Rattle.rules.specs.Basics.{Bytes};
+ghost use Rattle.rules.specs.Cabinet.{ledgerAt};
+ghost use Rattle.prepared.specs.Forms.{formAs};
+ghost use Rattle.row.specs.Rows.{rowAs};
+ghost use Rattle.runs.specs.Judged.{runAs, runSeen, preparedSeen};
+ghost use Rattle.cabinet.specs.Kept.{cabinetOf};
+ghost use Rattle.rules.specs.CabinetRuns.{ranAsGate, runInSlot, cabinetRun, cabinetPreparedRun};
+ghost use Rattle.slots.specs.Handed.{ranOf, notRun};
+use cabinet::Cabinet;
+use prepared::Prepared;
+use refusals::Refusal;
+use row::Certificate;
+use row::Seen;
+use runs::RunOutcome;
+use runs::RunReply;
+
+// The cabinet handed back, with the reply.
+pub struct CabinetRan {
+    pub cabinet: Cabinet,
+    pub reply: RunReply,
+}
+
+// What the run handed back for a slot, put into its places.
+fn put_back(cabinet: Cabinet, slot: usize, o: RunOutcome) -> CabinetRan
+    requires { ⌜ slot < slotsMax ⌝ }
+    ensures { λ r. ⌜ ((buffer : Bytes) → ranOf r buffer ≡ ranAsGate (cabinetOf cabinet) slot (runAs o buffer)) ⌝ }
+{
+    let reply = o.reply;
+    let ledger = o.ledger;
+    CabinetRan {
+        cabinet: cabinet.with_ledger(slot, ledger),
+        reply,
+    }
+}
+
+// A slot that there is not: the cabinet stands.
+fn no_slot(cabinet: Cabinet) -> CabinetRan
+    ensures { λ r. ⌜ ((buffer : Bytes) → ranOf r buffer ≡ notRun (cabinetOf cabinet) buffer) ⌝ }
+{
+    CabinetRan {
+        cabinet,
+        reply: RunReply::Refused(Refusal::NoSlot),
+    }
+}
+
+// A run in a slot, by what was read of its row.
+fn run_judged(
+    cabinet: Cabinet,
+    slot: usize,
+    km0: &[u8],
+    acl: &[u8],
+    seen: Seen,
+    requests: &[u8],
+    answers: &mut [u8],
+) -> CabinetRan
+    ensures { λ r. ⌜ ranOf r (now (answers .exit)) ≡ runInSlot (cabinetOf cabinet) slot (now (answers .entry)) (runSeen (ledgerAt (cabinetOf cabinet) slot) (now (km0 .entry)) (now (acl .entry)) seen (now (requests .entry)) (now (answers .entry))) ⌝ }
+{
+    if Cabinet::SLOTS <= slot {
+        return no_slot(cabinet);
+    }
+    let o = runs::run_judged(cabinet.ledger(slot), km0, acl, seen, requests, answers);
+    put_back(cabinet, slot, o)
+}
+
+// .. on a prepared ACL.
+fn prepared_judged(
+    cabinet: Cabinet,
+    slot: usize,
+    km0: &[u8],
+    acl: &[u8],
+    seen: Seen,
+    form: Prepared,
+    requests: &[u8],
+    answers: &mut [u8],
+) -> CabinetRan
+    ensures { λ r. ⌜ ranOf r (now (answers .exit)) ≡ runInSlot (cabinetOf cabinet) slot (now (answers .entry)) (preparedSeen (ledgerAt (cabinetOf cabinet) slot) (now (km0 .entry)) (now (acl .entry)) seen (formAs form) (now (requests .entry)) (now (answers .entry))) ⌝ }
+{
+    if Cabinet::SLOTS <= slot {
+        return no_slot(cabinet);
+    }
+    let o = runs::prepared_judged(
+        cabinet.ledger(slot),
+        km0,
+        acl,
+        seen,
+        form,
+        requests,
+        answers,
+    );
+    put_back(cabinet, slot, o)
+}
+
+// A run over decoded certificates in a slot: cabinet, slot, KM0, ACL, row of certificates, request records, answer buffer.
+pub fn run(
+    cabinet: Cabinet,
+    slot: usize,
+    km0: &[u8],
+    acl: &[u8],
+    row: &[Certificate],
+    requests: &[u8],
+    answers: &mut [u8],
+) -> CabinetRan
+    ensures { λ r. ⌜ ranOf r (now (answers .exit)) ≡ cabinetRun (cabinetOf cabinet) slot (now (km0 .entry)) (now (acl .entry)) (rowAs (now (row .entry))) (now (requests .entry)) (now (answers .entry)) ⌝ }
+{
+    run_judged(
+        cabinet,
+        slot,
+        km0,
+        acl,
+        row::read_row(acl, row),
+        requests,
+        answers,
+    )
+}
+
+// A run on a prepared ACL in a slot: the form besides.
+pub fn prepared_run(
+    cabinet: Cabinet,
+    slot: usize,
+    km0: &[u8],
+    acl: &[u8],
+    row: &[Certificate],
+    form: Prepared,
+    requests: &[u8],
+    answers: &mut [u8],
+) -> CabinetRan
+    ensures { λ r. ⌜ ranOf r (now (answers .exit)) ≡ cabinetPreparedRun (cabinetOf cabinet) slot (now (km0 .entry)) (now (acl .entry)) (rowAs (now (row .entry))) (formAs form) (now (requests .entry)) (now (answers .entry)) ⌝ }
+{
+    prepared_judged(
+        cabinet,
+        slot,
+        km0,
+        acl,
+        row::read_row(acl, row),
+        form,
+        requests,
+        answers,
+    )
+}

@@ -1,0 +1,45 @@
+-- Runs over decoded certificates: a run not refused whole has the answers and the ledger of asking the gate one by one in order; a run refused whole
+-- leaves ledger and buffer. Two wrong products that this rules out: one that stops at the first refusal, and one that writes past the last answer.
+use Prim.Native.Nat.{ℕ}
+use mathlib.Core.Path.{_≡_, refl, _∙_}
+use mathlib.Core.List.{List, _∷_, _++_}
+use mathlib.Core.Option.{Option, none, some}
+use mathlib.Core.Bool.{false}
+use lib.ListN.{length, drop}
+use Rattle.rules.specs.Sizes.{recordBytes, runRecords}
+use Rattle.rules.specs.Numbers.{malformed}
+use Rattle.rules.specs.Basics.{Bytes, records}
+use Rattle.rules.specs.Request.{Certificate, standsAlone, requestRecordFault}
+use Rattle.rules.specs.Ledger.{Ledger}
+use Rattle.rules.specs.Gate.{refuse, refused}
+use Rattle.rules.specs.Runs.{askGate, Ran, answeredFirst, asked, requestsIn, runFault, ran, refusedWhole, runEnd, run}
+use Rattle.rules.proofs.Laws.{never}
+use Rattle.rules.proofs.Asking.{Sound, ask-gate}
+use Rattle.theorems.proofs.Demand1.{request-stays}
+
+-- "The answers and ledger of a run not refused whole equal those of asking one by one in order"; "bytes past the last answer stay"
+pub run-one-by-one : (l : Ledger) (km0 acl : Bytes) (row : List Certificate) (requests buffer : Bytes) → runFault runRecords km0 acl row requests buffer ≡ none
+    → let o = asked (askGate km0 acl row) l (records requests) in
+    (run l km0 acl row requests buffer .reply ≡ ran (requestsIn requests))
+    × (run l km0 acl row requests buffer .ledger ≡ o .ledger)
+    × (run l km0 acl row requests buffer .buffer ≡ o .answers ++ drop (length (o .answers)) buffer)
+unfolding run
+run-one-by-one l km0 acl row requests buffer e = rw e (refl, refl, refl)
+
+-- "a refusal in the middle changes nothing and the run goes on"
+pub refusal-goes-on : (km0 acl : Bytes) (row : List Certificate) (l : Ledger) (r : Bytes) (rs : List Bytes) (n : ℕ) (near : Option ℕ) → askGate km0 acl row l r .answer ≡ refuse n near
+    → asked (askGate km0 acl row) l (r ∷ rs) ≡ answeredFirst (refuse n near) (asked (askGate km0 acl row) l rs)
+unfolding asked
+refusal-goes-on km0 acl row l r rs n near e = rw (e, request-stays l km0 acl _ n near e)
+
+-- "A malformed request record gets its own answer 2."; one that announces a record of kind 15 is malformed here
+pub malformed-answered : (km0 acl : Bytes) (row : List Certificate) → Sound km0 acl row → (l : Ledger) (r : Bytes) → length r ≡ recordBytes → standsAlone r ≡ false
+    → askGate km0 acl row l r ≡ refused l malformed
+unfolding requestRecordFault
+malformed-answered km0 acl row s l r n e = ask-gate km0 acl row s l r n ∙ rw e
+
+-- "with the buffer untouched": a run refused whole hands back ledger and buffer as they were
+pub refused-whole : (l : Ledger) (requests buffer : Bytes) (fault : Option ℕ) (o : Ran) (n : ℕ) → runEnd l requests buffer fault o .reply ≡ refusedWhole n
+    → (runEnd l requests buffer fault o .ledger ≡ l) × (runEnd l requests buffer fault o .buffer ≡ buffer)
+refused-whole l requests buffer none o n e = absurd (never (cc))
+refused-whole l requests buffer (some f) o n e = (refl, refl)
