@@ -77,7 +77,7 @@ fn class_admitted(policy: Policy, class: Class) -> bool
 }
 
 // Whether a policy admits permission b, if it is among those that are set: the table of classes is read for these alone.
-fn bit_admitted(policy: Policy, bits: u16, b: u16) -> bool
+pub fn bit_admitted(policy: Policy, bits: u16, b: u16) -> bool
     requires { ⌜ b < 16 ⌝ }
     ensures { λ r. ⌜ r ≡ admittedBit (policyAs policy) bits b ⌝ }
 {

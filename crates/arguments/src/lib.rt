@@ -45,23 +45,25 @@ pub fn read(i: usize, what: &[u8], buffer: &mut [u8]) -> Input {
     read_open(fd, &path[..n], buffer)
 }
 
-// Bytes into the file that argument i names, in the place of what stands there.
-pub fn overwrite(i: usize, what: &[u8], bytes: &[u8]) {
+// Bytes into the file that argument i names, in the place of what stands there; whether all were written.
+pub fn overwrite(i: usize, what: &[u8], bytes: &[u8]) -> bool {
     let mut path = io::buffer();
     let n = os::arg(i, &mut path);
     if os::errno() != 0 {
         os::fail(what);
-        return;
+        return false;
     }
     let fd = os::open_overwrite(&path[..n]);
     if fd < 0 {
         os::fail(&path[..n]);
-        return;
+        return false;
     }
-    if !io::write_all(fd, bytes) {
+    let whole = io::write_all(fd, bytes);
+    if !whole {
         os::fail(&path[..n]);
     }
     libc::close(fd);
+    whole
 }
 
 // Argument i, as it was given, on standard error: what a message begins with.

@@ -15,7 +15,7 @@ use Rattle.desk.specs.declared.Verdict.the-variants.{Accepted, Failed, R
 use Rattle.desk.specs.Replies.{Reply, accepting, failing, refusing, protectionNumber, replyOf}
 
 -- what each number and name stands for
-abbrev stepBack : rules.Step → Step
+abbrev pub stepBack : rules.Step → Step
 stepBack rules.WV1 = WV1
 stepBack rules.MSCV1 = MSCV1
 stepBack rules.MSCV2 = MSCV2
@@ -52,7 +52,7 @@ verdictBack (failing s) = Failed (stepBack s)
 verdictBack (refusing n) = Refused (refusalBack n)
 
 -- .. it is what was read
-step-back : (s : Step) → stepBack (stepOf s) ≡ s
+pub step-back : (s : Step) → stepBack (stepOf s) ≡ s
 step-back WV1 = refl
 step-back MSCV1 = refl
 step-back MSCV2 = refl

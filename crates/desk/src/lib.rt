@@ -87,7 +87,7 @@ fn suite_known(places: &[usize; facts::ENTRIES], bundle: &[u8]) -> Checked
 }
 
 // The first fault of the two files: the length of either, the bundle's records, the ACL's, the suite. Where there is none, the bundle's records were found.
-fn read_both(places: &mut [usize; facts::ENTRIES], bundle: &[u8], acl: &[u8]) -> Checked
+pub fn read_both(places: &mut [usize; facts::ENTRIES], bundle: &[u8], acl: &[u8]) -> Checked
     requires { ⌜ now places ≡ replicate entries 0 ⌝ }
     ensures { λ r. ⌜ (faultOf r ≡ deskFault (now (bundle .entry)) (now (acl .entry))) × (faultOf r ≡ none → Found (now (bundle .entry)) (now (places .exit))) ⌝ }
 {

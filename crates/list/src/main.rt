@@ -24,7 +24,6 @@ fn main() {
         io::write_all(STDERR_FILENO, b"list: one file name is due: ACL\n");
         return;
     }
-    // no ACL fills the buffer, so that a longer file is cut and still too long
     let mut acl = [0u8; (sizes::ACL_RECORDS + 1) * sizes::RECORD];
     let input = arguments::read(1, b"ACL", &mut acl);
     let Input::Read(n) = input else {

@@ -36,12 +36,12 @@ row-whole : (row : List Certificate) → Every Decoded row → Every Whole (map 
 row-whole [] d = tt
 row-whole (c ∷ cs) d = (certificate-whole c (d .0), row-whole cs (d .1))
 
-file-records : (r : Bytes) (row : List Certificate) → length r ≡ recordBytes → Every Decoded row → records (withRow r row) ≡ r ∷ map certificateBytes row
+pub file-records : (r : Bytes) (row : List Certificate) → length r ≡ recordBytes → Every Decoded row → records (withRow r row) ≡ r ∷ map certificateBytes row
 unfolding withRow
 file-records r row n d = joined-records (r ∷ map certificateBytes row) (n, row-whole row d)
 
 -- the file is whole records, and not too long
-file-fits : (r : Bytes) (row : List Certificate) → length r ≡ recordBytes → Every Decoded row → length row ≤ certificatesMax → fits requestRecords (withRow r row) ≡ true
+pub file-fits : (r : Bytes) (row : List Certificate) → length r ≡ recordBytes → Every Decoded row → length row ≤ certificatesMax → fits requestRecords (withRow r row) ≡ true
 unfolding withRow
 file-fits r row n d few =
     let l = length-map row certificateBytes in
@@ -73,7 +73,7 @@ no-file [] = (refl, refl)
 no-file (c ∷ cs) = (rw (kind-9 c), rw (kind-9 c))
 
 -- The file's fault is the request record's own: one that announces a record of kind 15 is malformed here.
-row-fault : (r : Bytes) (row : List Certificate) → Every Decoded row → length row ≤ certificatesMax → all mechanismNamed row ≡ true → requestFault requestLaidOut (r ∷ map certificateBytes row) ≡ requestRecordFault r
+pub row-fault : (r : Bytes) (row : List Certificate) → Every Decoded row → length row ≤ certificatesMax → all mechanismNamed row ≡ true → requestFault requestLaidOut (r ∷ map certificateBytes row) ≡ requestRecordFault r
 unfolding requestFault requestRecordFault standsAlone presentedFault firstFault
 row-fault r row d few m = pick (requestLaidOut r) refl (announcesFile r) refl
   where
@@ -83,7 +83,7 @@ row-fault r row d few m = pick (requestLaidOut r) refl (announcesFile r) refl
     pick true e false f = rw (e, f, row-sound 0 row d (omega arith) m)
 
 -- .. and it asks for what its records say
-row-request : (r : Bytes) (row : List Certificate) → Every Decoded row → requestFrom (r ∷ map certificateBytes row) ≡ requestWith r row
+pub row-request : (r : Bytes) (row : List Certificate) → Every Decoded row → requestFrom (r ∷ map certificateBytes row) ≡ requestWith r row
 unfolding requestFrom
 row-request r row d = let b = row-back row d in rw (no-file row .1, b .0, b .1)
 

@@ -10,6 +10,8 @@ pub mod Written
 pub mod Asking
 pub mod GroupSets
 pub mod Forms
+pub mod Bits
+pub mod Trim
 pub mod Computing
 pub mod Samples
 pub mod Examples
@@ -21,3 +23,4 @@ pub mod SubjectGuards
 pub mod CabinetExamples
 pub mod RunExamples
 pub mod PreparedExamples
+pub mod TrimExamples

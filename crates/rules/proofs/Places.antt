@@ -1,13 +1,18 @@
--- A record in its place in an ACL, by whether a record of kind 15 is due there.
+-- Reading an ACL's records one after the other: what a record without fault says of the place at which it stands, and a record in its place, by whether
+-- a record of kind 15 is due there.
+use Prim.Native.Nat.{ℕ}
 use native.Mathlib.Omega.{arith}
 use mathlib.Core.Path.{_≡_, refl, sym, _∙_, ap}
-use mathlib.Core.Bool.{Bool, true, false, _&&_}
+use mathlib.Core.List.{List}
+use mathlib.Core.Option.{Option, none}
+use mathlib.Core.Bool.{Bool, true, false, _&&_, false≢true}
 use lib.Dec.{eqb}
-use borrow.Author.Tests.{eqb-true}
-use Rattle.rules.specs.Basics.{if_then_else_, Bytes, kind}
+use borrow.Author.Tests.{eqb-true, eq-eqb}
+use Rattle.rules.specs.Numbers.{malformed, tooMany, openArchive}
+use Rattle.rules.specs.Basics.{if_then_else_, Bytes, kind, firstFault, scan}
 use Rattle.rules.specs.Layout.{limitLaidOut, fileLaidOut}
-use Rattle.rules.specs.Acl.{AclPlace, limitKey, limitInPlace, fileRecord, placedUnder, placedByKind, inPlaceUnder, inPlace}
-use Rattle.rules.proofs.Laws.{and-left, and-right, and-both}
+use Rattle.rules.specs.Acl.{AclPlace, limitKey, limitInPlace, actionInPlace, actionLaidOut, fileRecord, placedUnder, placedByKind, inPlaceUnder, inPlace, hasRoom, keyed, afterRecord, recordFaultUnder, aclRecordFault, aclEnd}
+use Rattle.rules.proofs.Laws.{and-left, and-right, and-both, not-both, unless-passed, fault-none-every}
 
 ruleset conj = (and-left, and-right, and-both)
 
@@ -31,3 +36,43 @@ limit-placed s r q e = pick (s .fileDue) refl
     pick : (b : Bool) → s .fileDue ≡ b → (limitLaidOut r && limitInPlace s (limitKey r)) ≡ true
     pick true d = let k = file-due s r d e .0 in absurd (omega arith)
     pick false d = rw q at (placed s r d e)
+
+-- the first fault of records read from a place on
+abbrev pub aclFrom : AclPlace → List Bytes → Option ℕ
+aclFrom s rs = scan aclRecordFault afterRecord aclEnd s rs
+
+pub record-in-place : (s : AclPlace) (r : Bytes) → aclRecordFault s r ≡ none → inPlace s r ≡ true
+unfolding recordFaultUnder
+record-in-place s r e = unless-passed (inPlace s r) malformed (fault-none-every _ e .0)
+
+pub record-has-room : (s : AclPlace) (r : Bytes) → aclRecordFault s r ≡ none → hasRoom s r ≡ true
+unfolding recordFaultUnder
+record-has-room s r e = unless-passed (hasRoom s r) tooMany (fault-none-every _ e .1 .0)
+
+pub record-keyed : (s : AclPlace) (r : Bytes) → aclRecordFault s r ≡ none → keyed (s .isOpen) r ≡ true
+unfolding recordFaultUnder
+record-keyed s r e = unless-passed (keyed (s .isOpen) r) openArchive (fault-none-every _ e .1 .1 .0)
+
+pub no-record-fault : (s : AclPlace) (r : Bytes) → inPlace s r ≡ true → hasRoom s r ≡ true → keyed (s .isOpen) r ≡ true → aclRecordFault s r ≡ none
+unfolding recordFaultUnder firstFault
+no-record-fault s r e d k = rw (e, d, k)
+
+-- a group or an action stands where none is due
+pub not-due : (s : AclPlace) (r : Bytes) → eqb (kind r) 15 ≡ false → inPlace s r ≡ true → (s .fileDue ≡ false) × (placedByKind s r ≡ true)
+not-due s r n e = pick (s .fileDue) refl
+  where
+    pick : (b : Bool) → s .fileDue ≡ b → (s .fileDue ≡ false) × (placedByKind s r ≡ true)
+    pick true d = let k = file-due s r d e .0 in absurd (not-both (eqb (kind r) 15) (eq-eqb (kind r) 15 k) n)
+    pick false d = (d, placed s r d e)
+
+-- kind 15 stands where one is due
+pub due-here : (s : AclPlace) (r : Bytes) → eqb (kind r) 15 ≡ true → inPlace s r ≡ true → (s .fileDue ≡ true) × (fileRecord r ≡ true)
+unfolding inPlaceUnder placedUnder actionLaidOut
+due-here s r n e = pick (s .fileDue) refl
+  where
+    pick : (b : Bool) → s .fileDue ≡ b → (s .fileDue ≡ true) × (fileRecord r ≡ true)
+    pick true d = (d, ap (λ (t : Bool). if t then fileRecord r else placedByKind s r) (sym d) ∙ e)
+    pick false d =
+        let k = eqb-true (kind r) 15 n in
+        let f : (false && actionInPlace s) ≡ true = rw k at (placed s r d e) in
+        absurd (false≢true f)

@@ -45,7 +45,7 @@ fn copy_word(bytes: &[u8], buffer: &mut [u8])
 }
 
 // Eight bytes or more over the front of the buffer, eight at a time; the last eight may overlap those before them. What lies past them stays.
-fn copy(bytes: &[u8], buffer: &mut [u8])
+pub fn copy(bytes: &[u8], buffer: &mut [u8])
     requires { ⌜ (8 ≤ length (now bytes)) × (length (now bytes) ≤ length (now buffer)) ⌝ }
     ensures { λ _. ⌜ now (buffer .exit) ≡ over (now (bytes .entry)) (now (buffer .entry)) ⌝ }
 {

@@ -48,11 +48,11 @@ sources-differ low h hs r = later (suc (h .source)) hs (r .1) (omega arith)
     later low (k ∷ ks) t b = (omega (arith, t .0), later (suc (k .source)) ks (t .1) (omega (arith, t .0)))
 
 -- What is kept is no wider.
-kept-self : (o : Option Bytes) → kept o o ≡ true
+pub kept-self : (o : Option Bytes) → kept o o ≡ true
 kept-self none = refl
 kept-self (some h) = same-refl h
 
-kept-number-self : (o : Option ℕ) → keptNumber o o ≡ true
+pub kept-number-self : (o : Option ℕ) → keptNumber o o ≡ true
 kept-number-self none = refl
 kept-number-self (some n) = eq-eqb n n refl
 
@@ -64,7 +64,7 @@ time-self : (t : ℕ) → (eqb t 0 || ltb 0 t && leb t t) ≡ true
 time-self zero = refl
 time-self (suc t) = or-right (eqb (suc t) 0) (ltb 0 (suc t) && leb (suc t) (suc t)) (and-both (ltb 0 (suc t)) (leb (suc t) (suc t)) (lt-ltb 0 (suc t) (omega arith)) (le-leb (suc t) (suc t) (omega arith)))
 
-tighter-self : (p : Parameters) → tighter p p ≡ true
+pub tighter-self : (p : Parameters) → tighter p p ≡ true
 tighter-self p =
     let a = within-self 16 (p .flags) in
     let b = le-leb (p .needed) (p .needed) (omega arith) in
@@ -103,13 +103,13 @@ file-self (some f) =
     let y = kept-self (f .template) in
     search conj
 
-action-self : (a : Action) → noWider a a ≡ true
+pub action-self : (a : Action) → noWider a a ≡ true
 unfolding noWider
 action-self (permissions n) = within-self 16 n
 action-self (makeBlob b f) = and-both (blobNoWider b b) (fileNoWider f f) (blob-self b) (file-self f)
 action-self (makeArchive a f) = and-both (archiveNoWider a a) (fileNoWider f f) (archive-self a) (file-self f)
 
-limit-self : (m : Limit) → answers m m ≡ true
+pub limit-self : (m : Limit) → answers m m ≡ true
 unfolding answers
 limit-self m =
     let x = eq-eqb (m .sort) (m .sort) refl in
@@ -131,21 +131,21 @@ ownHints place [] = []
 ownHints place (g ∷ gs) = record { source = place; actions = ownActions (g .actions) } ∷ ownHints (suc place) gs
 
 -- a list stands in another from a place on
-abbrev StandsAt : {A : Type 0} → List A → ℕ → List A → Type 0
+abbrev pub StandsAt : {A : Type 0} → List A → ℕ → List A → Type 0
 StandsAt {A} whole place xs = (j : ℕ) (x : A) → getElem? xs j ≡ some x → getElem? whole (place + j) ≡ some x
 
 module _ {A : Type 0} (whole : List A) where
-  stands-here : (place : ℕ) (x : A) (xs : List A) → StandsAt whole place (x ∷ xs) → getElem? whole place ≡ some x
+  pub stands-here : (place : ℕ) (x : A) (xs : List A) → StandsAt whole place (x ∷ xs) → getElem? whole place ≡ some x
   stands-here place x xs f = rw add-zero at (f 0 x refl)
 
-  stands-next : (place : ℕ) (x : A) (xs : List A) → StandsAt whole place (x ∷ xs) → StandsAt whole (suc place) xs
+  pub stands-next : (place : ℕ) (x : A) (xs : List A) → StandsAt whole place (x ∷ xs) → StandsAt whole (suc place) xs
   stands-next place x xs f j y e = rw (suc-add, ← (add-suc place j)) (f (suc j) y e)
 
   every-index : (P : A → Type 0) (xs : List A) → ((i : ℕ) (x : A) → getElem? xs i ≡ some x → P x) → Every P xs
   every-index P [] f = tt
   every-index P (x ∷ xs) f = (f 0 x refl, every-index P xs (λ i y e. f (suc i) y e))
 
-all-zero : (n : ℕ) → allZero (replicate n 0) ≡ true
+pub all-zero : (n : ℕ) → allZero (replicate n 0) ≡ true
 unfolding allZero
 all-zero zero = refl
 all-zero (suc n) = all-zero n
@@ -163,7 +163,7 @@ own-actions old place pad (a ∷ rest) f =
     and-both (noWiderThan a (getElem? old place)) (actionsNoWider rest (places (suc place) rest ++ replicate pad 0) old) e
     (own-actions old (suc place) pad rest (stands-next old place a rest f))
 
-limits-self : (ms : List Limit) → all (isAnswered ms) ms ≡ true
+pub limits-self : (ms : List Limit) → all (isAnswered ms) ms ≡ true
 unfolding isAnswered
 limits-self ms =
     every-all (isAnswered ms) ms

@@ -1,19 +1,25 @@
 -- Demand 3 speaks of something: a bundle that the desk accepts under approach 2, and a sequence of calls without the officer's certificate in which a
 -- token blob, a recovery blob, a use by a chain of delegations, a narrowing and a use are permitted, and others refused with 6, 8, 7 and 4. Two wrong
 -- products that this rules out: a desk that accepts nothing, and a gate that permits no blob.
-use mathlib.Core.Path.{_≡_, refl}
+use native.Mathlib.Omega.{arith}
+use mathlib.Core.Path.{_≡_, refl, ap}
+use mathlib.Core.Logic.{inr}
 use mathlib.Core.List.{List, [], _∷_, _++_, map}
-use mathlib.Core.Option.{none, some}
-use mathlib.Core.Bool.{true, false}
-use Rattle.rules.specs.Basics.{Bytes, records}
-use Rattle.rules.specs.Ledger.{freshLedger}
+use mathlib.Core.Option.{Option, none, some}
+use mathlib.Core.Bool.{true, false, false≢true}
+use Rattle.rules.specs.Basics.{Bytes, records, bothSame}
+use Rattle.rules.specs.Acl.{aclOf}
+use Rattle.rules.specs.Ledger.{freshLedger, loadedAt}
+use Rattle.rules.specs.Grant.{nullKey}
 use Rattle.rules.specs.Gate.{Answer, permit, refuse}
 use Rattle.rules.specs.Bundle.{policyOf}
 use Rattle.rules.specs.Desk.{Grade, approach2, accepted, classOf, policyAdmits, desk}
 use Rattle.rules.proofs.Computing.{computing}
 use Rattle.rules.proofs.Samples.{rec, timed, hash, openGroup, limited, sign, decrypt, certificate, signLink, decryptLink, reduce, hint, bundle, blob, cardset, archive, delegation, storedArchive, onDevices, recovery, storedRecovery}
 use Rattle.theorems.specs.Demands.{Call, requesting, narrowing, State, outcome, after, byOfficer, officerSigned, asked, Allowed, EveryPermit}
+use Rattle.theorems.specs.Exhibit.{certificatesFor, BlobPermitted}
 use Rattle.theorems.proofs.Demand3.{demand-3}
+use Rattle.theorems.proofs.Cautious.{grade-reached-exhibited}
 
 -- what the gate answers to each call of a sequence
 abbrev pub replies : State → List Call → List Answer
@@ -80,3 +86,13 @@ pub witness-covered : EveryPermit (λ s c. Allowed (records bundle) grade (asked
 unfolding byOfficer computing
 witness-covered =
     demand-3 bundle useful grade (witness .0) freshLedger calls (refl, (refl, (refl, (refl, (refl, (refl, (refl, (refl, (refl, (refl, (refl, tt)))))))))))
+
+-- Request n speaks of something, too: a cardset action in a group with a certifier, where hkm is KM0.
+abbrev pub kept : Bytes
+kept = rec (1 ∷ 0 ∷ 0 ∷ 3 ∷ [] ++ hash 9 ++ (0 ∷ 1 ∷ [])) ++ blob 28 (hash 20) cardset
+
+pub reached-witness : BlobPermitted bundle kept (hash 6) (loadedAt freshLedger 7) 9 3 (certificatesFor (aclOf kept))
+unfolding certificatesFor computing
+reached-witness =
+    grade-reached-exhibited bundle kept (record { protection = 3; recoverable = false }) refl (omega arith) (refl, tt) ((refl, tt), tt) ((refl, tt), tt)
+    (λ e. false≢true (ap (λ (h : Option Bytes). bothSame h (some nullKey)) e)) (hash 6) refl ((inr refl, tt), tt) freshLedger 7 9 (omega arith) (omega arith) .0

@@ -17,7 +17,9 @@ fn write_acl(text: &[u8]) {
     let mut acl = [0u8; sizes::ACL_RECORDS * sizes::RECORD];
     let reply = listing::read_listing(text, &mut acl);
     match reply {
-        Reply::Produced(n) => arguments::overwrite(2, b"FILE", arguments::prefix(&acl, n)),
+        Reply::Produced(n) => {
+            arguments::overwrite(2, b"FILE", arguments::prefix(&acl, n));
+        }
         Reply::Refused(why) => arguments::refuse(1, refusals::number(why) as u64),
         Reply::BadLine(n) => bad_line(n as u64),
     }
@@ -32,7 +34,6 @@ fn main() {
         );
         return;
     }
-    // no listing fills the buffer, so that a longer text is cut and still has a bad line
     let mut text = [0u8; listing::LONGEST + 1];
     let input = arguments::read(1, b"TEXT", &mut text);
     let Input::Read(n) = input else {

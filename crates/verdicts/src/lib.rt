@@ -16,7 +16,7 @@ use steps::Step;
 pub const LINE: usize = 64;
 
 // The name of a step, with a space before it.
-fn append_step(s: Step, at: usize, buffer: &mut [u8]) -> usize
+pub fn append_step(s: Step, at: usize, buffer: &mut [u8]) -> usize
     requires { ⌜ at + 6 ≤ length (now buffer) ⌝ }
     ensures { λ r. ⌜ Held 6 (spaced (stepText (stepOf s))) at (now (buffer .entry)) (now (buffer .exit)) r ⌝ }
 {

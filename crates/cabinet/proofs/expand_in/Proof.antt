@@ -13,7 +13,7 @@ expand-on-requires : tie.Need-expand-on-requires
 expand-on-requires c κs = search needs
 
 returns-2 : tie.Need-returns-2
-returns-2 c = is-there _ _ _ (c .before .before .before .before .before .before .before .before .args .there) (search needs) (c .expand-on .ensures)
+returns-2 c = search (needs, is-there)
 
 pub expand-in-spec : {M : Type 1} → statement M
 expand-in-spec =

@@ -13,7 +13,7 @@ narrow-on-requires : tie.Need-narrow-on-requires
 narrow-on-requires c κs = search needs
 
 returns-2 : tie.Need-returns-2
-returns-2 c = is-there _ _ _ (c .before .before .before .before .before .before .before .before .before .args .there) (search needs) (c .narrow-on .ensures)
+returns-2 c = search (needs, is-there)
 
 pub narrow-in-spec : {M : Type 1} → statement M
 narrow-in-spec =

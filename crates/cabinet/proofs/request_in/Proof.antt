@@ -13,7 +13,7 @@ request-on-requires : tie.Need-request-on-requires
 request-on-requires c κs = search needs
 
 returns-2 : tie.Need-returns-2
-returns-2 c = is-there _ _ _ (c .before .before .before .before .before .before .before .args .there) (search needs) (c .request-on .ensures)
+returns-2 c = search (needs, is-there)
 
 pub request-in-spec : {M : Type 1} → statement M
 request-in-spec =

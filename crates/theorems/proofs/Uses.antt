@@ -1,0 +1,461 @@
+-- Request m: narrowing never buys uses. From a load, with no expansion, every permit can be put down to a group of the first ACL. Two wrong products
+-- that this rules out: one whose narrowing starts the counts of the new groups at zero, and one that lets two new groups share a source.
+use Prim.Native.Nat.{ℕ, zero, suc, _+_, _-_, _≤_, _<_}
+use native.Mathlib.Omega.{arith}
+use mathlib.Core.Path.{_≡_, refl, sym, _∙_, ap}
+use mathlib.Core.Logic.{_⊎_, inl, inr, _≢_}
+use mathlib.Core.List.{List, [], _∷_, _++_, map}
+use mathlib.Core.Option.{Option, none, some}
+use mathlib.Core.Bool.{Bool, true, false, false≢true}
+use lib.ListN.{length, getD, getElem?, set, replicate, length-set, length-replicate, length-append, length-map, List·getD-eq-default}
+use lib.Seq.{getD-set-same, getD-set-other}
+use lib.Dec.{eqb, ltb}
+use borrow.Author.Tests.{eqb-true, eqb-false, leb-true, ltb-true, ltb-false, lt-ltb}
+use Rattle.rules.specs.Sizes.{groupsMax, countersMax, fullCount}
+use Rattle.rules.specs.Numbers.{notNarrower, outOfRange}
+use Rattle.rules.specs.Basics.{Bytes, Every, records}
+use Rattle.rules.specs.Acl.{Limit, Group, aclOf, aclFault}
+use Rattle.rules.specs.Request.{operation, Request, reduceAcl, requestOf, Hint, hintsOf}
+use Rattle.rules.specs.Ledger.{Ledger, raisedBy, charge, loadedAt, cleared, recounted, carried}
+use Rattle.rules.specs.Grant.{groupAdmits, certified, limitsLeft}
+use Rattle.rules.specs.Narrow.{groupNarrows, narrowsSource, narrowsFrom, narrows}
+use Rattle.rules.specs.Gate.{permit, load, numberOf, nearest, Judgement, granted, denied, grants, judge, refusedNear, refused, permitted, finished, requestFiles, request, clear, narrowFiles, narrow, expandFiles, expand}
+use Rattle.theorems.specs.Demands.{Call, requesting, loading, clearing, narrowing, expanding, State, outcome, after, EveryPermit, names}
+use Rattle.theorems.specs.Account.{PutDown, AllPutDown, isExpansion}
+use Rattle.rules.proofs.Laws.{never, and-left, and-right, and-both, every-map, fault-none-every}
+use Rattle.theorems.proofs.Monotone.{Known}
+use Rattle.rules.proofs.Few.{narrow-few}
+use Rattle.theorems.proofs.AclFile.{acl-bound}
+use Rattle.theorems.proofs.Hints.{limit-self}
+use Rattle.theorems.proofs.RequestFile.{known-request, use-wanted}
+use Rattle.theorems.proofs.Permit.{granted-is}
+use Rattle.theorems.proofs.Counters.{raisedBy-length, reading, raisedBy-at}
+use Rattle.theorems.proofs.Narrowing.{all-every, every-all, limit-left, admits-source, certified-source, left-source, names-source}
+
+ruleset conj = (and-left, and-right, and-both)
+
+-- A group covers another: what the first grants, the second grants under an account that counts no more.
+record Covers (g f : Group) : Type 0 where
+  admitted : (km0 : Bytes) (q : Request) → Known (q .wanted) → groupAdmits km0 q g ≡ true → groupAdmits km0 q f ≡ true
+  certifies : (q : Request) → certified q g ≡ true → certified q f ≡ true
+  leaves : (ledger account : List ℕ) (own own′ elapsed : ℕ) → own′ ≤ own → ((c : ℕ) → getD account c 0 ≤ getD ledger c 0) → limitsLeft ledger own elapsed (g .limits) ≡ true → limitsLeft account own′ elapsed (f .limits) ≡ true
+  naming : (c : ℕ) → names c (f .limits) ≡ true → names c (g .limits) ≡ true
+
+covers-self : (g : Group) → Covers g g
+covers-self g =
+    record {
+      admitted = λ km0 q k e. e;
+      certifies = λ q e. e;
+      leaves = λ l a own own′ elapsed fewer lower e.
+          every-all _ (g .limits) (every-map _ _ (g .limits) (λ m f. limit-left l a own own′ elapsed fewer lower m m (limit-self m) f) (all-every _ (g .limits) e));
+      naming = λ c e. e;
+    }
+
+covers-narrow : (n : Group) (hints : List ℕ) (o f : Group) → groupNarrows n hints o ≡ true → Covers o f → Covers n f
+covers-narrow n hints o f e c =
+    record {
+      admitted = λ km0 q k d. c .admitted km0 q k (admits-source n hints o e km0 q k d);
+      certifies = λ q d. c .certifies q (certified-source n hints o e q d);
+      leaves = λ l a own own′ elapsed fewer lower d.
+          c .leaves l a own own′ elapsed fewer lower (left-source n hints o e l l own own elapsed (omega arith) (λ c. omega arith) d);
+      naming = λ i d. names-source n hints o e i (c .naming i d);
+    }
+
+-- The account follows the ledger: `os` gives, for each group of the ACL in force, its group of the first ACL.
+record Follows (first : List Group) (a l : Ledger) (gs : List Group) (os : List ℕ) : Type 0 where
+  loads : a .loaded ≡ l .loaded
+  counter-size : length (a .counters) ≡ length (l .counters)
+  count-size : length (l .counts) ≡ groupsMax
+  lower : (c : ℕ) → getD (a .counters) c 0 ≤ getD (l .counters) c 0
+  rising : (i j x y : ℕ) → i < j → getElem? os i ≡ some x → getElem? os j ≡ some y → x < y
+  origin : (k : ℕ) (g : Group) → getElem? gs k ≡ some g → (o : ℕ) × (f : Group) × (getElem? os k ≡ some o) × (getElem? first o ≡ some f) × Covers g f × (getD (a .counts) o 0 ≤ getD (l .counts) k 0)
+
+-- a permit of the ledger is one of the account
+grants-first : (first : List Group) (a l : Ledger) (km0 : Bytes) (q : Request) (k o : ℕ) (g f : Group) → a .loaded ≡ l .loaded → ((c : ℕ) → getD (a .counters) c 0 ≤ getD (l .counters) c 0) → Covers g f → getD (a .counts) o 0 ≤ getD (l .counts) k 0 → Known (q .wanted) → grants l km0 q k g ≡ true → grants a km0 q o f ≡ true
+grants-first first a l km0 q k o g f loads lower c fewer known e =
+    let x = c .admitted km0 q known (search conj) in
+    let y = c .certifies q (search conj) in
+    let u = ltb-true (getD (l .counts) k 0) fullCount (search conj) in
+    let v : ltb (getD (a .counts) o 0) fullCount ≡ true = lt-ltb (getD (a .counts) o 0) fullCount (omega arith) in
+    let w : limitsLeft (a .counters) (getD (a .counts) o 0) (q .time - a .loaded) (f .limits) ≡ true =
+    rw loads (c .leaves (l .counters) (a .counters) (getD (l .counts) k 0) (getD (a .counts) o 0) (q .time - l .loaded) fewer lower (search conj)) in
+    and-both _ _ (and-both _ _ x y) (and-both _ _ v w)
+
+-- Tables.
+set-at-most : (xs : List ℕ) (i v : ℕ) → getD (set xs i v) i 0 ≤ v
+set-at-most [] i v = omega arith
+set-at-most (x ∷ xs) zero v = omega arith
+set-at-most (x ∷ xs) (suc i) v = set-at-most xs i v
+
+raised-lower : (a l : List ℕ) (ms ns : List Limit) → length a ≡ length l → ((c : ℕ) → getD a c 0 ≤ getD l c 0) → ((c : ℕ) → names c ms ≡ true → names c ns ≡ true) → (c : ℕ) → getD (raisedBy a ms a) c 0 ≤ getD (raisedBy l ns l) c 0
+raised-lower a l ms ns p lower f c = pick (ltb c (length a)) refl
+  where
+    compare : (t u : Bool) (x y : ℕ) → x ≤ y → (t ≡ true → u ≡ true) → reading t x x ≤ reading u y y
+    compare true true x y h g = omega arith
+    compare true false x y h g = absurd (false≢true (g refl))
+    compare false true x y h g = omega arith
+    compare false false x y h g = h
+
+    pick : (b : Bool) → ltb c (length a) ≡ b → getD (raisedBy a ms a) c 0 ≤ getD (raisedBy l ns l) c 0
+    pick true e =
+        let h = ltb-true c (length a) e in
+        rw (raisedBy-at a c ms a (omega arith), raisedBy-at l c ns l (omega arith))
+        (compare (names c ms) (names c ns) (getD a c 0) (getD l c 0) (lower c) (f c))
+    pick false e =
+        let h = ltb-false c (length a) e in
+        let z = raisedBy-length a ms a in
+        rw (List·getD-eq-default (raisedBy a ms a) 0 {n = c} (omega arith)) (omega arith)
+
+-- what stands at a place is within the list
+there-below : {A : Type 0} (xs : List A) (i : ℕ) (x : A) → getElem? xs i ≡ some x → i < length xs
+there-below [] i x e = absurd (never (cc))
+there-below (y ∷ ys) zero x e = omega arith
+there-below (y ∷ ys) (suc i) x e = let r = there-below ys i x e in omega arith
+
+-- A permit keeps the account following.
+charged-follows : (first : List Group) (a l : Ledger) (gs : List Group) (os : List ℕ) (k o : ℕ) (g f : Group) (t : ℕ) → Follows first a l gs os → k < groupsMax → getElem? os k ≡ some o → Covers g f → getD (a .counts) o 0 ≤ getD (l .counts) k 0 → Follows first (charge a o f t) (charge l k g t) gs os
+unfolding charge
+charged-follows first a l gs os k o g f t h below here c fewer =
+    record {
+      loads = h .loads;
+      counter-size = raisedBy-length (a .counters) (f .limits) (a .counters) ∙ h .counter-size ∙ sym (raisedBy-length (l .counters) (g .limits) (l .counters));
+      count-size = length-set (l .counts) k _ ∙ h .count-size;
+      lower = raised-lower (a .counters) (l .counters) (f .limits) (g .limits) (h .counter-size) (h .lower) (c .naming);
+      rising = h .rising;
+      origin = λ j x e. let r = h .origin j x e in (r .0, r .1, r .2, r .3, r .4, counts j (r .0) (r .2) (r .5) (eqb j k) refl);
+    }
+  where
+    apart : (j p : ℕ) → getElem? os j ≡ some p → j ≢ k → p ≢ o
+    apart j p e n q = pick (ltb j k) refl
+      where
+        pick : (b : Bool) → ltb j k ≡ b → ⊥
+        pick true d = let r = h .rising j k p o (ltb-true j k d) e here in omega arith
+        pick false d = let m = ltb-false j k d in let r = h .rising k j o p (omega arith) here e in omega arith
+
+    counts : (j p : ℕ) → getElem? os j ≡ some p → getD (a .counts) p 0 ≤ getD (l .counts) j 0 → (b : Bool) → eqb j k ≡ b → getD (set (a .counts) o (getD (a .counts) o 0 + 1)) p 0 ≤ getD (set (l .counts) k (getD (l .counts) k 0 + 1)) j 0
+    counts j p e m true d =
+        let q = eqb-true j k d in
+        let e′ : getElem? os k ≡ some p = rw q at e in
+        let w : p ≡ o = cc in
+        let x = set-at-most (a .counts) o (getD (a .counts) o 0 + 1) in
+        let z = h .count-size in
+        rw (q, w, getD-set-same (l .counts) k (getD (l .counts) k 0 + 1) 0 (omega arith)) (omega arith)
+    counts j p e m false d =
+        let n : j ≢ k = eqb-false j k d in
+        rw (getD-set-other (a .counts) o p (getD (a .counts) o 0 + 1) 0 (apart j p e n), getD-set-other (l .counts) k j (getD (l .counts) k 0 + 1) 0 n) m
+
+-- Narrowing: each new group has a hint, whose source it narrows; sources rise.
+narrows-at : (old : List Group) (low : ℕ) (ns : List Group) (hs : List Hint) (k : ℕ) (n : Group) → narrowsFrom old low ns hs ≡ true → getElem? ns k ≡ some n
+    → (h : Hint) × (g : Group) × (getElem? hs k ≡ some h) × (getElem? old (h .source) ≡ some g) × (groupNarrows n (h .actions) g ≡ true)
+unfolding narrowsFrom
+narrows-at old low [] hs k n e d = absurd (never (cc))
+narrows-at old low (x ∷ xs) [] k n e d = absurd (false≢true e)
+narrows-at old low (x ∷ xs) (i ∷ is) zero n e d = named (getElem? old (i .source)) refl (search conj)
+  where
+    named : (o : Option Group) → getElem? old (i .source) ≡ o → narrowsSource x (i .actions) o ≡ true → (h : Hint) × (g : Group) × (getElem? (i ∷ is) 0 ≡ some h) × (getElem? old (h .source) ≡ some g) × (groupNarrows n (h .actions) g ≡ true)
+    named none q f = absurd (false≢true f)
+    named (some o) q f = let b : x ≡ n = cc in (i, o, refl, q, rw (← b) f)
+narrows-at old low (x ∷ xs) (i ∷ is) (suc k) n e d = narrows-at old (suc (i .source)) xs is k n (search conj) d
+
+hint-at : (old : List Group) (low : ℕ) (ns : List Group) (hs : List Hint) (k : ℕ) (h : Hint) → narrowsFrom old low ns hs ≡ true → getElem? hs k ≡ some h
+    → (g : Group) × (getElem? old (h .source) ≡ some g) × (low ≤ h .source)
+unfolding narrowsFrom
+hint-at old low [] [] k h e d = absurd (never (cc))
+hint-at old low [] (i ∷ is) k h e d = absurd (false≢true e)
+hint-at old low (x ∷ xs) [] k h e d = absurd (never (cc))
+hint-at old low (x ∷ xs) (i ∷ is) zero h e d = named (getElem? old (i .source)) refl (search conj)
+  where
+    named : (o : Option Group) → getElem? old (i .source) ≡ o → narrowsSource x (i .actions) o ≡ true → (g : Group) × (getElem? old (h .source) ≡ some g) × (low ≤ h .source)
+    named none q f = absurd (false≢true f)
+    named (some o) q f = let b : i ≡ h = cc in (o, rw (← b) q, rw (← b) (leb-true low (i .source) (search conj)))
+hint-at old low (x ∷ xs) (i ∷ is) (suc k) h e d =
+    let r = hint-at old (suc (i .source)) xs is k h (search conj) d in
+    let m = leb-true low (i .source) (search conj) in
+    (r .0, r .1, omega arith)
+
+sources-rise : (old : List Group) (low : ℕ) (ns : List Group) (hs : List Hint) (i j : ℕ) (x y : Hint) → narrowsFrom old low ns hs ≡ true → i < j → getElem? hs i ≡ some x → getElem? hs j ≡ some y → x .source < y .source
+unfolding narrowsFrom
+sources-rise old low [] [] i j x y e l p q = absurd (never (cc))
+sources-rise old low [] (h ∷ hs) i j x y e l p q = absurd (false≢true e)
+sources-rise old low (n ∷ ns) [] i j x y e l p q = absurd (false≢true e)
+sources-rise old low (n ∷ ns) (h ∷ hs) zero zero x y e l p q = absurd (omega arith)
+sources-rise old low (n ∷ ns) (h ∷ hs) zero (suc j) x y e l p q =
+    let b : h ≡ x = cc in
+    let r = hint-at old (suc (h .source)) ns hs j y (search conj) q in
+    rw (← b) (r .2)
+sources-rise old low (n ∷ ns) (h ∷ hs) (suc i) zero x y e l p q = absurd (omega arith)
+sources-rise old low (n ∷ ns) (h ∷ hs) (suc i) (suc j) x y e l p q = sources-rise old (suc (h .source)) ns hs i j x y (search conj) (omega arith) p q
+
+-- an element of a mapped list, and of the carried counts
+mapped-at : {A B : Type 0} (f : A → B) (xs : List A) (i : ℕ) (y : B) → getElem? (map f xs) i ≡ some y → (x : A) × (getElem? xs i ≡ some x) × (f x ≡ y)
+mapped-at f [] i y e = absurd (never (cc))
+mapped-at f (x ∷ xs) zero y e = (x, refl, cc)
+mapped-at f (x ∷ xs) (suc i) y e = mapped-at f xs i y e
+
+map-at : {A B : Type 0} (f : A → B) (xs : List A) (i : ℕ) (x : A) → getElem? xs i ≡ some x → getElem? (map f xs) i ≡ some (f x)
+map-at f [] i x e = absurd (never (cc))
+map-at f (y ∷ ys) zero x e = let b : y ≡ x = cc in rw b
+map-at f (y ∷ ys) (suc i) x e = map-at f ys i x e
+
+carried-at : (f : Hint → ℕ) (hs : List Hint) (rest : List ℕ) (i : ℕ) (h : Hint) → getElem? hs i ≡ some h → getD (map f hs ++ rest) i 0 ≡ f h
+carried-at f [] rest i h e = absurd (never (cc))
+carried-at f (x ∷ xs) rest zero h e = let b : x ≡ h = cc in rw b
+carried-at f (x ∷ xs) rest (suc i) h e = carried-at f xs rest i h e
+
+getD-there : (xs : List ℕ) (i x : ℕ) → getElem? xs i ≡ some x → getD xs i 0 ≡ x
+getD-there [] i x e = absurd (never (cc))
+getD-there (y ∷ ys) zero x e = cc
+getD-there (y ∷ ys) (suc i) x e = getD-there ys i x e
+
+narrowed-follows : (first : List Group) (a l : Ledger) (gs : List Group) (os : List ℕ) (ns : List Group) (hs : List Hint) → Follows first a l gs os → narrows gs ns hs ≡ true → length hs ≤ groupsMax → Follows first a (recounted l (carried (l .counts) hs)) ns (map (λ h. getD os (h .source) 0) hs)
+narrowed-follows first a l gs os ns hs f e b =
+    record {
+      loads = f .loads;
+      counter-size = f .counter-size;
+      count-size =
+          length-append (map (λ h. getD (l .counts) (h .source) 0) hs) (replicate (groupsMax - length hs) 0)
+          ∙ sizes (length-map hs (λ h. getD (l .counts) (h .source) 0)) (length-replicate {A = ℕ} (groupsMax - length hs) 0);
+      lower = f .lower;
+      rising = rises;
+      origin = λ k n d. comes k n (narrows-at gs 0 ns hs k n e d);
+    }
+  where
+    sizes : {x y : ℕ} → x ≡ length hs → y ≡ groupsMax - length hs → x + y ≡ groupsMax
+    sizes p q = omega arith
+
+    -- the origin of a hint's source
+    from : (k : ℕ) (h : Hint) → getElem? hs k ≡ some h → (x : ℕ) × (getElem? os (h .source) ≡ some x)
+    from k h d =
+        let r = hint-at gs 0 ns hs k h e d in
+        let o = f .origin (h .source) (r .0) (r .1) in
+        (o .0, o .2)
+
+    rises : (i j x y : ℕ) → i < j → getElem? (map (λ h. getD os (h .source) 0) hs) i ≡ some x → getElem? (map (λ h. getD os (h .source) 0) hs) j ≡ some y → x < y
+    rises i j x y l p q =
+        let u = mapped-at (λ h. getD os (h .source) 0) hs i x p in
+        let v = mapped-at (λ h. getD os (h .source) 0) hs j y q in
+        let s = from i (u .0) (u .1) in
+        let t = from j (v .0) (v .1) in
+        let m = sources-rise gs 0 ns hs i j (u .0) (v .0) e l (u .1) (v .1) in
+        let w = f .rising (u .0 .source) (v .0 .source) (s .0) (t .0) m (s .1) (t .1) in
+        let c = getD-there os (u .0 .source) (s .0) (s .1) in
+        let d = getD-there os (v .0 .source) (t .0) (t .1) in
+        omega (arith, u .2, v .2)
+
+    comes : (k : ℕ) (n : Group) → (h : Hint) × (g : Group) × (getElem? hs k ≡ some h) × (getElem? gs (h .source) ≡ some g) × (groupNarrows n (h .actions) g ≡ true)
+        → (o : ℕ) × (x : Group) × (getElem? (map (λ h. getD os (h .source) 0) hs) k ≡ some o) × (getElem? first o ≡ some x) × Covers n x × (getD (a .counts) o 0 ≤ getD (carried (l .counts) hs) k 0)
+    comes k n r =
+        let o = f .origin (r .0 .source) (r .1) (r .3) in
+        let w = map-at (λ h. getD os (h .source) 0) hs k (r .0) (r .2) in
+        let c = getD-there os (r .0 .source) (o .0) (o .2) in
+        let z = carried-at (λ h. getD (l .counts) (h .source) 0) hs (replicate (groupsMax - length hs) 0) k (r .0) (r .2) in
+        (o .0, o .1, w ∙ ap some c, o .3, covers-narrow n (r .0 .actions) (r .1) (o .1) (r .4) (o .4), rw z (o .5))
+
+-- The two ways that a request ends, and a narrowing.
+request-ways : (l : Ledger) (km0 acl req : Bytes) → ((f : ℕ) × (near : Option ℕ) × (request l km0 acl req ≡ refusedNear l f near))
+    ⊎ ((k : ℕ) × (g : Group) × (requestFiles km0 acl req ≡ none) × (judge l km0 (aclOf acl) (requestOf req) ≡ granted k g) × (request l km0 acl req ≡ permitted k (charge l k g (requestOf req .time))))
+unfolding request
+request-ways l km0 acl req = pick (requestFiles km0 acl req) refl (judge l km0 (aclOf acl) (requestOf req)) refl
+  where
+    pick : (f : Option ℕ) → requestFiles km0 acl req ≡ f → (j : Judgement) → judge l km0 (aclOf acl) (requestOf req) ≡ j
+        → ((f : ℕ) × (near : Option ℕ) × (request l km0 acl req ≡ refusedNear l f near))
+        ⊎ ((k : ℕ) × (g : Group) × (requestFiles km0 acl req ≡ none) × (judge l km0 (aclOf acl) (requestOf req) ≡ granted k g) × (request l km0 acl req ≡ permitted k (charge l k g (requestOf req .time))))
+    pick (some f) p j q = inl (f, none, rw p)
+    pick none p (denied f) q = inl (numberOf f, nearest f, rw (p, q))
+    pick none p (granted k g) q = inr (k, g, p, q, rw (p, q))
+
+narrow-ways : (l : Ledger) (km0 acl req new hints : Bytes) → ((f : ℕ) × (near : Option ℕ) × (narrow l km0 acl req new hints ≡ refusedNear l f near))
+    ⊎ ((k : ℕ) × (g : Group) × (narrowFiles km0 acl req new hints ≡ none) × (judge l km0 (aclOf acl) (requestOf req) ≡ granted k g)
+    × (narrows (aclOf acl) (aclOf new) (hintsOf hints) ≡ true)
+    × (narrow l km0 acl req new hints ≡ permitted k (recounted (charge l k g (requestOf req .time)) (carried (charge l k g (requestOf req .time) .counts) (hintsOf hints)))))
+unfolding narrow
+narrow-ways l km0 acl req new hints =
+    pick (narrowFiles km0 acl req new hints) refl (judge l km0 (aclOf acl) (requestOf req)) refl (narrows (aclOf acl) (aclOf new) (hintsOf hints)) refl
+  where
+    pick : (f : Option ℕ) → narrowFiles km0 acl req new hints ≡ f → (j : Judgement) → judge l km0 (aclOf acl) (requestOf req) ≡ j → (b : Bool) → narrows (aclOf acl) (aclOf new) (hintsOf hints) ≡ b
+        → ((f : ℕ) × (near : Option ℕ) × (narrow l km0 acl req new hints ≡ refusedNear l f near))
+        ⊎ ((k : ℕ) × (g : Group) × (narrowFiles km0 acl req new hints ≡ none) × (judge l km0 (aclOf acl) (requestOf req) ≡ granted k g)
+        × (narrows (aclOf acl) (aclOf new) (hintsOf hints) ≡ true)
+        × (narrow l km0 acl req new hints ≡ permitted k (recounted (charge l k g (requestOf req .time)) (carried (charge l k g (requestOf req .time) .counts) (hintsOf hints)))))
+    pick (some f) p j q b r = inl (f, none, rw p)
+    pick none p (denied f) q b r = inl (numberOf f, nearest f, rw (p, q))
+    pick none p (granted k g) q true r = inr (k, g, p, q, r, rw (p, q, r))
+    pick none p (granted k g) q false r = inl (notNarrower, none, rw (p, q, r))
+
+-- an expansion is refused or permitted
+expand-ways : (l : Ledger) (km0 acl req new : Bytes) → ((f : ℕ) × (near : Option ℕ) × (expand l km0 acl req new ≡ refusedNear l f near)) ⊎ ((k : ℕ) × (expand l km0 acl req new .answer ≡ permit k))
+unfolding expand
+expand-ways l km0 acl req new = pick (expandFiles km0 acl req new) refl (judge l km0 (aclOf acl) (requestOf req)) refl
+  where
+    pick : (f : Option ℕ) → expandFiles km0 acl req new ≡ f → (j : Judgement) → judge l km0 (aclOf acl) (requestOf req) ≡ j
+        → ((f : ℕ) × (near : Option ℕ) × (expand l km0 acl req new ≡ refusedNear l f near)) ⊎ ((k : ℕ) × (expand l km0 acl req new .answer ≡ permit k))
+    pick (some f) p j q = inl (f, none, rw p)
+    pick none p (denied f) q = inl (numberOf f, nearest f, rw (p, q))
+    pick none p (granted k g) q = inr (k, rw (p, q))
+
+clear-follows : (first : List Group) (a l : Ledger) (gs : List Group) (os : List ℕ) (c : ℕ) → Follows first a l gs os → Follows first (cleared a c) (cleared l c) gs os
+clear-follows first a l gs os c f =
+    record {
+      loads = f .loads;
+      counter-size = length-set (a .counters) c 0 ∙ f .counter-size ∙ sym (length-set (l .counters) c 0);
+      count-size = f .count-size;
+      lower = λ i. both i (eqb i c) refl;
+      rising = f .rising;
+      origin = f .origin;
+    }
+  where
+    both : (i : ℕ) (b : Bool) → eqb i c ≡ b → getD (set (a .counters) c 0) i 0 ≤ getD (set (l .counters) c 0) i 0
+    both i true e = let x = set-at-most (a .counters) c 0 in rw (eqb-true i c e) (omega arith)
+    both i false e =
+        let n : i ≢ c = eqb-false i c e in
+        rw (getD-set-other (a .counters) c i 0 0 n, getD-set-other (l .counters) c i 0 0 n) (f .lower i)
+
+zero-at : (n i : ℕ) → _≡_ {A = ℕ} (getD (replicate n 0) i 0) 0
+zero-at zero i = refl
+zero-at (suc n) zero = refl
+zero-at (suc n) (suc i) = zero-at n i
+
+load-follows : (first : List Group) (a l : Ledger) (gs : List Group) (os : List ℕ) (t : ℕ) → Follows first a l gs os → Follows first (loadedAt a t) (loadedAt l t) gs os
+load-follows first a l gs os t f =
+    record {
+      loads = refl;
+      counter-size = f .counter-size;
+      count-size = length-replicate {A = ℕ} groupsMax 0;
+      lower = f .lower;
+      rising = f .rising;
+      origin = λ k g e. let r = f .origin k g e in (r .0, r .1, r .2, r .3, r .4, rw (zero-at groupsMax (r .0)) (omega arith));
+    }
+
+clear-done : (l : Ledger) (c : ℕ) → ltb c countersMax ≡ true → clear l c ≡ finished (cleared l c)
+unfolding clear
+clear-done l c e = rw e
+
+clear-refused : (l : Ledger) (c : ℕ) → ltb c countersMax ≡ false → clear l c ≡ refused l outOfRange
+unfolding clear
+clear-refused l c e = rw e
+
+module _ (first : List Group) where
+  -- a permit of the group at a place is put down to its origin, and the account goes on following
+  put-permit : (a l : Ledger) (km0 acl : Bytes) (q : Request) (os : List ℕ) (k : ℕ) (g : Group) → Follows first a l (aclOf acl) os → aclFault (records acl) ≡ none → Known (q .wanted) → judge l km0 (aclOf acl) q ≡ granted k g
+      → (o : ℕ) × (f : Group) × (getElem? first o ≡ some f) × (grants a km0 q o f ≡ true) × Follows first (charge a o f (q .time)) (charge l k g (q .time)) (aclOf acl) os
+  put-permit a l km0 acl q os k g f e n j =
+      let r = granted-is l km0 (aclOf acl) q k g j in
+      let o = f .origin k g (r .0) in
+      let b = acl-bound (records acl) e in
+      let m = there-below (aclOf acl) k g (r .0) in (
+        o .0,
+        o .1,
+        o .3,
+        grants-first first a l km0 q k (o .0) g (o .1) (f .loads) (f .lower) (o .4) (o .5) n (r .1),
+        charged-follows first a l (aclOf acl) os k (o .0) g (o .1) (q .time) f (omega arith) (o .2) (o .4) (o .5),
+      )
+
+  -- One call, given what comes after it: `go` has what is to hold of the account then.
+  module _ (a : Ledger) (s : State) (os : List ℕ) (f : Follows first a (s .ledger) (aclOf (s .acl)) os) (next : Ledger → Type 0) where
+    -- what is to hold after a call, if the account still follows
+    abbrev Goes : Call → Type 0
+    Goes c = (b : Ledger) (ps : List ℕ) → Follows first b (after s c .ledger) (aclOf (after s c .acl)) ps → next b
+
+    put-request : (km0 req : Bytes) → Goes (requesting km0 req) → PutDown first a (requesting km0 req) next (outcome s (requesting km0 req) .answer)
+    unfolding outcome after
+    put-request km0 req go = ways (request-ways (s .ledger) km0 (s .acl) req)
+      where
+        ways : ((x : ℕ) × (near : Option ℕ) × (request (s .ledger) km0 (s .acl) req ≡ refusedNear (s .ledger) x near))
+            ⊎ ((k : ℕ) × (g : Group) × (requestFiles km0 (s .acl) req ≡ none) × (judge (s .ledger) km0 (aclOf (s .acl)) (requestOf req) ≡ granted k g) × (request (s .ledger) km0 (s .acl) req ≡ permitted k (charge (s .ledger) k g (requestOf req .time))))
+            → PutDown first a (requesting km0 req) next (request (s .ledger) km0 (s .acl) req .answer)
+        ways (inl r) = rw (r .2) (go a os (rw (r .2) f))
+        ways (inr r) =
+            let n = fault-none-every _ (r .2) in
+            let p = put-permit a (s .ledger) km0 (s .acl) (requestOf req) os (r .0) (r .1) f (n .1 .0) (known-request (records req) (n .1 .1 .0)) (r .3) in
+            rw (r .4) (p .0, p .1, p .2, p .3, go _ os (rw (r .4) (p .4)))
+
+    put-clear : (c : ℕ) → Goes (clearing c) → PutDown first a (clearing c) next (outcome s (clearing c) .answer)
+    unfolding outcome after
+    put-clear c go = pick (ltb c countersMax) refl
+      where
+        pick : (b : Bool) → ltb c countersMax ≡ b → PutDown first a (clearing c) next (clear (s .ledger) c .answer)
+        pick true e =
+            rw (clear-done (s .ledger) c e)
+            (go (clear a c .ledger) os (rw (clear-done (s .ledger) c e, clear-done a c e) (clear-follows first a (s .ledger) (aclOf (s .acl)) os c f)))
+        pick false e = rw (clear-refused (s .ledger) c e) (go a os (rw (clear-refused (s .ledger) c e) f))
+
+    put-narrow : (km0 req new hints : Bytes) → Goes (narrowing km0 req new hints) → PutDown first a (narrowing km0 req new hints) next (outcome s (narrowing km0 req new hints) .answer)
+    unfolding outcome after
+    put-narrow km0 req new hints go = ways (narrow-ways (s .ledger) km0 (s .acl) req new hints)
+      where
+        ways : ((x : ℕ) × (near : Option ℕ) × (narrow (s .ledger) km0 (s .acl) req new hints ≡ refusedNear (s .ledger) x near))
+            ⊎ ((k : ℕ) × (g : Group) × (narrowFiles km0 (s .acl) req new hints ≡ none) × (judge (s .ledger) km0 (aclOf (s .acl)) (requestOf req) ≡ granted k g)
+            × (narrows (aclOf (s .acl)) (aclOf new) (hintsOf hints) ≡ true)
+            × (narrow (s .ledger) km0 (s .acl) req new hints ≡ permitted k (recounted (charge (s .ledger) k g (requestOf req .time)) (carried (charge (s .ledger) k g (requestOf req .time) .counts) (hintsOf hints)))))
+            → PutDown first a (narrowing km0 req new hints) next (narrow (s .ledger) km0 (s .acl) req new hints .answer)
+        ways (inl r) = rw (r .2) (go a os (rw (r .2) f))
+        ways (inr r) =
+            let n = fault-none-every _ (r .2) in
+            let u : requestOf req .wanted ≡ operation reduceAcl = use-wanted reduceAcl (records req) (n .1 .1 .0) in
+            let p = put-permit a (s .ledger) km0 (s .acl) (requestOf req) os (r .0) (r .1) f (n .1 .0) (rw u (omega arith)) (r .3) in
+            let v = narrowed-follows first _ _ (aclOf (s .acl)) os (aclOf new) (hintsOf hints) (p .4) (r .4) (narrow-few km0 (s .acl) req new hints (r .2)) in
+            rw (r .5) (p .0, p .1, p .2, p .3, go _ (map (λ h. getD os (h .source) 0) (hintsOf hints)) (rw (r .5) v))
+
+    put-expand : (km0 req new : Bytes) → ((k : ℕ) → outcome s (expanding km0 req new) .answer ≡ permit k → true ≡ false) → Goes (expanding km0 req new) → PutDown first a (expanding km0 req new) next (outcome s (expanding km0 req new) .answer)
+    unfolding outcome after
+    put-expand km0 req new d go = ways (expand-ways (s .ledger) km0 (s .acl) req new)
+      where
+        ways : ((x : ℕ) × (near : Option ℕ) × (expand (s .ledger) km0 (s .acl) req new ≡ refusedNear (s .ledger) x near)) ⊎ ((k : ℕ) × (expand (s .ledger) km0 (s .acl) req new .answer ≡ permit k))
+            → PutDown first a (expanding km0 req new) next (expand (s .ledger) km0 (s .acl) req new .answer)
+        ways (inl r) = rw (r .2) (go a os (rw (r .2) f))
+        ways (inr r) = absurd (false≢true (sym (d (r .0) (r .1))))
+
+    put-call : (c : Call) → ((k : ℕ) → outcome s c .answer ≡ permit k → isExpansion c ≡ false) → Goes c → PutDown first a c next (outcome s c .answer)
+    unfolding outcome after
+    put-call (requesting km0 req) d go = put-request km0 req go
+    put-call (loading t) d go = go _ os (load-follows first a (s .ledger) (aclOf (s .acl)) os t f)
+    put-call (clearing n) d go = put-clear n go
+    put-call (narrowing km0 req new hints) d go = put-narrow km0 req new hints go
+    put-call (expanding km0 req new) d go = put-expand km0 req new d go
+
+  put-down : (a : Ledger) (s : State) (os : List ℕ) (cs : List Call) → Follows first a (s .ledger) (aclOf (s .acl)) os → EveryPermit (λ s c. isExpansion c ≡ false) s cs → AllPutDown first a s cs
+  put-down a s os [] f d = tt
+  put-down a s os (c ∷ cs) f d = put-call a s os f (λ b. AllPutDown first b (after s c) cs) c (d .0) (λ b ps g. put-down b (after s c) ps cs g (d .1))
+
+-- the places of a list, each its own origin
+upTo : ℕ → ℕ → List ℕ
+upTo from zero = []
+upTo from (suc n) = from ∷ upTo (suc from) n
+
+upTo-at : (from n i : ℕ) → i < n → getElem? (upTo from n) i ≡ some (from + i)
+unfolding upTo
+upTo-at from zero i h = absurd (omega arith)
+upTo-at from (suc n) zero h = ap some (omega arith)
+upTo-at from (suc n) (suc i) h = upTo-at (suc from) n i (omega arith) ∙ ap some (omega arith)
+
+upTo-below : (from n i x : ℕ) → getElem? (upTo from n) i ≡ some x → (i < n) × (x ≡ from + i)
+unfolding upTo
+upTo-below from zero i x e = absurd (never (cc))
+upTo-below from (suc n) zero x e = let b : from ≡ x = cc in (omega arith, omega arith)
+upTo-below from (suc n) (suc i) x e = let r = upTo-below (suc from) n i x e in (omega arith, omega arith)
+
+-- Request m. From a load, make any calls, refused ones too, of which no expansion is permitted; each gets the ledger last handed back and the ACL in
+-- force. Each permit can be put down to a group of the first ACL that admits it, is certified by what was presented, and is unspent under an account
+-- that starts from the readings at that load, obeys the same clears and reloads, and counts only these permits.
+pub narrowing-never-buys-uses : (ledger : Ledger) (time : ℕ) (acl : Bytes) (calls : List Call)
+    → let start : State = record { ledger = load ledger time .ledger; acl = acl } in
+    EveryPermit (λ s c. isExpansion c ≡ false) start calls → AllPutDown (aclOf acl) (load ledger time .ledger) start calls
+narrowing-never-buys-uses ledger time acl calls d =
+    put-down (aclOf acl) (loadedAt ledger time) (record { ledger = loadedAt ledger time; acl = acl }) (upTo 0 (length (aclOf acl))) calls start d
+  where
+    start : Follows (aclOf acl) (loadedAt ledger time) (loadedAt ledger time) (aclOf acl) (upTo 0 (length (aclOf acl)))
+    start =
+        record {
+          loads = refl;
+          counter-size = refl;
+          count-size = length-replicate {A = ℕ} groupsMax 0;
+          lower = λ c. omega arith;
+          rising = λ i j x y h p q. let r = upTo-below 0 _ i x p in let s = upTo-below 0 _ j y q in omega arith;
+          origin = λ k g e.
+              (k, g, upTo-at 0 (length (aclOf acl)) k (there-below (aclOf acl) k g e) ∙ ap some (omega arith), e, covers-self g, omega arith);
+        }
+
+-- .. and so of any requests, clears, reloads and narrowings
+pub no-expansion : (s : State) (calls : List Call) → Every (λ c. isExpansion c ≡ false) calls → EveryPermit (λ s c. isExpansion c ≡ false) s calls
+no-expansion s [] h = tt
+no-expansion s (c ∷ cs) h = (λ k e. h .0, no-expansion (after s c) cs (h .1))

@@ -1,0 +1,214 @@
+// trim BUNDLE ACL NEW HINTS, four file names: writes the ACL without what fails at the desk to NEW, and to HINTS the hints by which it narrows the old
+// one. For each record of the old ACL of which something is removed it prints a line `group G action A fails STEP, removed: LINE`, by its old places;
+// LINE is the listing's line (docs/LISTING.md) of a blob action, of the blobfile that goes with it, or of the permissions that are gone. Then comes
+// `trimmed: ACL M bytes, hints N bytes`. Where a file is refused, or a step before the ACL fails, the desk's line is printed alone and no file is written.
+ghost use mathlib.Core.Path.{_≡_};
+ghost use Prim.Native.Nat.{_-_, _≤_};
+ghost use lib.ListN.{length};
+ghost use Rattle.rules.specs.Sizes.{recordBytes};
+ghost use Rattle.facts.specs.Places.{Found};
+use arguments::Input;
+use desk::Verdict;
+use libc::STDERR_FILENO;
+use libc::STDOUT_FILENO;
+use steps::Failure;
+use steps::Step;
+use trimming::TrimReply;
+
+fn print(text: &[u8]) {
+    io::write_all(STDOUT_FILENO, text);
+}
+
+fn print_number(n: usize) {
+    io::print_decimal(STDOUT_FILENO, n as u64);
+}
+
+// The desk's line.
+fn print_verdict(v: Verdict) {
+    let mut line = [0u8; verdicts::LINE];
+    let n = verdicts::verdict_line(v, &mut line);
+    print(arguments::prefix(&line, n));
+}
+
+// What a line begins with: an action's old place, and the step that it fails.
+fn print_place(group: usize, action: usize, step: Step) {
+    let mut name = [0u8; verdicts::LINE];
+    let n = verdicts::append_step(step, 0, &mut name);
+    print(b"group ");
+    print_number(group);
+    print(b" action ");
+    print_number(action);
+    print(b" fails");
+    print(arguments::prefix(&name, n));
+    print(b", removed: ");
+}
+
+// A record's line in a listing.
+fn print_record(rec: &[u8])
+    requires { ⌜ length (now rec) ≡ recordBytes ⌝ }
+{
+    let mut line = [0u8; lines::ROOM];
+    let n = lines::line_of(rec, &mut line);
+    print(arguments::prefix(&line, n));
+}
+
+// What is gone of an OpPermissions action, as a record: the permissions that fail.
+fn lost_permissions(
+    places: &[usize; facts::ENTRIES],
+    bundle: &[u8],
+    rec: &[u8],
+) -> [u8; sizes::RECORD]
+    requires { ⌜ (length (now rec) ≡ recordBytes) × Found (now bundle) (now places) ⌝ }
+{
+    let policy = facts::policy_of(places, bundle);
+    let bits = keeping::lost_bits(policy, fields::be16(rec, 4));
+    let mut lost = [0u8; sizes::RECORD];
+    lost[0] = 3;
+    lost[4] = (bits / 256) as u8;
+    lost[5] = (bits % 256) as u8;
+    lost
+}
+
+// What is gone of an action that fails.
+fn print_gone(places: &[usize; facts::ENTRIES], bundle: &[u8], rec: &[u8])
+    requires { ⌜ (length (now rec) ≡ recordBytes) × Found (now bundle) (now places) ⌝ }
+{
+    if rec[0] == 3 {
+        let lost = lost_permissions(places, bundle, rec);
+        print_record(&lost);
+        return;
+    }
+    print_record(rec);
+}
+
+// The record of kind 15, if one stands at a place: it goes with its action.
+fn print_file(acl: &[u8], at: usize, group: usize, action: usize, step: Step)
+    requires { ⌜ at ≤ length (now acl) ⌝ }
+{
+    if acl.len() - at < sizes::RECORD {
+        return;
+    }
+    if acl[at] != 15 {
+        return;
+    }
+    print_place(group, action, step);
+    print_record(&acl[at..at + sizes::RECORD]);
+}
+
+// What is gone of the action at a place, with the step that it fails.
+fn print_action(
+    places: &[usize; facts::ENTRIES],
+    bundle: &[u8],
+    acl: &[u8],
+    at: usize,
+    group: usize,
+    action: usize,
+)
+    requires { ⌜ (recordBytes ≤ length (now acl) - at) × Found (now bundle) (now places) ⌝ }
+{
+    let rec = &acl[at..at + sizes::RECORD];
+    let failure = keeping::action_failure(places, bundle, rec);
+    match failure {
+        Failure::Nothing => {}
+        Failure::At(s) => {
+            print_place(group, action, s);
+            print_gone(places, bundle, rec);
+            print_file(acl, at + sizes::RECORD, group, action, s);
+        }
+    }
+}
+
+// What is gone of each action that is checked and fails a step. `next` is the number of the next group, `place` that of the next action.
+fn print_removed(places: &[usize; facts::ENTRIES], bundle: &[u8], acl: &[u8])
+    requires { ⌜ Found (now bundle) (now places) ⌝ }
+{
+    let mut checked = false;
+    let mut group = 0;
+    let mut next = 0;
+    let mut place = 0;
+    let mut at = 0;
+    while sizes::RECORD <= acl.len() - at {
+        if acl[at] == 1 {
+            checked = keeping::is_checked(places, bundle, &acl[at..at + sizes::RECORD]);
+            group = next;
+            next += 1;
+            place = 0;
+            at += sizes::RECORD;
+            continue;
+        }
+        if !checked | (acl[at] == 2) | (acl[at] == 15) {
+            at += sizes::RECORD;
+            continue;
+        }
+        print_action(places, bundle, acl, at, group, place);
+        place += 1;
+        at += sizes::RECORD;
+    }
+}
+
+// Says what was removed, and how long the results are.
+fn print_trimmed(bundle: &[u8], acl: &[u8], new: usize, hints: usize) {
+    let mut places = [0usize; facts::ENTRIES];
+    facts::find_places(&mut places, bundle);
+    print_removed(&places, bundle, acl);
+    print(b"trimmed: ACL ");
+    print_number(new);
+    print(b" bytes, hints ");
+    print_number(hints);
+    print(b" bytes\n");
+}
+
+// Writes both files, then says what was removed.
+fn write_both(bundle: &[u8], acl: &[u8], new: &[u8], hints: &[u8]) {
+    if !arguments::overwrite(3, b"NEW", new) {
+        return;
+    }
+    if !arguments::overwrite(4, b"HINTS", hints) {
+        return;
+    }
+    print_trimmed(bundle, acl, new.len(), hints.len());
+}
+
+// The tool on two files. The buffers have room for any results.
+fn trim_files(bundle: &[u8], acl: &[u8]) {
+    let mut new = [0u8; sizes::ACL_RECORDS * sizes::RECORD];
+    let mut hints = [0u8; sizes::HINT_RECORDS * sizes::RECORD];
+    let reply = trimming::trim(bundle, acl, &mut new, &mut hints);
+    match reply {
+        TrimReply::Trimmed(m, n) => write_both(
+            bundle,
+            acl,
+            arguments::prefix(&new, m),
+            arguments::prefix(&hints, n),
+        ),
+        TrimReply::Failed(s) => print_verdict(Verdict::Failed(s)),
+        TrimReply::Refused(r) => print_verdict(Verdict::Refused(r)),
+    }
+}
+
+// The bundle with the ACL that the second argument names. No file that fits its greatest length fills the buffer, so that a longer one is cut and
+// still too long.
+fn trim_acl(bundle: &[u8]) {
+    let mut acl = [0u8; (sizes::ACL_RECORDS + 1) * sizes::RECORD];
+    let input = arguments::read(2, b"ACL", &mut acl);
+    let Input::Read(n) = input else {
+        return;
+    };
+    trim_files(bundle, arguments::prefix(&acl, n));
+}
+
+fn main() {
+    if os::arg_count() != 5 {
+        io::write_all(
+            STDERR_FILENO,
+            b"trim: four file names are wanted, BUNDLE, ACL, NEW and HINTS\n",
+        );
+        return;
+    }
+    let mut bundle = io::buffer();
+    let input = arguments::read(1, b"BUNDLE", &mut bundle);
+    let Input::Read(n) = input else {
+        return;
+    };
+    trim_acl(arguments::prefix(&bundle, n));
+}
