@@ -1,15 +1,18 @@
 //! Makes the calls of a script: their answers, and what is carried from call to call.
 
+use crate::batch::{batch, Run};
 use crate::cabinet::{check_slot, Cabinet};
-use crate::call::Call;
+use crate::call::{Batch, Call};
 use crate::desk::{attest, Verdict};
 use crate::gate;
 use crate::ledger::Ledger;
 use crate::listing::write_listing;
+use crate::prepare::{form_bytes, prepare, prepared_run, Form};
 use crate::read_listing::read_listing;
-use crate::record::Refusal;
+use crate::record::{hex, Refusal};
 use crate::replace::{expand, narrow};
 use crate::subject::write_subject;
+use crate::trim::trim;
 
 #[derive(Clone, Copy, Debug, PartialEq)]
 pub enum Answer {
@@ -18,6 +21,9 @@ pub enum Answer {
     Refuse(Refusal),
     Desk(Verdict),
     Length(usize),
+    Form(Form),
+    /// Of a trimmed ACL and its hints.
+    Lengths(usize, usize),
 }
 
 /// What a script carries from call to call.
@@ -91,6 +97,43 @@ fn answer_call(ledger: &mut Ledger, call: &mut Call) -> Answer {
         Call::FreshCabinet | Call::ClearShared { .. } | Call::InSlot { .. } => {
             unreachable!("the cabinet's own calls")
         }
+        Call::Batch(asked) => {
+            let (run, buffer) = run_of(asked);
+            run_length(ledger, batch(ledger, run, buffer))
+        }
+        Call::Prepare { acl } => prepare(acl).map_or_else(Answer::Refuse, Answer::Form),
+        Call::PreparedRun { form, batch } => {
+            let (run, buffer) = run_of(batch);
+            run_length(ledger, prepared_run(ledger, form, run, buffer))
+        }
+        Call::Trim {
+            bundle,
+            acl,
+            acl_buffer,
+            hints_buffer,
+        } => match trim(bundle, acl, acl_buffer, hints_buffer) {
+            Ok(Ok((acl_length, hints_length))) => Answer::Lengths(acl_length, hints_length),
+            Ok(Err(step)) => Answer::Desk(Verdict::Fail(step)),
+            Err(refusal) => Answer::Refuse(refusal),
+        },
+    }
+}
+
+fn run_of(asked: &mut Batch) -> (Run<'_>, &mut [u8]) {
+    let run = Run {
+        km0: &asked.km0,
+        acl: &asked.acl,
+        row: &asked.row,
+        records: &asked.run,
+    };
+    (run, &mut asked.buffer)
+}
+
+/// A run's number of answers; its ledger goes on.
+fn run_length(ledger: &mut Ledger, reply: Result<(usize, Ledger), Refusal>) -> Answer {
+    match permit(ledger, reply) {
+        Answer::Permit(number) => Answer::Length(number),
+        refused => refused,
     }
 }
 
@@ -138,6 +181,8 @@ impl Answer {
             }
             Answer::Desk(Verdict::Fail(step)) => format!("fail {step}"),
             Answer::Length(length) => format!("length {length}"),
+            Answer::Lengths(acl, hints) => format!("lengths {acl} {hints}"),
+            Answer::Form(form) => format!("form {}", hex(&form_bytes(&form))),
         }
     }
 
@@ -147,6 +192,8 @@ impl Answer {
         match self {
             Answer::Permit(_) => "permit".to_string(),
             Answer::Length(_) => "length".to_string(),
+            Answer::Form(_) => "form".to_string(),
+            Answer::Lengths(..) => "lengths".to_string(),
             Answer::Refuse(refusal) => format!("refuse {}", refusal.number()),
             _ => self.words(),
         }

@@ -56,6 +56,42 @@ pub enum Call {
         slot: u64,
         call: Box<Call>,
     },
+    Batch(Batch),
+    Prepare {
+        acl: Bytes,
+    },
+    PreparedRun {
+        form: Bytes,
+        batch: Batch,
+    },
+    Trim {
+        bundle: Bytes,
+        acl: Bytes,
+        acl_buffer: Bytes,
+        hints_buffer: Bytes,
+    },
+}
+
+/// What a run is asked with, and its answer buffer.
+#[derive(Clone, Debug, Default, PartialEq)]
+pub struct Batch {
+    pub km0: Bytes,
+    pub acl: Bytes,
+    pub row: Bytes,
+    pub run: Bytes,
+    pub buffer: Bytes,
+}
+
+impl Batch {
+    fn arguments(&mut self) -> Vec<Argument<'_>> {
+        vec![
+            Argument::Bytes(FileKind::Km0, &mut self.km0),
+            Argument::Bytes(FileKind::Acl, &mut self.acl),
+            Argument::Bytes(FileKind::Row, &mut self.row),
+            Argument::Bytes(FileKind::Run, &mut self.run),
+            Argument::Bytes(FileKind::Buffer, &mut self.buffer),
+        ]
+    }
 }
 
 /// What the bytes of an argument hold.
@@ -69,6 +105,12 @@ pub enum FileKind {
     Bundle,
     Hashes,
     Text,
+    /// Decoded certificates.
+    Row,
+    /// Request records.
+    Run,
+    /// A prepared form.
+    Form,
     /// A buffer as lent.
     Buffer,
 }
@@ -95,6 +137,10 @@ impl Call {
             Call::FreshCabinet => 'f',
             Call::ClearShared { .. } => 'c',
             Call::InSlot { call, .. } => call.letter().to_ascii_lowercase(),
+            Call::Batch(_) => 'B',
+            Call::Prepare { .. } => 'P',
+            Call::PreparedRun { .. } => 'Q',
+            Call::Trim { .. } => 'M',
         }
     }
 
@@ -147,6 +193,18 @@ impl Call {
                 slot: 0,
                 call: Box::new(Call::blank(letter.to_ascii_uppercase())?),
             },
+            b'B' => Call::Batch(Batch::default()),
+            b'P' => Call::Prepare { acl: none() },
+            b'Q' => Call::PreparedRun {
+                form: none(),
+                batch: Batch::default(),
+            },
+            b'M' => Call::Trim {
+                bundle: none(),
+                acl: none(),
+                acl_buffer: none(),
+                hints_buffer: none(),
+            },
             _ => return None,
         })
     }
@@ -154,7 +212,7 @@ impl Call {
     /// The arguments in the order in which a script has them.
     pub fn arguments(&mut self) -> Vec<Argument<'_>> {
         use Argument::{Bytes, Number};
-        use FileKind::{Acl, Buffer, Bundle, Hashes, Hints, Km0, NewAcl, Request, Text};
+        use FileKind::{Acl, Buffer, Bundle, Form, Hashes, Hints, Km0, NewAcl, Request, Text};
         match self {
             Call::Fresh | Call::FreshCabinet => Vec::new(),
             Call::Load { time } => vec![Number(time)],
@@ -205,6 +263,24 @@ impl Call {
                 arguments.extend(call.arguments());
                 arguments
             }
+            Call::Batch(batch) => batch.arguments(),
+            Call::Prepare { acl } => vec![Bytes(Acl, acl)],
+            Call::PreparedRun { form, batch } => {
+                let mut arguments = vec![Bytes(Form, form)];
+                arguments.extend(batch.arguments());
+                arguments
+            }
+            Call::Trim {
+                bundle,
+                acl,
+                acl_buffer,
+                hints_buffer,
+            } => vec![
+                Bytes(Bundle, bundle),
+                Bytes(Acl, acl),
+                Bytes(Buffer, acl_buffer),
+                Bytes(Buffer, hints_buffer),
+            ],
         }
     }
 }

@@ -1,10 +1,11 @@
 //! Damages files: single bits and bytes, records moved about, wrong lengths.
 
 use crate::acl::{Limit, MOST_ACL_RECORDS};
+use crate::batch::MOST_BATCH;
+use crate::bundle::MOST_BUNDLE_RECORDS;
 use crate::call::{Argument, Bytes, Call, FileKind};
-use crate::desk::MOST_BUNDLE_RECORDS;
 use crate::encode::{self, RecordBytes};
-use crate::make_acl::{stock, Maker};
+use crate::maker::{stock, Maker};
 use crate::record::RECORD_LENGTH;
 use crate::replace::{Hint, MOST_HINTS};
 use crate::request::{Certificate, Delegation, Request, MOST_REQUEST_RECORDS};
@@ -15,9 +16,10 @@ impl FileKind {
     fn weight(self) -> u64 {
         match self {
             FileKind::Km0 => 1,
-            FileKind::Acl | FileKind::Request | FileKind::Hints => 8,
+            FileKind::Acl | FileKind::Request | FileKind::Hints | FileKind::Run => 8,
             FileKind::NewAcl | FileKind::Bundle => 14,
             FileKind::Hashes | FileKind::Text | FileKind::Buffer => 0,
+            FileKind::Row | FileKind::Form => 0,
         }
     }
 }
@@ -204,7 +206,7 @@ impl Maker {
     }
 
     /// A well-formed record of any kind.
-    fn any_record(&mut self) -> RecordBytes {
+    pub fn any_record(&mut self) -> RecordBytes {
         match self.random.below(10) {
             0 => encode::group_record(&self.group(0)),
             1 => encode::limit_record(&Limit {
@@ -243,6 +245,7 @@ impl Maker {
             * match kind {
                 FileKind::Request => MOST_REQUEST_RECORDS,
                 FileKind::Hints => MOST_HINTS,
+                FileKind::Run => MOST_BATCH,
                 FileKind::Bundle => MOST_BUNDLE_RECORDS,
                 _ => MOST_ACL_RECORDS,
             };

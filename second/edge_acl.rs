@@ -7,7 +7,7 @@ use crate::acl::{
 };
 use crate::call::Bytes;
 use crate::encode;
-use crate::make_acl::Maker;
+use crate::maker::Maker;
 use crate::record::RECORD_LENGTH;
 
 impl Maker {

@@ -2,11 +2,11 @@
 //! barely bad. ACLs and requests have files of their own.
 
 use crate::acl::Acl;
+use crate::bundle::MOST_LISTED;
 use crate::call::{Bytes, FileKind};
 use crate::damage::split;
-use crate::desk::MOST_LISTED;
 use crate::encode::{self, RecordBytes};
-use crate::make_acl::{stock, Maker};
+use crate::maker::{stock, Maker};
 use crate::replace::{Hint, MOST_HINTS};
 
 impl Maker {
@@ -15,6 +15,7 @@ impl Maker {
         match kind {
             FileKind::Request => self.edge_request(file),
             FileKind::Hints => self.edge_hints(file),
+            FileKind::Run => self.edge_run(file),
             FileKind::Bundle => self.edge_bundle(file),
             _ => *file = self.edge_acl(),
         }
@@ -41,6 +42,18 @@ impl Maker {
             }
             _ => {}
         }
+    }
+
+    /// One record of the run barely good or barely bad, or one that belongs to another file.
+    fn edge_run(&mut self, file: &mut Bytes) {
+        let mut records = split(file);
+        let place = self.random.place(records.len() + 1);
+        let record = match self.random.below(3) {
+            0 => self.any_record(),
+            _ => self.edge_request_record(),
+        };
+        records.insert(place, record);
+        *file = records.concat();
     }
 
     fn edge_hints(&mut self, file: &mut Bytes) {

@@ -4,7 +4,7 @@ use crate::blobfile::BlobFile;
 use crate::call::Bytes;
 use crate::damage::split;
 use crate::encode::{self, RecordBytes};
-use crate::make_acl::Maker;
+use crate::maker::Maker;
 use crate::request::{Asked, Certificate, Delegation, Request, Token};
 
 impl Maker {
@@ -160,7 +160,7 @@ impl Maker {
     }
 
     /// A request record barely good or barely bad.
-    fn edge_request_record(&mut self) -> RecordBytes {
+    pub fn edge_request_record(&mut self) -> RecordBytes {
         let asked = match self.random.below(3) {
             0 => Asked::Use(
                 self.random

@@ -3,7 +3,7 @@
 
 use crate::acl::{Acl, Action, Group, Limit, MakeBlob, Sort, TokenParameters};
 use crate::blobfile::{BlobFile, BLOBFILE_FLAG};
-use crate::desk::{Bundle, Policy, LISTED_FIELD};
+use crate::bundle::{Bundle, Policy, LISTED_FIELD};
 use crate::record::{Hash, RECORD_LENGTH};
 use crate::replace::Hint;
 use crate::request::{Asked, Certificate, Delegation, Presented, Request};

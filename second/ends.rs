@@ -1,6 +1,6 @@
 //! What may stand after the last call of a script to end the run with a stop.
 
-use crate::call::{Bytes, Call};
+use crate::call::{Argument, Bytes, Call, FileKind};
 use crate::generate::Generator;
 use crate::script::{call_bytes, length_places, LONGEST_BYTES};
 
@@ -18,11 +18,30 @@ impl Generator {
         }
         let letter = self.maker.random.pick(&letters);
         let (call, _) = self.make_call(letter);
+        if matches!(call, Call::Batch(_) | Call::PreparedRun { .. }) {
+            return self.broken_run(call);
+        }
         match self.seed / 16 % 3 {
             0 => self.cut_call(&call),
             1 => self.unknown_byte(),
             _ => self.too_long_call(&call),
         }
+    }
+
+    /// A run whose row is not of whole entries, or whose form is too long or too short: whether it
+    /// stops there or after the last argument, it stops.
+    fn broken_run(&mut self, mut call: Call) -> Bytes {
+        for argument in call.arguments() {
+            match argument {
+                Argument::Bytes(FileKind::Form, form) => {
+                    let length = self.maker.random.pick(&[0, 143, 144, 145, 152]);
+                    form.resize(length, 0);
+                }
+                Argument::Bytes(FileKind::Row, row) => row.push(1),
+                _ => {}
+            }
+        }
+        [call_bytes(&call), b"FF".to_vec()].concat()
     }
 
     fn cut_call(&mut self, call: &Call) -> Bytes {
@@ -37,7 +56,7 @@ impl Generator {
     /// a stop as well.
     fn unknown_byte(&mut self) -> Bytes {
         let is_unknown = |byte: &u8| !self.kinds.contains(byte);
-        let choices: Vec<u8> = b"\x00\n 1EdGMQUYZs\x80\xffLCRNXDSWTlcrnx"
+        let choices: Vec<u8> = b"\x00\n 1EdGKHUYZs\x80\xffLCRNXDSWTlcrnxBPQM"
             .iter()
             .copied()
             .filter(is_unknown)

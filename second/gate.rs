@@ -64,7 +64,7 @@ pub fn grant(
 }
 
 /// "It admits if one of its actions does."
-fn admits(group: &Group, km0: &[u8], request: &Request) -> bool {
+pub fn admits(group: &Group, km0: &[u8], request: &Request) -> bool {
     group.actions.iter().any(|action| {
         action_admits(action, km0, &request.asked)
             && blobfile_admits(&action.blobfile(), &request.blobfile)
@@ -123,7 +123,7 @@ fn token_blob_admits(blob: &MakeBlob, null_key: bool, token: &Token) -> bool {
 /// "It is unspent if its own count is below any sort 1 maximum, each counter named is below its
 /// maximum, elapsed seconds are below any sort 3 maximum, and neither its own count nor a named
 /// counter is 4,294,967,295."
-fn is_unspent(group: &Group, place: usize, ledger: &Ledger, time: u64) -> bool {
+pub fn is_unspent(group: &Group, place: usize, ledger: &Ledger, time: u64) -> bool {
     let own_count = ledger.group_counts[place];
     let elapsed = time - ledger.load_time;
     own_count != u32::MAX

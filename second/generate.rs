@@ -1,4 +1,4 @@
-//! Generates scripts: a host that holds an ACL in force and goes on with each new one, and calls of
+//! Generates scripts: hosts that hold an ACL in force each and go on with each new one, and calls of
 //! their own in between. The same seed, number of calls and kinds always give the same script.
 
 use std::io::{self, Write};
@@ -6,20 +6,16 @@ use std::io::{self, Write};
 use crate::acl::Acl;
 use crate::answer::{Answer, State};
 use crate::cabinet::SLOTS;
-use crate::call::{Bytes, Call};
-use crate::encode;
-use crate::make_acl::Maker;
-use crate::make_breach::BREACHES;
-use crate::make_desk::{DeskCase, FIRST_STEPS, STEPS};
-use crate::make_narrowing::Narrowing;
-use crate::make_request::{load_is_due, Asking, FAR_TIME};
+use crate::call::Call;
+use crate::make_request::{load_is_due, FAR_TIME};
+use crate::maker::Maker;
 use crate::read_acl::read_acl;
 use crate::record::Hash;
 use crate::request::{EXPAND_ACL, REDUCE_ACL};
 use crate::script::write_call;
 
 /// How often each letter is drawn.
-const WEIGHTS: [(u8, u64); 16] = [
+const WEIGHTS: [(u8, u64); 20] = [
     (b'F', 12),
     (b'L', 60),
     (b'C', 45),
@@ -36,15 +32,19 @@ const WEIGHTS: [(u8, u64); 16] = [
     (b'r', 240),
     (b'n', 80),
     (b'x', 35),
+    (b'B', 110),
+    (b'P', 40),
+    (b'Q', 90),
+    (b'M', 130),
 ];
 
 /// After so many refusals in a row the host takes another ACL.
 const MOST_REFUSALS: u32 = 12;
 
 /// A host that keeps one ACL in force.
-struct Host {
-    km0: Hash,
-    acl: Acl,
+pub struct Host {
+    pub km0: Hash,
+    pub acl: Acl,
     refusals: u32,
 }
 
@@ -103,7 +103,7 @@ impl Generator {
         letters.iter().any(|letter| self.kinds.contains(letter))
     }
 
-    fn host(&mut self) -> &mut Host {
+    pub fn host(&mut self) -> &mut Host {
         &mut self.hosts[self.at]
     }
 
@@ -212,10 +212,14 @@ impl Generator {
             b'R' => self.request_call(by_host),
             b'N' => self.narrow_call(by_host),
             b'X' => self.expand_call(by_host),
-            b'D' => self.desk_call(),
+            b'D' => self.maker.desk_call(),
+            b'M' => self.maker.trim_call(),
             b'S' => self.maker.subject_call(),
             b'W' => self.maker.write_listing_call(),
             b'T' => self.maker.read_listing_call(),
+            b'B' => self.batch_call(by_host),
+            b'P' => self.prepare_call(by_host),
+            b'Q' => self.prepared_run_call(by_host),
             _ => return self.call_in_slot(letter),
         };
         (call, by_host && matches!(letter, b'R' | b'N' | b'X'))
@@ -255,316 +259,7 @@ impl Generator {
             _ => u64::MAX - random.below(20),
         }
     }
-
-    /// The ACL of a call: the host's, or one for this call alone.
-    fn acl_for(&mut self, by_host: bool) -> Acl {
-        if by_host {
-            self.maker.km0 = self.host().km0;
-            return self.host().acl.clone();
-        }
-        self.maker.km0 = self.maker.some_km0();
-        if self.maker.random.chance(10) {
-            return Acl {
-                groups: vec![self.maker.rich_group(0)],
-            };
-        }
-        self.maker.acl()
-    }
-
-    /// The same for a replacement, whose use some group should allow.
-    fn acl_allowing(&mut self, by_host: bool, permission: u8) -> Acl {
-        let mut acl = self.acl_for(by_host);
-        if !by_host && self.maker.random.chance(95) {
-            self.maker.allow(&mut acl, permission);
-        }
-        acl
-    }
-
-    fn request_call(&mut self, by_host: bool) -> Call {
-        let acl = self.acl_for(by_host);
-        let asking = self.maker.asking(&acl);
-        let request = request_file(&asking);
-        let mut call = Call::Request {
-            km0: self.maker.km0.to_vec(),
-            acl: encode::acl(&acl),
-            request,
-        };
-        if self.maker.random.chance(17) {
-            self.maker.damage_call(&mut call);
-        }
-        call
-    }
-
-    fn narrow_call(&mut self, by_host: bool) -> Call {
-        let old = self.acl_allowing(by_host, REDUCE_ACL);
-        let Narrowing { old, new, hints } = self.some_narrowing(old);
-        let asking = self.asking_to_replace(&old, REDUCE_ACL);
-        let mut call = Call::Narrow {
-            km0: self.maker.km0.to_vec(),
-            acl: encode::acl(&old),
-            request: request_file(&asking),
-            new_acl: encode::acl(&new),
-            hints: encode::hints(&hints),
-        };
-        if self.maker.random.chance(22) {
-            self.maker.damage_call(&mut call);
-        }
-        call
-    }
-
-    /// Sound and gentle, sound and strong, broken in one way, empty, or nothing to do with the old
-    /// ACL.
-    fn some_narrowing(&mut self, old: Acl) -> Narrowing {
-        match self.maker.random.weighted(&[40, 20, 34, 3, 3]) {
-            0 => self.maker.narrowing(&old, 10),
-            1 => self.maker.narrowing(&old, 50),
-            2 => {
-                let breach = self.maker.random.pick(&BREACHES);
-                let without_hints = Narrowing {
-                    new: old.clone(),
-                    hints: Vec::new(),
-                    old: old.clone(),
-                };
-                self.maker
-                    .broken_narrowing(&old, breach)
-                    .unwrap_or(without_hints)
-            }
-            3 => Narrowing {
-                old,
-                new: Acl::default(),
-                hints: Vec::new(),
-            },
-            _ => {
-                let other = self.maker.acl();
-                let Narrowing { new, hints, .. } = self.maker.narrowing(&other, 10);
-                Narrowing { old, new, hints }
-            }
-        }
-    }
-
-    /// A use of that permission; now and then another request, which is out of place.
-    fn asking_to_replace(&mut self, acl: &Acl, permission: u8) -> Asking {
-        match self.maker.random.weighted(&[95, 3, 2]) {
-            0 => self.maker.asking_use(acl, permission),
-            1 => self
-                .maker
-                .asking_use(acl, REDUCE_ACL + EXPAND_ACL - permission),
-            _ => self.maker.asking(acl),
-        }
-    }
-
-    fn expand_call(&mut self, by_host: bool) -> Call {
-        let old = self.acl_allowing(by_host, EXPAND_ACL);
-        let asking = self.asking_to_replace(&old, EXPAND_ACL);
-        let mut new = self.maker.acl();
-        for permission in [REDUCE_ACL, EXPAND_ACL] {
-            if self.maker.random.chance(70) {
-                self.maker.allow(&mut new, permission);
-            }
-        }
-        let mut call = Call::Expand {
-            km0: self.maker.km0.to_vec(),
-            acl: encode::acl(&old),
-            request: request_file(&asking),
-            new_acl: encode::acl(&new),
-        };
-        if self.maker.random.chance(20) {
-            self.maker.damage_call(&mut call);
-        }
-        call
-    }
-
-    fn desk_call(&mut self) -> Call {
-        let approach = self.maker.random.pick_weighted(&[(82, 2), (18, 1)]);
-        let mut case = match self.maker.random.weighted(&[26, 40, 14, 6, 10, 4]) {
-            0 => self.maker.passing_case(approach),
-            1 => {
-                let step = self.maker.random.pick(&STEPS);
-                self.maker.failing_case(approach, step)
-            }
-            2 => self.case_with_two_faults(approach),
-            3 => self.case_with_losses(approach),
-            4 => {
-                let mut case = self.maker.passing_case(approach);
-                self.maker.add_any_action(&mut case);
-                case
-            }
-            _ => DeskCase {
-                acl: self.maker.acl(),
-                ..self.maker.passing_case(approach)
-            },
-        };
-        if self.maker.random.chance(3) {
-            case.bundle.policy.suite = self.maker.random.pick(&[0, 6, 7, 128, 255]);
-        }
-        let mut call = Call::Desk {
-            bundle: encode::bundle(&case.bundle),
-            acl: encode::acl(&case.acl),
-        };
-        if self.maker.random.chance(18) {
-            self.maker.damage_call(&mut call);
-        }
-        call
-    }
-
-    /// Two steps fail, often one right after the other, to see which is answered.
-    fn case_with_two_faults(&mut self, approach: u8) -> DeskCase {
-        let steps: &[&str] = if approach == 1 { &FIRST_STEPS } else { &STEPS };
-        let first = self.maker.random.place(steps.len() - 1);
-        let any = self.maker.random.place(steps.len());
-        let second = self.maker.random.pick(&[first + 1, any]);
-        let mut case = self.maker.failing_case(approach, steps[second]);
-        self.maker.add_fault(&mut case, steps[first]);
-        case
-    }
-
-    /// A passing case from which facts and signatures have been lost here and there.
-    fn case_with_losses(&mut self, approach: u8) -> DeskCase {
-        let mut case = self.maker.passing_case(approach);
-        for fact in &mut case.bundle.facts {
-            if self.maker.random.chance(7) {
-                *fact = None;
-            }
-        }
-        for signature in &mut case.bundle.signatures {
-            if self.maker.random.chance(7) {
-                *signature = signature.and(self.maker.random.pick(&[None, Some(false)]));
-            }
-        }
-        case
-    }
-}
-
-fn request_file(asking: &Asking) -> Bytes {
-    encode::request(&asking.request, &asking.presented)
 }
 
 #[cfg(test)]
-mod tests {
-    use super::*;
-    use crate::run_script::{answer_script, tally_script};
-    use crate::script::{read_call, Next, ALL_KINDS};
-
-    fn script(seed: u64, calls: u64, kinds: &str) -> Bytes {
-        let mut script = Vec::new();
-        generate(&mut script, seed, calls, kinds).unwrap();
-        script
-    }
-
-    #[test]
-    fn the_same_seed_gives_the_same_script() {
-        assert_eq!(script(9, 100, ALL_KINDS), script(9, 100, ALL_KINDS));
-        assert_ne!(script(9, 100, ALL_KINDS), script(10, 100, ALL_KINDS));
-    }
-
-    #[test]
-    fn a_long_script_is_whole() {
-        let script = script(7, 20_000, "RNXDS");
-        let mut output = Vec::new();
-        answer_script(&mut &script[..], &mut output, "RNXDS").unwrap();
-        assert_eq!(output.iter().filter(|byte| **byte == b'\n').count(), 20_000);
-    }
-
-    #[test]
-    fn only_the_letters_asked_for() {
-        for kinds in [
-            "F", "L", "C", "R", "N", "X", "D", "S", "W", "T", "f", "l", "c", "r", "n", "x",
-            "flcrnx", "FLCR", "RN",
-        ] {
-            let script = script(5, 60, kinds);
-            let mut input = &script[..];
-            let mut calls = 0;
-            while let Next::Call(_) = read_call(&mut input, kinds).unwrap() {
-                calls += 1;
-            }
-            assert_eq!((calls, input.len()), (60, 0), "{kinds}");
-        }
-    }
-
-    #[test]
-    fn a_seed_divisible_by_16_ends_with_a_stop() {
-        for seed in (0..320).step_by(16) {
-            for kinds in [ALL_KINDS, "FLCR", "F", "LC", "S"] {
-                let script = script(seed, 3, kinds);
-                let mut output = Vec::new();
-                answer_script(&mut &script[..], &mut output, kinds).unwrap();
-                assert!(output.ends_with(b"\n4 stop\n"), "seed {seed} kinds {kinds}");
-            }
-        }
-    }
-
-    /// Every answer of document 01 comes up in a short run.
-    #[test]
-    fn every_answer_comes_up() {
-        let mut tally = Vec::new();
-        for seed in 1..=3 {
-            let script = script(seed, 5000, ALL_KINDS);
-            tally_script(&mut &script[..], &mut tally, ALL_KINDS).unwrap();
-        }
-        let tally = String::from_utf8(tally).unwrap();
-        let has = |answer: &str| {
-            assert!(
-                tally.lines().any(|line| line.ends_with(answer)),
-                "{answer} is missing"
-            )
-        };
-        for letter in ["R", "N", "X"] {
-            for number in 1..=7 {
-                has(&format!(" {letter} refuse {number}"));
-            }
-            has(&format!(" {letter} permit"));
-            let in_slot = letter.to_ascii_lowercase();
-            for number in [1, 2, 4, 5, 6, 7, 12, 13] {
-                has(&format!(" {in_slot} refuse {number}"));
-            }
-            has(&format!(" {in_slot} permit"));
-        }
-        for answer in [
-            "f done",
-            "c done",
-            "c refuse 10",
-            "l done",
-            "l refuse 13",
-            "n refuse 8",
-        ] {
-            has(&format!(" {answer}"));
-        }
-        for letter in ["R", "N", "X", "D", "W"] {
-            has(&format!(" {letter} refuse 12"));
-        }
-        has(" N refuse 8");
-        has(" C refuse 10");
-        for number in [1, 2, 3, 11] {
-            has(&format!(" D refuse {number}"));
-        }
-        for number in [1, 9, 10, 11] {
-            has(&format!(" S refuse {number}"));
-        }
-        for answer in [
-            "W length",
-            "W refuse 1",
-            "W refuse 2",
-            "W refuse 3",
-            "W refuse 9",
-            "T length",
-            "T refuse 9",
-            "T refuse 15",
-        ] {
-            has(&format!(" {answer}"));
-        }
-        STEPS
-            .iter()
-            .for_each(|step| has(&format!(" D fail {step}")));
-        for protection in 1..=4 {
-            has(&format!(
-                " D accept 2 protection {protection} recoverable yes"
-            ));
-            has(&format!(
-                " D accept 2 protection {protection} recoverable no"
-            ));
-        }
-        [" D accept 1", " S length", " F done", " L done", " C done"]
-            .iter()
-            .for_each(|answer| has(answer));
-    }
-}
+mod tests;

@@ -8,7 +8,7 @@ pub const COUNTERS: usize = 256;
 
 /// A refused call leaves the old ledger standing, since
 /// every step hands back a new one.
-#[derive(Clone, Debug, PartialEq)]
+#[derive(Clone, Debug, PartialEq, Eq, Hash)]
 pub struct Ledger {
     pub group_counts: [u32; MOST_GROUPS],
     pub counters: [u32; COUNTERS],

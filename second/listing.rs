@@ -3,7 +3,7 @@
 use crate::acl::{Acl, Action, Group, Limit, MakeBlob, Sort, TokenParameters, ALLOW_SOFT_SLOTS};
 use crate::blobfile::BlobFile;
 use crate::read_acl::{check_acl_length, read_acl};
-use crate::record::{write_front, Hash, Refusal};
+use crate::record::{hex, write_front, Hash, Refusal};
 
 /// The permissions' names, each at its bit.
 pub const PERMISSIONS: [&str; 16] = [
@@ -64,8 +64,7 @@ fn add_flag(words: &mut Words, name: &str, set: bool) {
 
 fn add_hash(words: &mut Words, name: &str, hash: &Option<Hash>) {
     if let Some(hash) = hash {
-        let digits = hash.iter().map(|byte| format!("{byte:02x}")).collect();
-        words.extend([word(name), digits]);
+        words.extend([word(name), hex(hash)]);
     }
 }
 

@@ -2,9 +2,12 @@
 //! with the requests, written from the papers alone, so that its answers can be compared with those
 //! of the proved program. See README.md.
 
+mod account;
 mod acl;
 mod answer;
+mod batch;
 mod blobfile;
+mod bundle;
 mod cabinet;
 mod call;
 mod certify;
@@ -18,17 +21,27 @@ mod encode;
 mod ends;
 mod gate;
 mod generate;
+mod grade;
+mod host_calls;
 mod ledger;
 mod listing;
 mod make_acl;
 mod make_blobfile;
 mod make_breach;
+mod make_case;
 mod make_desk;
+mod make_fault;
+mod make_history;
 mod make_listing;
 mod make_narrowing;
 mod make_presented;
 mod make_request;
+mod make_run;
 mod make_subject;
+mod make_wider;
+mod maker;
+mod prepare;
+mod properties;
 mod random;
 mod read_acl;
 mod read_listing;
@@ -38,6 +51,7 @@ mod request;
 mod run_script;
 mod script;
 mod subject;
+mod trim;
 
 use std::io::{self, BufReader, BufWriter};
 use std::process::ExitCode;
@@ -47,7 +61,8 @@ use script::ALL_KINDS;
 const USAGE: &str = "usage: second answer [KINDS] < SCRIPT\n\
                      \u{20}      second tally [KINDS] < SCRIPT\n\
                      \u{20}      second generate SEED CALLS [KINDS] > SCRIPT\n\
-                     \u{20}      second day KM0 ACL REQUESTS";
+                     \u{20}      second day KM0 ACL REQUESTS\n\
+                     \u{20}      second properties SEED COUNT";
 
 fn main() -> ExitCode {
     let arguments: Vec<String> = std::env::args().skip(1).collect();
@@ -62,10 +77,20 @@ fn main() -> ExitCode {
 }
 
 fn run(words: &[&str]) -> Result<(), String> {
-    if let ["day", km0, acl, requests] = words {
-        print!("{}", day::day(&read(km0)?, &read(acl)?, &read(requests)?));
-        return Ok(());
+    match words {
+        ["day", km0, acl, requests] => {
+            print!("{}", day::day(&read(km0)?, &read(acl)?, &read(requests)?));
+            Ok(())
+        }
+        ["properties", seed, count] => {
+            properties::properties(&mut io::stdout().lock(), number(seed)?, number(count)?)
+                .map_err(|error| format!("properties: {error}"))?
+        }
+        _ => run_on_script(words),
     }
+}
+
+fn run_on_script(words: &[&str]) -> Result<(), String> {
     let (command, numbers, kinds) = match words {
         [command @ ("answer" | "tally")] => (*command, None, ALL_KINDS),
         [command @ ("answer" | "tally"), kinds] => (*command, None, *kinds),

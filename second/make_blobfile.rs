@@ -1,7 +1,7 @@
 //! Makes blob files for actions and requests: matching, or off by one thing.
 
 use crate::blobfile::BlobFile;
-use crate::make_acl::{stock, Maker, ZERO_HASH};
+use crate::maker::{stock, Maker, ZERO_HASH};
 use crate::record::Hash;
 
 impl Maker {

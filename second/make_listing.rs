@@ -3,7 +3,7 @@
 use crate::call::{Bytes, Call};
 use crate::encode;
 use crate::listing::{listing, write_listing, PERMISSIONS};
-use crate::make_acl::Maker;
+use crate::maker::Maker;
 use crate::read_listing::read_listing;
 use crate::script::LONGEST_BYTES;
 

@@ -1,7 +1,7 @@
 //! Makes narrowings that the hints show to be sound.
 
 use crate::acl::{Acl, Action, Group, MakeArchiveBlob, MakeBlob, MOST_ACTIONS};
-use crate::make_acl::Maker;
+use crate::maker::Maker;
 use crate::replace::Hint;
 
 /// A new ACL with its hints, beside the old one.

@@ -2,7 +2,7 @@
 //! or nearly do.
 
 use crate::acl::Group;
-use crate::make_acl::{stock, Maker};
+use crate::maker::{stock, Maker};
 use crate::record::Hash;
 use crate::request::{
     Asked, Certificate, Delegation, Presented, MOST_CERTIFICATES, MOST_DELEGATIONS,

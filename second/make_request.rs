@@ -3,7 +3,8 @@
 use crate::acl::{Acl, Action, Group, MakeBlob, Sort, TokenParameters};
 use crate::gate::NULL_MODULE_KEY;
 use crate::ledger::Ledger;
-use crate::make_acl::{allows, Maker};
+use crate::make_acl::allows;
+use crate::maker::Maker;
 use crate::record::Hash;
 use crate::request::{Asked, Presented, Request, Token};
 

@@ -3,7 +3,7 @@
 use crate::acl::{Acl, Sort};
 use crate::call::Call;
 use crate::ledger::COUNTERS;
-use crate::make_acl::Maker;
+use crate::maker::Maker;
 use crate::script::LONGEST_BYTES;
 use crate::subject::{hashes_length, write_subject, LAST_SUITE};
 

@@ -235,7 +235,7 @@ mod tests {
     use super::*;
     use crate::encode;
     use crate::listing::listing;
-    use crate::make_acl::Maker;
+    use crate::maker::Maker;
 
     fn read(text: &str) -> Result<Bytes, Refusal> {
         let mut buffer = vec![b'#'; 1000];

@@ -28,6 +28,8 @@ pub enum Refusal {
     NoSuchSuite,
     OpenArchive,
     NoSuchSlot,
+    /// A prepared form that differs from the one made of the lent ACL.
+    OtherForm,
     /// The first line of a text, from 1, that is no line of a listing.
     NotALine {
         line: usize,
@@ -50,6 +52,7 @@ impl Refusal {
             Refusal::NoSuchSuite => 11,
             Refusal::OpenArchive => 12,
             Refusal::NoSuchSlot => 13,
+            Refusal::OtherForm => 14,
             Refusal::NotALine { .. } => 15,
         }
     }
@@ -62,6 +65,15 @@ impl Refusal {
             _ => None,
         }
     }
+}
+
+/// Bytes in lower-case hexadecimal digits.
+pub fn hex(bytes: &[u8]) -> String {
+    const DIGITS: &[u8; 16] = b"0123456789abcdef";
+    let digits = bytes.iter().flat_map(|byte| [byte >> 4, byte & 15]);
+    digits
+        .map(|digit| char::from(DIGITS[usize::from(digit)]))
+        .collect()
 }
 
 /// The first and the last byte of a part of a record, both counted in, as the document writes

@@ -8,6 +8,7 @@ use crate::answer::{Answer, State};
 use crate::cabinet::check_slot;
 use crate::call::Call;
 use crate::ledger::Ledger;
+use crate::record::hex;
 use crate::script::{read_call, Next};
 
 /// Answers a whole script.
@@ -62,10 +63,22 @@ pub fn tally_script(input: &mut impl Read, output: &mut impl Write, kinds: &str)
 fn answer_line(number: u64, call: &Call, answer: Answer, state: &State) -> String {
     let mut line = format!("{number} {}", answer.words());
     match call {
-        Call::Desk { .. } => {}
+        Call::Desk { .. } | Call::Prepare { .. } => {}
         Call::Subject { buffer, .. }
         | Call::WriteListing { buffer, .. }
         | Call::ReadListing { buffer, .. } => add_hex(&mut line, buffer),
+        Call::Trim {
+            acl_buffer,
+            hints_buffer,
+            ..
+        } => {
+            add_hex(&mut line, acl_buffer);
+            add_hex(&mut line, hints_buffer);
+        }
+        Call::Batch(batch) | Call::PreparedRun { batch, .. } => {
+            add_hex(&mut line, &batch.buffer);
+            add_ledger(&mut line, &state.ledger);
+        }
         Call::FreshCabinet | Call::ClearShared { .. } => {
             add_counters(&mut line, &state.cabinet.counters)
         }
@@ -82,12 +95,8 @@ fn answer_line(number: u64, call: &Call, answer: Answer, state: &State) -> Strin
 }
 
 fn add_hex(line: &mut String, bytes: &[u8]) {
-    const DIGITS: &[u8; 16] = b"0123456789abcdef";
     line.push(' ');
-    for byte in bytes {
-        line.push(char::from(DIGITS[usize::from(byte >> 4)]));
-        line.push(char::from(DIGITS[usize::from(byte & 15)]));
-    }
+    line.push_str(&hex(bytes));
 }
 
 /// " load T last T counts I:V I:V counters I:V with only the entries that are not zero".
@@ -116,6 +125,7 @@ fn add_entries(line: &mut String, entries: &[u32]) {
 mod tests {
     use super::*;
     use crate::acl::{Acl, Action, Group, Limit, Sort};
+    use crate::call::Batch;
     use crate::encode;
     use crate::request::{Asked, Presented, Request};
     use crate::script::{call_bytes, ALL_KINDS};
@@ -192,6 +202,42 @@ mod tests {
                      8 refuse 13 counters\n\
                      9 done load 1 last 1 counts counters\n";
         assert_eq!(answers(&script, ALL_KINDS), lines);
+    }
+
+    #[test]
+    fn the_batch_example_and_forms_of_the_script_format() {
+        let Call::Request { km0, acl, request } = sign(&[], 0) else {
+            unreachable!("a request");
+        };
+        let batch = Batch {
+            km0,
+            acl,
+            row: Vec::new(),
+            run: request,
+            buffer: vec![0xee; 9],
+        };
+        let short = Batch {
+            buffer: Vec::new(),
+            ..batch.clone()
+        };
+        let acl = batch.acl.clone();
+        let other = Call::PreparedRun {
+            form: vec![0; 144],
+            batch: batch.clone(),
+        };
+        let script = [
+            call_bytes(&Call::Batch(batch)),
+            call_bytes(&Call::Batch(short)),
+            call_bytes(&other),
+            call_bytes(&Call::Prepare { acl }),
+        ]
+        .concat();
+        let lines = "1 length 1 0000000000000000ee load 0 last 0 counts 0:1 counters\n\
+                     2 refuse 9  load 0 last 0 counts 0:1 counters\n\
+                     3 refuse 14 eeeeeeeeeeeeeeeeee load 0 last 0 counts 0:1 counters\n";
+        let zeros = |sets: usize| "0".repeat(16 * sets);
+        let form = format!("4 form {}0000000000000001{}\n", zeros(4), zeros(13));
+        assert_eq!(answers(&script, ALL_KINDS), format!("{lines}{form}"));
     }
 
     #[test]

@@ -2,10 +2,12 @@
 
 use std::io::{self, ErrorKind, Read, Write};
 
-use crate::call::{Argument, Bytes, Call};
+use crate::batch::ROW_ENTRY_LENGTH;
+use crate::call::{Argument, Bytes, Call, FileKind};
+use crate::prepare::FORM_LENGTH;
 
 /// The letters of all calls.
-pub const ALL_KINDS: &str = "FLCRNXDSWTflcrnx";
+pub const ALL_KINDS: &str = "FLCRNXDSWTflcrnxBPQM";
 /// "Bytes are a 4-byte big-endian length and then that many bytes, at most [...] 262,144".
 pub const LONGEST_BYTES: usize = 262_144;
 
@@ -55,10 +57,25 @@ fn read_arguments(input: &mut impl Read, letter: u8) -> Result<Call, Trouble> {
     for argument in call.arguments() {
         match argument {
             Argument::Number(number) => *number = read_number(input)?,
-            Argument::Bytes(_, bytes) => *bytes = read_bytes(input)?,
+            Argument::Bytes(kind, bytes) => {
+                *bytes = read_bytes(input)?;
+                if !length_fits(kind, bytes.len()) {
+                    return Err(Trouble::Stop);
+                }
+            }
         }
     }
     Ok(call)
+}
+
+/// "A length that is no multiple of 22 is a `K stop`", for a row; "any other length of a form is a
+/// `K stop`".
+fn length_fits(kind: FileKind, length: usize) -> bool {
+    match kind {
+        FileKind::Row => length % ROW_ENTRY_LENGTH == 0,
+        FileKind::Form => length == FORM_LENGTH,
+        _ => true,
+    }
 }
 
 fn read_number(input: &mut impl Read) -> Result<u64, Trouble> {
@@ -117,6 +134,7 @@ pub fn write_call(output: &mut impl Write, call: &Call) -> io::Result<()> {
 #[cfg(test)]
 mod tests {
     use super::*;
+    use crate::call::Batch;
 
     fn narrow_call() -> Call {
         let [km0, acl, request, new_acl, hints] =
@@ -192,6 +210,27 @@ mod tests {
         );
         script[4] = 1;
         assert_eq!(read_call(&mut &script[..], ALL_KINDS).unwrap(), Next::Stop);
+    }
+
+    #[test]
+    fn rows_and_forms_have_their_lengths() {
+        let batch = |length| {
+            call_bytes(&Call::Batch(Batch {
+                row: vec![1; length],
+                ..Batch::default()
+            }))
+        };
+        let next = |script: Bytes| read_call(&mut &script[..], ALL_KINDS).unwrap();
+        assert!(matches!(next(batch(0)), Next::Call(_)));
+        assert!(matches!(next(batch(44)), Next::Call(_)));
+        assert_eq!(next(batch(43)), Next::Stop);
+        for (length, known) in [(143, false), (144, true), (145, false)] {
+            let script = call_bytes(&Call::PreparedRun {
+                form: vec![0; length],
+                batch: Batch::default(),
+            });
+            assert_eq!(matches!(next(script), Next::Call(_)), known);
+        }
     }
 
     #[test]

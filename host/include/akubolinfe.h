@@ -1,5 +1,5 @@
-/* Akubolinfe for C programs: the permission gate, for one key and for a cabinet of eight, the attestation desk, the subject writer,
- * and ACLs as text.
+/* Akubolinfe for C programs: the permission gate, for one key and for a cabinet of eight, the attestation desk, the trimming
+ * tool, the subject writer, and ACLs as text.
  *
  * Each function takes any bytes of any length; none has a condition. A run of bytes is a pointer and a length; where the
  * length is zero the pointer may be NULL. The runs of one call may overlap, except that a buffer that is written must not
@@ -19,6 +19,7 @@
 #define AKUBOLINFE_COUNTERS 256
 #define AKUBOLINFE_SLOTS 8
 #define AKUBOLINFE_ACL_BYTES 86016
+#define AKUBOLINFE_HINT_BYTES 4096
 #define AKUBOLINFE_LISTING_BYTES 164416
 
 /* What was used: a count for each group, the named counters, the load time and the last time, in seconds. A ledger that was kept
@@ -190,6 +191,22 @@ akubolinfe_listing akubolinfe_write_listing(const uint8_t *acl, size_t acl_lengt
 
 /* The ACL of a listing at the front of the buffer. */
 akubolinfe_listing akubolinfe_read_listing(const uint8_t *text, size_t text_length, uint8_t *buffer, size_t buffer_length);
+
+/* What a trimming's `answer` is: trimmed, with the lengths of the new ACL and of its hints; or, as in a verdict,
+ * AKUBOLINFE_STEP_FAILED with the number of a step before the ACL, or AKUBOLINFE_DESK_REFUSED with the refusal's number. Without
+ * results `hints` is zero. */
+#define AKUBOLINFE_TRIMMED 1
+
+typedef struct {
+    uint64_t answer;
+    uint64_t number;
+    uint64_t hints;
+} akubolinfe_trimmed;
+
+/* The ACL without what fails at the desk, at the front of one buffer, and at the front of the other the hints by which it narrows
+ * the old ACL. Only answer 1 writes anything. AKUBOLINFE_ACL_BYTES and AKUBOLINFE_HINT_BYTES are room enough for any. */
+akubolinfe_trimmed akubolinfe_trim(const uint8_t *bundle, size_t bundle_length, const uint8_t *acl, size_t acl_length,
+                                   uint8_t *new_acl, size_t new_acl_length, uint8_t *hints, size_t hints_length);
 
 /* A decoded certificate: the hash of its key, and its mechanism, which is not zero. */
 typedef struct {

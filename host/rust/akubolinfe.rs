@@ -98,6 +98,13 @@ struct RawPreparation {
     number: u64,
 }
 
+#[repr(C)]
+struct RawTrimmed {
+    answer: u64,
+    number: u64,
+    hints: u64,
+}
+
 /// A load or a clear is done, a group permits, or a refusal with its number and, where that is 6 or 7, the group that came nearest.
 #[derive(Clone, Copy, PartialEq, Eq, Debug)]
 pub enum Reply {
@@ -119,6 +126,13 @@ pub enum Verdict {
 #[derive(Clone, Copy, PartialEq, Eq, Debug)]
 pub enum NotListed {
     BadLine(u64),
+    Refused(u64),
+}
+
+/// Why nothing was trimmed: a step before the ACL fails, or a refusal with its number.
+#[derive(Clone, Copy, PartialEq, Eq, Debug)]
+pub enum NotTrimmed {
+    Failed(&'static str),
     Refused(u64),
 }
 
@@ -158,6 +172,9 @@ extern "C" {
     fn akubolinfe_subject(c: u64, s: u64, h: *const u8, hn: usize, b: *mut u8, bn: usize) -> RawWritten;
     fn akubolinfe_write_listing(a: *const u8, an: usize, b: *mut u8, bn: usize) -> RawListing;
     fn akubolinfe_read_listing(t: *const u8, tn: usize, b: *mut u8, bn: usize) -> RawListing;
+    fn akubolinfe_trim(
+        b: *const u8, bn: usize, a: *const u8, an: usize, n: *mut u8, nn: usize, h: *mut u8, hn: usize,
+    ) -> RawTrimmed;
     fn akubolinfe_prepare(a: *const u8, an: usize) -> RawPreparation;
     fn akubolinfe_run(
         l: Ledger, k: *const u8, kn: usize, a: *const u8, an: usize, c: *const Certificate, cn: usize, r: *const u8,
@@ -317,6 +334,21 @@ pub fn write_listing(acl: &[u8], buffer: &mut [u8]) -> Result<u64, NotListed> {
 /// The ACL of a listing, at the front of the buffer: its length.
 pub fn read_listing(text: &[u8], buffer: &mut [u8]) -> Result<u64, NotListed> {
     listed(unsafe { akubolinfe_read_listing(ptr(text), text.len(), ptr_mut(buffer), buffer.len()) })
+}
+
+/// The ACL without what fails at the desk, at the front of `new`, and the hints by which it narrows the old one, at the front of
+/// `hints`: both lengths.
+pub fn trim(bundle: &[u8], acl: &[u8], new: &mut [u8], hints: &mut [u8]) -> Result<(u64, u64), NotTrimmed> {
+    let t = unsafe {
+        akubolinfe_trim(
+            ptr(bundle), bundle.len(), ptr(acl), acl.len(), ptr_mut(new), new.len(), ptr_mut(hints), hints.len(),
+        )
+    };
+    match t.answer {
+        1 => Ok((t.number, t.hints)),
+        2 => Err(NotTrimmed::Failed(STEPS[t.number as usize - 1])),
+        _ => Err(NotTrimmed::Refused(t.number)),
+    }
 }
 
 fn ran(o: RawRun) -> (Ledger, Result<u64, u64>) {

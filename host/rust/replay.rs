@@ -1,12 +1,12 @@
 // Answers a replay script (docs/REPLAY.md) through the C surface, so that the linked library can be compared with the second
 // program: `second/compare` takes it in the place of the replay program. With `--cfg ordinary` it answers through the ordinary Rust
-// program of bench/ordinary instead, which has neither cabinet nor listings.
+// program of bench/ordinary instead, which has neither cabinet nor listings nor trimming tool.
 #[cfg_attr(ordinary, path = "../../bench/ordinary/mod.rs")]
 mod akubolinfe;
 
 use akubolinfe::{assess, write_subject, Ledger, Reply, Verdict};
 #[cfg(not(ordinary))]
-use akubolinfe::{read_listing, write_listing, Cabinet, NotListed};
+use akubolinfe::{read_listing, trim, write_listing, Cabinet, NotListed, NotTrimmed};
 use std::io::{Read, Write};
 
 // The rest of a script.
@@ -94,6 +94,17 @@ fn listing(s: &mut Script, made: fn(&[u8], &mut [u8]) -> Result<u64, NotListed>)
     })
 }
 
+#[cfg(not(ordinary))]
+fn trimmed(s: &mut Script) -> Option<String> {
+    let (bundle, acl, mut new, mut hints) = (s.run()?, s.run()?, s.run()?, s.run()?);
+    let answer = match trim(&bundle, &acl, &mut new, &mut hints) {
+        Ok((m, n)) => format!("lengths {m} {n}"),
+        Err(NotTrimmed::Failed(step)) => format!("fail {step}"),
+        Err(NotTrimmed::Refused(n)) => format!("refuse {n}"),
+    };
+    Some(format!("{answer} {} {}", hex(&new), hex(&hints)))
+}
+
 // What is carried from call to call.
 struct State {
     ledger: Ledger,
@@ -138,6 +149,8 @@ fn answer(letter: u8, s: &mut Script, state: &mut State) -> Option<String> {
         b'W' => return listing(s, write_listing),
         #[cfg(not(ordinary))]
         b'T' => return listing(s, read_listing),
+        #[cfg(not(ordinary))]
+        b'M' => return trimmed(s),
         #[cfg(not(ordinary))]
         b'f' | b'l' | b'c' | b'r' | b'n' | b'x' => return cabinet_answer(letter, s, &mut state.cabinet),
         _ => return None,

@@ -1,21 +1,25 @@
 -- The turns of the loops of this crate, and what a key added to those of a group comes to.
-use Prim.Native.Nat.{ℕ, _+_, _≤_, _<_}
+use Prim.Native.Nat.{ℕ, _+_, _-_, _≤_, _<_}
 use native.Mathlib.Omega.{arith}
 use native.Mathlib.Numerals.{add-one}
 use mathlib.Core.Path.{_≡_, refl, sym, _∙_, ap}
 use mathlib.Core.List.{List, [], _∷_, _++_}
-use mathlib.Core.Option.{none, some}
-use Rattle.rules.specs.Numbers.{malformed, tooMany, openArchive}
+use mathlib.Core.Option.{Option, none, some}
 use mathlib.Core.Bool.{Bool, true, false, not, _&&_, _||_}
 use lib.ListN.{length, take, drop, getD, set, drop-of-length-le, length-take}
 use lib.Seq.{drop-cons, take-suc-set}
 use lib.Dec.{eqb, ltb}
 use borrow.Author.Tests.{eq-eqb, ne-eqb, lt-ltb, le-ltb, ltb-true, ltb-false, not-true, not-false}
 use Rattle.rules.specs.Sizes.{groupsMax, limitsMax, actionsMax}
-use Rattle.rules.specs.Basics.{Bytes, any, kind, flag, firstFault}
-use Rattle.rules.specs.Acl.{AclPlace, among, limitKey, limitInPlace, inPlace, hasRoomUnder, hasRoom, keyed, recordFaultUnder, aclRecordFault, aclEnd, limitAdded, groupBegun, actionAdded}
+use Rattle.rules.specs.Basics.{Bytes, any, kind, flag, orNext, firstFault, scan}
+use Rattle.rules.specs.Numbers.{malformed, tooMany, openArchive}
+use Rattle.rules.specs.Acl.{AclPlace, aclStart, among, limitKey, limitInPlace, inPlace, hasRoomUnder, hasRoom, keyed, recordFaultUnder, aclRecordFault, limitAdded, groupBegun, actionAdded, afterRecord, aclEnd, aclFaultUnder, aclFault}
+use Rattle.rules.proofs.Rows.{recordsFrom, rows-lent, rows-end, lentRecord}
+use Rattle.files.specs.declared.Checked.{Checked}
+use Rattle.files.specs.declared.Checked.the-variants.{Sound, Refused}
+use Rattle.files.specs.Faults.{faultOf}
 use Rattle.acl.specs.declared.Place.{Place}
-use Rattle.acl.specs.Places.{placeOf, begunAs, addedAs}
+use Rattle.acl.specs.Places.{placeOf, begunAs, addedAs, Reading, stopped, on, readPast, reading, foundAt}
 
 -- A key among some, by a loop: what is left has the whole's answer.
 module _ (key : ℕ) (keys : List ℕ) (i : ℕ) (inv : among key (drop i keys) ≡ among key keys) where
@@ -122,3 +126,43 @@ was-true r t e h = sym e ∙ not-false r h
 -- an action that is laid out stands where a group has begun
 pub action-placed : (r t g : Bool) → r ≡ t → not r ≡ false → g ≡ (t && g)
 action-placed r t g e h = sym (ap (λ (x : Bool). x && g) (sym e ∙ not-false r h))
+
+-- The turns of the loop over records: what is left is read as the whole.
+module _ (s : Bytes) (at : ℕ) (st : AclPlace) (x : Reading) (inv : reading st (recordsFrom s at) ≡ x) where
+  read-step : 64 ≤ length s - at → readPast (aclRecordFault st (lentRecord s at)) (reading (afterRecord st (lentRecord s at)) (recordsFrom s (at + 64))) ≡ x
+  unfolding reading
+  read-step h = sym (ap (reading st) (rows-lent s at h)) ∙ inv
+
+  pub read-stop : (f : ℕ) → 64 ≤ length s - at → aclRecordFault st (lentRecord s at) ≡ some f → stopped f ≡ x
+  read-stop f h e = rw e at (read-step h)
+
+  pub read-next : (t : AclPlace) → 64 ≤ length s - at → aclRecordFault st (lentRecord s at) ≡ none → t ≡ afterRecord st (lentRecord s at) → reading t (recordsFrom s (at + 64)) ≡ x
+  read-next t h e d = ap (λ (z : AclPlace). reading z (recordsFrom s (at + 64))) d ∙ rw e at (read-step h)
+
+  pub read-done : length s - at < 64 → on st ≡ x
+  unfolding reading
+  read-done h = sym (ap (reading st) (rows-end s at h)) ∙ inv
+
+-- the first fault of records, by what reading them comes to
+abbrev ended : Reading → Option ℕ
+ended (stopped f) = some f
+ended (on s) = aclEnd s
+
+scan-is : (s : AclPlace) (rs : List Bytes) → scan aclRecordFault afterRecord aclEnd s rs ≡ ended (reading s rs)
+unfolding scan reading
+scan-is s [] = refl
+scan-is s (r ∷ rs) = pick (aclRecordFault s r) (scan-is (afterRecord s r) rs)
+  where
+    pick : (f : Option ℕ) → scan aclRecordFault afterRecord aclEnd (afterRecord s r) rs ≡ ended (reading (afterRecord s r) rs)
+        → orNext f (scan aclRecordFault afterRecord aclEnd (afterRecord s r) rs) ≡ ended (readPast f (reading (afterRecord s r) rs))
+    pick none e = e
+    pick (some n) e = refl
+
+found-is : (q : AclPlace) (f : Checked) → orNext (faultOf f) (aclEnd q) ≡ ended (foundAt q f)
+found-is q Sound = refl
+found-is q (Refused r) = refl
+
+pub fault-read : (s q : AclPlace) (f : Checked) (rs : List Bytes) (x e : Option ℕ) → s ≡ aclStart → foundAt q f ≡ reading s rs → e ≡ aclEnd q → x ≡ orNext (faultOf f) e → x ≡ aclFault rs
+unfolding aclFaultUnder
+fault-read s q f rs x e b i d z =
+    z ∙ ap (orNext (faultOf f)) d ∙ found-is q f ∙ ap ended (i ∙ ap (λ (y : AclPlace). reading y rs) b) ∙ sym (scan-is aclStart rs)

@@ -1,10 +1,17 @@
--- Where reading an ACL stands, as the definitions have it.
-use Prim.Native.Nat.{_+_}
-use mathlib.Core.List.{[]}
+-- Where reading an ACL stands, and what reading records comes to, as the definitions have it.
+use Prim.Native.Nat.{ℕ, _+_, _≤_}
+use mathlib.Core.List.{List, [], _∷_}
+use mathlib.Core.Option.{Option, none, some}
 use mathlib.Core.Bool.{Bool, false}
 use lib.ListN.{take}
-use Rattle.rules.specs.Acl.{AclPlace}
+use Rattle.rules.specs.Sizes.{limitsMax}
+use Rattle.rules.specs.Basics.{Bytes}
+use Rattle.rules.specs.Acl.{AclPlace, aclRecordFault, afterRecord}
+use Rattle.refusals.specs.Refusals.{refusalNumber}
 use Rattle.acl.specs.declared.Place.{Place}
+use Rattle.files.specs.declared.Checked.{Checked}
+use Rattle.files.specs.declared.Checked.the-variants.{Sound, Refused}
+use Rattle.acl.specs.declared.Read.{Read}
 
 -- the first `limits` keys are those of the limits read
 abbrev pub placeOf : Place → AclPlace
@@ -23,3 +30,29 @@ begunAs s isOpen = record { groups = s .groups + 1; isOpen = isOpen; limits = []
 
 abbrev pub addedAs : AclPlace → Bool → AclPlace
 addedAs s due = record { groups = s .groups; isOpen = s .isOpen; limits = s .limits; actions = s .actions + 1; fileDue = due }
+
+-- Reading records from a place: stopped by the first fault, or where it then stands.
+pub data Reading : Type 0 where
+  stopped : ℕ → Reading
+  on : AclPlace → Reading
+
+-- .. by the fault of the next record, and what reading comes to after it
+abbrev pub readPast : Option ℕ → Reading → Reading
+readPast none x = x
+readPast (some f) x = stopped f
+
+unfoldable pub reading : AclPlace → List Bytes → Reading
+reading s [] = on s
+reading s (r ∷ rs) = readPast (aclRecordFault s r) (reading (afterRecord s r) rs)
+
+-- what the code answers
+abbrev pub foundAt : AclPlace → Checked → Reading
+foundAt s Sound = on s
+foundAt s (Refused f) = stopped (refusalNumber f)
+
+abbrev pub readOf : Read → Reading
+readOf r = foundAt (placeOf (r .place)) (r .found)
+
+-- the limits of its place have their keys in the row
+abbrev pub Kept : Read → Type 0
+Kept r = r .place .limits ≤ limitsMax

@@ -5,21 +5,28 @@ ghost use Prim.Native.Nat.{_≤_, _<_};
 ghost use lib.ListN.{length};
 ghost use Rattle.rules.specs.Sizes.{recordBytes, groupsMax, limitsMax, actionsMax};
 ghost use Rattle.rules.specs.Basics.{records};
-ghost use Rattle.rules.specs.Acl.{aclStart, among, limitInPlace, actionLaidOut, fileRecord, placedByKind, inPlace, hasRoom, keyed, limitAdded, filePassed, afterRecord, aclFault, aclFileFault};
+ghost use Rattle.rules.specs.Acl.{aclStart, among, limitInPlace, actionLaidOut, fileRecord, placedByKind, inPlace, hasRoom, keyed, limitAdded, filePassed, afterRecord, aclEnd, aclFault, aclFileFault};
+ghost use Rattle.refusals.specs.Refusals.{refusalNumber};
 ghost use Rattle.files.specs.Faults.{faultOf};
-ghost use Rattle.acl.specs.Places.{placeOf, begunAs, addedAs};
+ghost use Rattle.acl.specs.Places.{placeOf, begunAs, addedAs, stopped, reading, readOf, Kept};
 use files::Checked;
 use refusals::Refusal;
 
-// Where reading stands: groups begun; of the last group whether it is open (it has no certifier), the limits, with the sort and counter of each, and
-// the actions; whether a record of kind 15 is due.
+// Where reading stands: groups begun; of the last group whether it is open (it has no certifier), the limits, the actions; whether a record of kind 15 is
+// due; and the sort and counter of each limit. The row stands last: what follows it would be kept in memory with it.
 pub struct Place {
     pub groups: usize,
     pub opened: bool,
     pub limits: usize,
     pub actions: usize,
-    pub keys: [u16; sizes::LIMITS],
     pub file_due: bool,
+    pub keys: [u16; sizes::LIMITS],
+}
+
+// What reading records comes to: the first fault, or none and where reading then stands.
+pub struct Read {
+    pub place: Place,
+    pub found: Checked,
 }
 
 // Whether a number is among some.
@@ -71,8 +78,8 @@ impl Place {
             opened: false,
             limits: 0,
             actions: 0,
-            keys: [0u16; sizes::LIMITS],
             file_due: false,
+            keys: [0u16; sizes::LIMITS],
         }
     }
 
@@ -87,7 +94,7 @@ impl Place {
     }
 
     // Whether a record is well formed and may stand here: kind 15 where it is due, and only there.
-    pub fn in_place(self, rec: &[u8]) -> bool
+    fn in_place(self, rec: &[u8]) -> bool
         requires { ⌜ (self .limits ≤ limitsMax) × (length (now rec) ≡ recordBytes) ⌝ }
         ensures { λ r. ⌜ r ≡ inPlace (placeOf self) (now (rec .entry)) ⌝ }
     {
@@ -119,7 +126,7 @@ impl Place {
     }
 
     // Whether there is room for one more of a record's kind.
-    pub fn has_room(self, rec: &[u8]) -> bool
+    fn has_room(self, rec: &[u8]) -> bool
         requires { ⌜ (self .limits ≤ limitsMax) × (length (now rec) ≡ recordBytes) ⌝ }
         ensures { λ r. ⌜ r ≡ hasRoom (placeOf self) (now (rec .entry)) ⌝ }
     {
@@ -137,7 +144,7 @@ impl Place {
     }
 
     // Whether a record is none that opens the key to any recovery key: a MakeArchiveBlob action without kahash in an open group.
-    pub fn is_keyed(self, rec: &[u8]) -> bool
+    fn is_keyed(self, rec: &[u8]) -> bool
         requires { ⌜ length (now rec) ≡ recordBytes ⌝ }
         ensures { λ r. ⌜ r ≡ keyed (placeOf self .isOpen) (now (rec .entry)) ⌝ }
     {
@@ -189,7 +196,7 @@ impl Place {
     }
 
     // Where reading stands after a record for which there is room.
-    pub fn after(self, rec: &[u8]) -> Self
+    fn after(self, rec: &[u8]) -> Self
         requires { ⌜ (hasRoom (placeOf self) (now rec) ≡ true) × (self .limits ≤ limitsMax) × (length (now rec) ≡ recordBytes) ⌝ }
         ensures { λ r. ⌜ (placeOf r ≡ afterRecord (placeOf self) (now (rec .entry))) × (r .limits ≤ limitsMax) ⌝ }
     {
@@ -205,32 +212,64 @@ impl Place {
         }
         self.after_action(fields::flag_of(6, rec))
     }
+
+    // The fault of an end here: kind 15 is due.
+    fn end(self) -> Checked
+        ensures { λ r. ⌜ faultOf r ≡ aclEnd (placeOf self) ⌝ }
+    {
+        if self.file_due {
+            return Checked::Refused(Refusal::Malformed);
+        }
+        Checked::Sound
+    }
+
+    // Reading stops here.
+    fn stopped(self, why: Refusal) -> Read
+        requires { ⌜ self .limits ≤ limitsMax ⌝ }
+        ensures { λ r. ⌜ (readOf r ≡ stopped (refusalNumber why)) × Kept r ⌝ }
+    {
+        Read {
+            place: self,
+            found: Checked::Refused(why),
+        }
+    }
+
+    // Reading goes on here: records from the first on; within a record 2, then 3, then 12. It is one loop for all readers of records, so that its tests
+    // are one piece of code with it and the place stays in registers.
+    pub fn read(self, acl: &[u8]) -> Read
+        requires { ⌜ self .limits ≤ limitsMax ⌝ }
+        ensures { λ r. ⌜ (readOf r ≡ reading (placeOf self) (records (now (acl .entry)))) × Kept r ⌝ }
+    {
+        let mut place = self;
+        let mut at = 0;
+        while sizes::RECORD <= acl.len() - at {
+            let rec = &acl[at..at + sizes::RECORD];
+            if !place.in_place(rec) {
+                return place.stopped(Refusal::Malformed);
+            }
+            if !place.has_room(rec) {
+                return place.stopped(Refusal::TooMany);
+            }
+            if !place.is_keyed(rec) {
+                return place.stopped(Refusal::OpenArchive);
+            }
+            place = place.after(rec);
+            at += sizes::RECORD;
+        }
+        Read {
+            place,
+            found: Checked::Sound,
+        }
+    }
 }
 
-// The first fault of an ACL's records, from the first on; within a record 2, then 3, then 12.
+// The first fault of an ACL's records; it may end anywhere but where kind 15 is due.
 pub fn acl_records(acl: &[u8]) -> Checked
     ensures { λ r. ⌜ faultOf r ≡ aclFault (records (now (acl .entry))) ⌝ }
 {
-    let mut place = Place::start();
-    let mut at = 0;
-    while sizes::RECORD <= acl.len() - at {
-        let rec = &acl[at..at + sizes::RECORD];
-        if !place.in_place(rec) {
-            return Checked::Refused(Refusal::Malformed);
-        }
-        if !place.has_room(rec) {
-            return Checked::Refused(Refusal::TooMany);
-        }
-        if !place.is_keyed(rec) {
-            return Checked::Refused(Refusal::OpenArchive);
-        }
-        place = place.after(rec);
-        at += sizes::RECORD;
-    }
-    if place.file_due {
-        return Checked::Refused(Refusal::Malformed);
-    }
-    Checked::Sound
+    let read = Place::start().read(acl);
+    let found = read.found;
+    files::first_fault(found, read.place.end())
 }
 
 // The first fault of an ACL file: its length, then its records.

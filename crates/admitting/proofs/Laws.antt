@@ -3,10 +3,10 @@ use Prim.Native.Nat.{ℕ, _+_, _-_, _/_, _^_, _≤_, _<_}
 use native.Mathlib.Omega.{arith}
 use native.Mathlib.Nat.{div-eq-of-lt}
 use mathlib.Core.Path.{_≡_, refl, sym, _∙_, ap}
-use mathlib.Core.List.{List, _∷_}
-use mathlib.Core.Option.{Option}
-use mathlib.Core.Bool.{Bool, true, false, not, _&&_, _||_}
-use borrow.Author.Tests.{eq-eqb, ne-eqb, not-true, not-false}
+use mathlib.Core.List.{List, [], _∷_}
+use mathlib.Core.Option.{Option, none}
+use mathlib.Core.Bool.{Bool, true, false, not, _&&_, _||_, false≢true}
+use borrow.Author.Tests.{eq-eqb, ne-eqb, eqb-true, eqb-false, not-true, not-false}
 use lib.ListN.{length, getD}
 use lib.Dec.{eqb}
 use lib.Pow.{pow-mono}
@@ -14,7 +14,7 @@ use Rattle.rules.specs.Basics.{Bytes, any, same, bit, part, number, byte, kind,
 use Rattle.rules.specs.Acl.{Parameters, parametersOf, blobRuleOf, archiveRuleOf, FileRule, fileRuleNext, actionOf, Action, actionsOf}
 use Rattle.rules.specs.Request.{tokenOf, workingBlobOf, recoveryBlobOf, BlobFile, wantedOf}
 use Rattle.rules.specs.Grant.{tighter, meets, nullKey, admitsDirect, admitsToken, admitsKey, admitsBlob, admitsArchive, admitsFile, admitsUse, admitsWorking, admitsRecovery, admits}
-use Rattle.rules.proofs.Rows.{recordsFrom, rows-rest, lentRecord, lentRest}
+use Rattle.rules.proofs.Rows.{recordsFrom, rows-rest, lentRecord, lentRest, lent-record, kind-at}
 use Rattle.groups.proofs.Laws.{acts-step, acts-limit, acts-file, acts-group, acts-end}
 
 -- a field that a flag announces: absent, or to be compared
@@ -110,20 +110,24 @@ module _ (rec : Bytes) (stored : Option BlobFile) (act : Bytes) (file : Option F
   recovery-is r t n m q d = rw (q, d) (sym (rw (ne-eqb (kind act) 3 n, ne-eqb (kind act) 4 m)))
 
 -- what a request record asks for, by its kind
-module _ (km0 rec : Bytes) (stored : Option BlobFile) (act : Bytes) (file : Option FileRule) where
-  pub asks-use : (r : Bool) → kind rec ≡ 6 → r ≡ admitsUse (byte 4 rec) (actionOf act file) → r ≡ admits km0 (wantedOf rec stored) (actionOf act file)
-  unfolding admits wantedOf
-  asks-use r e q = q ∙ sym (rw (eq-eqb (kind rec) 6 e))
+module _ (km0 rec : Bytes) (stored : Option BlobFile) where
+  asks-use : kind rec ≡ 6 → (acts : List Action) → any (admitsUse (byte 4 rec)) acts ≡ any (admits km0 (wantedOf rec stored)) acts
+  unfolding admits wantedOf any
+  asks-use e [] = refl
+  asks-use e (a ∷ rest) = rw (eq-eqb (kind rec) 6 e, asks-use e rest) refl
 
-  pub asks-working : (r : Bool) → (kind rec ≡ 6 → ⊥) → kind rec ≡ 7 → r ≡ admitsWorking km0 (workingBlobOf rec) stored (actionOf act file)
+  pub asks-some-use : (r : Bool) (acts : List Action) → kind rec ≡ 6 → r ≡ any (admitsUse (byte 4 rec)) acts → r ≡ any (admits km0 (wantedOf rec stored)) acts
+  asks-some-use r acts e q = q ∙ asks-use e acts
+
+  pub asks-working : (act : Bytes) (file : Option FileRule) (r : Bool) → (kind rec ≡ 6 → ⊥) → kind rec ≡ 7 → r ≡ admitsWorking km0 (workingBlobOf rec) stored (actionOf act file)
       → r ≡ admits km0 (wantedOf rec stored) (actionOf act file)
   unfolding admits wantedOf
-  asks-working r n e q = q ∙ sym (rw (ne-eqb (kind rec) 6 n, eq-eqb (kind rec) 7 e))
+  asks-working act file r n e q = q ∙ sym (rw (ne-eqb (kind rec) 6 n, eq-eqb (kind rec) 7 e))
 
-  pub asks-recovery : (r : Bool) → (kind rec ≡ 6 → ⊥) → (kind rec ≡ 7 → ⊥) → r ≡ admitsRecovery (recoveryBlobOf rec) stored (actionOf act file)
+  pub asks-recovery : (act : Bytes) (file : Option FileRule) (r : Bool) → (kind rec ≡ 6 → ⊥) → (kind rec ≡ 7 → ⊥) → r ≡ admitsRecovery (recoveryBlobOf rec) stored (actionOf act file)
       → r ≡ admits km0 (wantedOf rec stored) (actionOf act file)
   unfolding admits wantedOf
-  asks-recovery r n m q = q ∙ sym (rw (ne-eqb (kind rec) 6 n, ne-eqb (kind rec) 7 m))
+  asks-recovery act file r n m q = q ∙ sym (rw (ne-eqb (kind rec) 6 n, ne-eqb (kind rec) 7 m))
 
 -- A loop over a group's records: limits and kind 15 are passed over, the next group ends it.
 module _ (p : Action → Bool) (s : Bytes) (at : ℕ) (x : Bool) (inv : any p (actionsOf (recordsFrom s at)) ≡ x) where
@@ -156,3 +160,29 @@ module _ (p : Action → Bool) (s : Bytes) (at : ℕ) (x : Bool) (inv : any p (a
   pub acts-none : length s - at < 64 → false ≡ x
   unfolding any
   acts-none h = sym (ap (any p) (acts-end s at h)) ∙ inv
+
+-- .. for a use: a limit and a record of kind 15 admit none, and are passed over as an action that does not
+module _ (p : ℕ) (s : Bytes) (at : ℕ) (x : Bool) (inv : any (admitsUse p) (actionsOf (recordsFrom s at)) ≡ x) (t : Bool) (h : 64 ≤ length s - at) (n : getD s at 0 ≡ 1 → ⊥)
+    (e : (file : Option FileRule) → t ≡ admitsUse p (actionOf (lentRecord s at) file)) where
+  kind-is : kind (lentRecord s at) ≡ getD s at 0
+  kind-is = ap (λ (r : Bytes). getD r 0 0) (lent-record s at) ∙ kind-at s at
+
+  other-none : (getD s at 0 ≡ 3 → ⊥) → t ≡ false
+  other-none m = e none ∙ sym (use-other p (lentRecord s at) none (λ k. m (sym kind-is ∙ k)))
+
+  pub uses-found : t ≡ true → true ≡ x
+  uses-found y = pick (eqb (getD s at 0) 3) refl
+    where
+      pick : (b : Bool) → eqb (getD s at 0) 3 ≡ b → true ≡ x
+      pick true d =
+          let k = eqb-true (getD s at 0) 3 d in
+          acts-found (admitsUse p) s at x inv t h n (λ z. omega arith) (λ z. omega arith) (e _) y
+      pick false d = absurd (false≢true (sym (other-none (eqb-false (getD s at 0) 3 d)) ∙ y))
+
+  pub uses-next : t ≡ false → any (admitsUse p) (actionsOf (recordsFrom s (at + 64))) ≡ x
+  uses-next y = pick (eqb (getD s at 0) 2) (eqb (getD s at 0) 15) refl refl
+    where
+      pick : (b d : Bool) → eqb (getD s at 0) 2 ≡ b → eqb (getD s at 0) 15 ≡ d → any (admitsUse p) (actionsOf (recordsFrom s (at + 64))) ≡ x
+      pick true d i j = acts-pass (admitsUse p) s at x inv h n (eqb-true (getD s at 0) 2 i)
+      pick false true i j = acts-skip (admitsUse p) s at x inv h n (eqb-false (getD s at 0) 2 i) (eqb-true (getD s at 0) 15 j)
+      pick false false i j = acts-next (admitsUse p) s at x inv t h n (eqb-false (getD s at 0) 2 i) (eqb-false (getD s at 0) 15 j) (e _) y

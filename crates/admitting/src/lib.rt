@@ -3,7 +3,7 @@ ghost use mathlib.Core.Path.{_≡_};
 ghost use mathlib.Core.Option.{Option};
 ghost use lib.ListN.{length};
 ghost use Rattle.rules.specs.Sizes.{recordBytes};
-ghost use Rattle.rules.specs.Basics.{any, same, optional, matches, records};
+ghost use Rattle.rules.specs.Basics.{any, same, kind, optional, matches, records};
 ghost use Rattle.rules.specs.Acl.{parametersOf, blobRuleOf, archiveRuleOf, FileRule, fileRuleNext, actionOf, actionsOf};
 ghost use Rattle.rules.specs.Request.{tokenOf, workingBlobOf, recoveryBlobOf, blobFileNext, wantedOf};
 ghost use Rattle.rules.specs.Grant.{timeAnswers, tighter, meets, nullKey, admitsDirect, admitsToken, admitsKey, admitsBlob, admitsArchive, admitsUse, admitsWorking, admitsRecovery, admits};
@@ -149,24 +149,20 @@ fn admits_recovery(rec: &[u8], rest: &[u8], act: &[u8], after: &[u8]) -> bool
     admits_archive(act, rec) & storing::admits_place(rest, after)
 }
 
-// Whether an action admits what a request record asks for. `rest` follows the request record, `after` the action.
+// Whether an action admits the blob that a request record asks for. `rest` follows the request record, `after` the action.
 fn action_admits(km0: &[u8], rec: &[u8], rest: &[u8], act: &[u8], after: &[u8]) -> bool
-    requires { ⌜ (length (now act) ≡ recordBytes) × (length (now rec) ≡ recordBytes) ⌝ }
+    requires { ⌜ (length (now act) ≡ recordBytes) × (length (now rec) ≡ recordBytes) × (kind (now rec) ≡ 6 → ⊥) ⌝ }
     ensures { λ r. ⌜ r ≡ admits (now (km0 .entry)) (wantedOf (now (rec .entry)) (blobFileNext (records (now (rest .entry))))) (actionOf (now (act .entry)) (fileRuleNext (records (now (after .entry))))) ⌝ }
 {
-    let kind = rec[0];
-    if kind == 6 {
-        return admits_use(rec[4], act);
-    }
-    if kind == 7 {
+    if rec[0] == 7 {
         return admits_working(km0, rec, rest, act, after);
     }
     admits_recovery(rec, rest, act, after)
 }
 
-// Whether a group admits what a request asks for, of the records that follow the group's first one.
-pub fn group_admits(km0: &[u8], rec: &[u8], rest: &[u8], body: &[u8]) -> bool
-    requires { ⌜ length (now rec) ≡ recordBytes ⌝ }
+// Whether a group admits the blob that a request asks for, of the records that follow the group's first one.
+fn admits_some_blob(km0: &[u8], rec: &[u8], rest: &[u8], body: &[u8]) -> bool
+    requires { ⌜ (length (now rec) ≡ recordBytes) × (kind (now rec) ≡ 6 → ⊥) ⌝ }
     ensures { λ r. ⌜ r ≡ any (admits (now (km0 .entry)) (wantedOf (now (rec .entry)) (blobFileNext (records (now (rest .entry)))))) (actionsOf (records (now (body .entry)))) ⌝ }
 {
     let mut at = 0;
@@ -194,4 +190,32 @@ pub fn group_admits(km0: &[u8], rec: &[u8], rest: &[u8], body: &[u8]) -> bool
         at += sizes::RECORD;
     }
     false
+}
+
+// Whether a group admits a use of permission p. A limit and a record of kind 15 admit none, so that they need no look of their own.
+fn admits_some_use(p: u8, body: &[u8]) -> bool
+    ensures { λ r. ⌜ r ≡ any (admitsUse p) (actionsOf (records (now (body .entry)))) ⌝ }
+{
+    let mut at = 0;
+    while sizes::RECORD <= body.len() - at {
+        if body[at] == 1 {
+            return false;
+        }
+        if admits_use(p, &body[at..at + sizes::RECORD]) {
+            return true;
+        }
+        at += sizes::RECORD;
+    }
+    false
+}
+
+// Whether a group admits what a request asks for. Its kind is looked at once, not for each action. `rest` follows the request record.
+pub fn group_admits(km0: &[u8], rec: &[u8], rest: &[u8], body: &[u8]) -> bool
+    requires { ⌜ length (now rec) ≡ recordBytes ⌝ }
+    ensures { λ r. ⌜ r ≡ any (admits (now (km0 .entry)) (wantedOf (now (rec .entry)) (blobFileNext (records (now (rest .entry)))))) (actionsOf (records (now (body .entry)))) ⌝ }
+{
+    if rec[0] == 6 {
+        return admits_some_use(rec[4], body);
+    }
+    admits_some_blob(km0, rec, rest, body)
 }

@@ -156,12 +156,12 @@ impl Cabinet {
     {
         let counts = l.counts;
         let counters = l.counters;
-        let s = Slot {
+        let put = Slot {
             counts,
             loaded: l.loaded,
             last: l.last,
         };
-        self.slots[slot] = s;
+        self.slots[slot] = put;
         self.counters = counters;
         self
     }

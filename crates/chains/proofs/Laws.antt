@@ -7,15 +7,16 @@ use mathlib.Core.List.{List, [], _∷_}
 use mathlib.Core.Option.{Option}
 use mathlib.Core.Bool.{Bool, true, false, not}
 use borrow.Author.Tests.{eq-eqb, ne-eqb, not-true, not-false}
-use lib.ListN.{length, take, drop, getD, length-drop}
+use lib.ListN.{length, take, drop, getD}
 use lib.Pow.{pow-mono}
 use lib.Dec.{eqb}
 use Rattle.rules.specs.Basics.{if_then_else_, Bytes, any, same, bit, part, number, byte, kind, flag, optional, matchesNumber, records}
 use Rattle.rules.specs.Acl.{groupOf}
-use Rattle.rules.specs.Request.{BlobFile, blobFileNext, wantedOf, Certificate, certificateOf, certificatesOf, Delegation, delegationOf, delegationsOf, Request, requestFrom, requestOf}
+use Rattle.rules.specs.Request.{BlobFile, blobFileNext, wantedOf, Certificate, certificateOf, certificatesOf, Delegation, delegationOf, delegationsOf, Request, requestOf}
 use Rattle.rules.specs.Chain.{serves, startsAt, holds, continues, chained, delegated, vouched}
 use Rattle.rules.specs.Grant.{certified}
-use Rattle.rules.proofs.Rows.{first, wanted-first, recordsFrom, rows-lent, rows-end, lentRecord, lent-record, kind-at}
+use Rattle.request.specs.Parts.{Parted}
+use Rattle.rules.proofs.Rows.{wanted-first, recordsFrom, rows-lent, rows-end, lentRecord, lent-record, kind-at}
 
 -- no number of sixteen bits has a bit past the sixteenth
 high-bit : (p n : ℕ) → n < 65536 → 16 ≤ p → bit p n ≡ false
@@ -113,36 +114,20 @@ module _ (rec : Bytes) (file : Option BlobFile) (k : Bytes) (m : Option ℕ) (cs
   unfolding delegated wantedOf
   delegated-use r e p = p ∙ sym (rw (eq-eqb (kind rec) 6 e))
 
--- What follows a request's first record, as the code lends it: it is no longer than the file, and holds what the request presents.
-module _ (s rest : Bytes) (p : rest ≡ drop 64 s) where
-  pub presented-short : length s ≤ 4032 → length rest ≤ 4032
-  presented-short h = rw (p, length-drop 64 s) (omega arith)
-
-  module _ (h : 64 ≤ length s) where
-    presented-certificates : certificatesOf (records rest) ≡ requestOf s .certificates
-    unfolding requestFrom
-    presented-certificates =
-        ap (λ (r : Bytes). certificatesOf (records r)) p ∙ sym (ap (λ (l : List Bytes). requestFrom l .certificates) (first s h))
-
-    presented-delegations : delegationsOf (records rest) ≡ requestOf s .delegations
-    unfolding requestFrom
-    presented-delegations =
-        ap (λ (r : Bytes). delegationsOf (records r)) p ∙ sym (ap (λ (l : List Bytes). requestFrom l .delegations) (first s h))
-
 -- a group by its certifier, and by what a request asks for and presents
 module _ (g : Bytes) (f : Bool) (d : f ≡ flag 0 g) where
   pub certifier-absent : (q : Request) → not f ≡ true → true ≡ certified q (groupOf g [])
   certifier-absent q e = sym (rw (sym d ∙ not-true f e))
 
-  module _ (e : not f ≡ false) (s rest : Bytes) (h : 64 ≤ length s) (p : rest ≡ drop 64 s) (r : Bool)
-      (t : r ≡ any (serves (part 4 20 g) (optional (flag 1 g) (number 24 2 g))) (certificatesOf (records rest))) where
+  module _ (e : not f ≡ false) (s : Bytes) (at : ℕ) (p : Parted s at) (r : Bool)
+      (t : r ≡ any (serves (part 4 20 g) (optional (flag 1 g) (number 24 2 g))) (certificatesOf (records (take (at - 64) (drop 64 s))))) where
     pub certifier-shown : r ≡ true → true ≡ certified (requestOf s) (groupOf g [])
     unfolding vouched
-    certifier-shown y = sym (rw (sym d ∙ not-false f e, ← presented-certificates s rest p h, sym t ∙ y))
+    certifier-shown y = sym (rw (sym d ∙ not-false f e, ← p .certificates, sym t ∙ y))
 
-    pub certifier-delegates : (x : Bool) → r ≡ false
-        → x ≡ delegated (wantedOf (take 64 s) (blobFileNext (records rest))) (part 4 20 g) (optional (flag 1 g) (number 24 2 g)) (certificatesOf (records rest)) (delegationsOf (records rest))
+    pub certifier-delegates : (x : Bool) → 64 ≤ length s → r ≡ false
+        → ((file : Option BlobFile) → x ≡ delegated (wantedOf (take 64 s) file) (part 4 20 g) (optional (flag 1 g) (number 24 2 g)) (certificatesOf (records (take (at - 64) (drop 64 s)))) (delegationsOf (records (take (length s - at) (drop at s)))))
         → x ≡ certified (requestOf s) (groupOf g [])
     unfolding vouched
-    certifier-delegates x y z =
-        z ∙ sym (rw (sym d ∙ not-false f e, ← wanted-first s rest p h, ← presented-certificates s rest p h, ← presented-delegations s rest p h, sym t ∙ y))
+    certifier-delegates x h y z =
+        z (blobFileNext (records (drop 64 s))) ∙ sym (rw (sym d ∙ not-false f e, ← wanted-first s (drop 64 s) refl h, ← p .certificates, ← p .delegations, sym t ∙ y))

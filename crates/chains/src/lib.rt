@@ -1,15 +1,17 @@
-// Chains of delegations among the records that follow a request record: certificates and delegations. A set of delegations is a number, bit i for
-// the i-th.
+// Chains of delegations. The certificates of a request file and its delegations are lent apart; records of another kind in either part are passed over.
+// A set of delegations is a number, bit i for the i-th.
 ghost use mathlib.Core.Path.{_≡_};
 ghost use mathlib.Core.List.{[]};
+ghost use mathlib.Core.Option.{Option};
 ghost use Prim.Native.Nat.{_≤_};
 ghost use lib.ListN.{length};
 ghost use Rattle.rules.specs.Sizes.{recordBytes, hashBytes};
 ghost use Rattle.rules.specs.Basics.{if_then_else_, any, part, number, flag, optional, matchesNumber, records};
 ghost use Rattle.rules.specs.Acl.{groupOf};
-ghost use Rattle.rules.specs.Request.{blobFileNext, wantedOf, certificateOf, certificatesOf, delegationOf, delegationsOf, requestOf};
+ghost use Rattle.rules.specs.Request.{BlobFile, wantedOf, certificateOf, certificatesOf, delegationOf, delegationsOf, requestOf};
 ghost use Rattle.rules.specs.Chain.{serves, anyIn, leadsTo, leadsToPresented, startsAt, holds, continues, nextLevel, chained, delegated};
 ghost use Rattle.rules.specs.Grant.{certified};
+ghost use Rattle.request.specs.Parts.{Sound};
 
 // Whether a delegation leads to a key.
 fn leads_to(key: &[u8], del: &[u8]) -> bool
@@ -20,13 +22,13 @@ fn leads_to(key: &[u8], del: &[u8]) -> bool
 }
 
 // Whether a delegation of a set leads to a key.
-fn one_leads_to(set: u64, key: &[u8], rest: &[u8]) -> bool
-    ensures { λ r. ⌜ r ≡ anyIn set (leadsTo (now (key .entry))) (delegationsOf (records (now (rest .entry)))) ⌝ }
+fn one_leads_to(set: u64, key: &[u8], dels: &[u8]) -> bool
+    ensures { λ r. ⌜ r ≡ anyIn set (leadsTo (now (key .entry))) (delegationsOf (records (now (dels .entry)))) ⌝ }
 {
     let mut left = set;
     let mut at = 0;
-    while sizes::RECORD <= rest.len() - at {
-        if rest[at] != 14 {
+    while sizes::RECORD <= dels.len() - at {
+        if dels[at] != 14 {
             at += sizes::RECORD;
             continue;
         }
@@ -35,7 +37,7 @@ fn one_leads_to(set: u64, key: &[u8], rest: &[u8]) -> bool
             at += sizes::RECORD;
             continue;
         }
-        if leads_to(key, &rest[at..at + sizes::RECORD]) {
+        if leads_to(key, &dels[at..at + sizes::RECORD]) {
             return true;
         }
         left = left / 2;
@@ -45,13 +47,13 @@ fn one_leads_to(set: u64, key: &[u8], rest: &[u8]) -> bool
 }
 
 // Whether a delegation starts at a key, or where one of a set leads.
-fn starts(key: &[u8], rest: &[u8], set: u64, from: &[u8]) -> bool
-    ensures { λ r. ⌜ r ≡ startsAt (now (key .entry)) (delegationsOf (records (now (rest .entry)))) set (now (from .entry)) ⌝ }
+fn starts(key: &[u8], dels: &[u8], set: u64, from: &[u8]) -> bool
+    ensures { λ r. ⌜ r ≡ startsAt (now (key .entry)) (delegationsOf (records (now (dels .entry)))) set (now (from .entry)) ⌝ }
 {
     if fields::same_bytes(from, key) {
         return true;
     }
-    one_leads_to(set, from, rest)
+    one_leads_to(set, from, dels)
 }
 
 // Whether the mask of a delegation has bit p. No number has a bit past the sixteenth.
@@ -67,32 +69,32 @@ fn holds_bit(p: u8, del: &[u8]) -> bool
 }
 
 // The mark of a delegation in the next level: 1 where its mask has bit p and it goes on from a set.
-fn mark(p: u8, key: &[u8], rest: &[u8], set: u64, del: &[u8]) -> u64
+fn mark(p: u8, key: &[u8], dels: &[u8], set: u64, del: &[u8]) -> u64
     requires { ⌜ length (now del) ≡ recordBytes ⌝ }
-    ensures { λ r. ⌜ r ≡ (if continues p (now (key .entry)) (delegationsOf (records (now (rest .entry)))) set (delegationOf (now (del .entry))) then 1 else 0) ⌝ }
+    ensures { λ r. ⌜ r ≡ (if continues p (now (key .entry)) (delegationsOf (records (now (dels .entry)))) set (delegationOf (now (del .entry))) then 1 else 0) ⌝ }
 {
     if !holds_bit(p, del) {
         return 0;
     }
-    if !starts(key, rest, set, &del[4..24]) {
+    if !starts(key, dels, set, &del[4..24]) {
         return 0;
     }
     1
 }
 
 // The level after a level.
-fn next_level(p: u8, key: &[u8], rest: &[u8], set: u64) -> u64
-    requires { ⌜ length (now rest) ≤ 4032 ⌝ }
-    ensures { λ r. ⌜ r ≡ nextLevel p (now (key .entry)) (delegationsOf (records (now (rest .entry)))) set ⌝ }
+fn next_level(p: u8, key: &[u8], dels: &[u8], set: u64) -> u64
+    requires { ⌜ length (now dels) ≤ 4032 ⌝ }
+    ensures { λ r. ⌜ r ≡ nextLevel p (now (key .entry)) (delegationsOf (records (now (dels .entry)))) set ⌝ }
 {
     let mut next = 0;
-    let mut at = rest.len() - rest.len() % sizes::RECORD;
+    let mut at = dels.len() - dels.len() % sizes::RECORD;
     while sizes::RECORD <= at {
         at -= sizes::RECORD;
-        if rest[at] != 14 {
+        if dels[at] != 14 {
             continue;
         }
-        next = next * 2 + mark(p, key, rest, set, &rest[at..at + sizes::RECORD]);
+        next = next * 2 + mark(p, key, dels, set, &dels[at..at + sizes::RECORD]);
     }
     next
 }
@@ -123,17 +125,17 @@ fn certificate_serves(key: &[u8], group: &[u8], cert: &[u8]) -> bool
 }
 
 // Whether one of the presented certificates is.
-fn some_serves(key: &[u8], group: &[u8], rest: &[u8]) -> bool
+fn some_serves(key: &[u8], group: &[u8], certs: &[u8]) -> bool
     requires { ⌜ length (now group) ≡ recordBytes ⌝ }
-    ensures { λ r. ⌜ r ≡ any (serves (now (key .entry)) (optional (flag 1 (now (group .entry))) (number 24 2 (now (group .entry))))) (certificatesOf (records (now (rest .entry)))) ⌝ }
+    ensures { λ r. ⌜ r ≡ any (serves (now (key .entry)) (optional (flag 1 (now (group .entry))) (number 24 2 (now (group .entry))))) (certificatesOf (records (now (certs .entry)))) ⌝ }
 {
     let mut at = 0;
-    while sizes::RECORD <= rest.len() - at {
-        if rest[at] != 9 {
+    while sizes::RECORD <= certs.len() - at {
+        if certs[at] != 9 {
             at += sizes::RECORD;
             continue;
         }
-        if certificate_serves(key, group, &rest[at..at + sizes::RECORD]) {
+        if certificate_serves(key, group, &certs[at..at + sizes::RECORD]) {
             return true;
         }
         at += sizes::RECORD;
@@ -142,22 +144,22 @@ fn some_serves(key: &[u8], group: &[u8], rest: &[u8]) -> bool
 }
 
 // Whether a delegation leads to a presented certificate of a group's mechanism.
-fn leads_to_presented(group: &[u8], rest: &[u8], del: &[u8]) -> bool
+fn leads_to_presented(group: &[u8], certs: &[u8], del: &[u8]) -> bool
     requires { ⌜ (length (now group) ≡ recordBytes) × (length (now del) ≡ recordBytes) ⌝ }
-    ensures { λ r. ⌜ r ≡ leadsToPresented (optional (flag 1 (now (group .entry))) (number 24 2 (now (group .entry)))) (certificatesOf (records (now (rest .entry)))) (delegationOf (now (del .entry))) ⌝ }
+    ensures { λ r. ⌜ r ≡ leadsToPresented (optional (flag 1 (now (group .entry))) (number 24 2 (now (group .entry)))) (certificatesOf (records (now (certs .entry)))) (delegationOf (now (del .entry))) ⌝ }
 {
-    some_serves(&del[24..44], group, rest)
+    some_serves(&del[24..44], group, certs)
 }
 
 // Whether a delegation of a set does.
-fn one_leads_to_presented(set: u64, group: &[u8], rest: &[u8]) -> bool
+fn one_leads_to_presented(set: u64, group: &[u8], certs: &[u8], dels: &[u8]) -> bool
     requires { ⌜ length (now group) ≡ recordBytes ⌝ }
-    ensures { λ r. ⌜ r ≡ anyIn set (leadsToPresented (optional (flag 1 (now (group .entry))) (number 24 2 (now (group .entry)))) (certificatesOf (records (now (rest .entry))))) (delegationsOf (records (now (rest .entry)))) ⌝ }
+    ensures { λ r. ⌜ r ≡ anyIn set (leadsToPresented (optional (flag 1 (now (group .entry))) (number 24 2 (now (group .entry)))) (certificatesOf (records (now (certs .entry))))) (delegationsOf (records (now (dels .entry)))) ⌝ }
 {
     let mut left = set;
     let mut at = 0;
-    while sizes::RECORD <= rest.len() - at {
-        if rest[at] != 14 {
+    while sizes::RECORD <= dels.len() - at {
+        if dels[at] != 14 {
             at += sizes::RECORD;
             continue;
         }
@@ -166,7 +168,7 @@ fn one_leads_to_presented(set: u64, group: &[u8], rest: &[u8]) -> bool
             at += sizes::RECORD;
             continue;
         }
-        if leads_to_presented(group, rest, &rest[at..at + sizes::RECORD]) {
+        if leads_to_presented(group, certs, &dels[at..at + sizes::RECORD]) {
             return true;
         }
         left = left / 2;
@@ -176,45 +178,47 @@ fn one_leads_to_presented(set: u64, group: &[u8], rest: &[u8]) -> bool
 }
 
 // Whether a chain of at most four delegations leads from a group's certifier to a presented certificate: level by level, those that a chain may end with.
-fn has_chain(p: u8, group: &[u8], rest: &[u8]) -> bool
-    requires { ⌜ (length (now group) ≡ recordBytes) × (length (now rest) ≤ 4032) ⌝ }
-    ensures { λ r. ⌜ r ≡ chained p (part 4 hashBytes (now (group .entry))) (optional (flag 1 (now (group .entry))) (number 24 2 (now (group .entry)))) (certificatesOf (records (now (rest .entry)))) (delegationsOf (records (now (rest .entry)))) ⌝ }
+fn has_chain(p: u8, group: &[u8], certs: &[u8], dels: &[u8]) -> bool
+    requires { ⌜ (length (now group) ≡ recordBytes) × (length (now dels) ≤ 4032) ⌝ }
+    ensures { λ r. ⌜ r ≡ chained p (part 4 hashBytes (now (group .entry))) (optional (flag 1 (now (group .entry))) (number 24 2 (now (group .entry)))) (certificatesOf (records (now (certs .entry)))) (delegationsOf (records (now (dels .entry)))) ⌝ }
 {
     let key = &group[4..24];
-    let mut ends = next_level(p, key, rest, 0);
+    let mut ends = next_level(p, key, dels, 0);
     if ends == 0 {
         return false;
     }
     let mut links = 1;
     while links < sizes::LINKS {
-        ends = next_level(p, key, rest, ends);
+        ends = next_level(p, key, dels, ends);
         links += 1;
     }
-    one_leads_to_presented(ends, group, rest)
+    one_leads_to_presented(ends, group, certs, dels)
 }
 
 // Whether a use is delegated; a blob request is not.
-fn is_delegated(rec: &[u8], group: &[u8], rest: &[u8]) -> bool
-    requires { ⌜ (length (now rec) ≡ recordBytes) × ((length (now group) ≡ recordBytes) × (length (now rest) ≤ 4032)) ⌝ }
-    ensures { λ r. ⌜ r ≡ delegated (wantedOf (now (rec .entry)) (blobFileNext (records (now (rest .entry))))) (part 4 hashBytes (now (group .entry))) (optional (flag 1 (now (group .entry))) (number 24 2 (now (group .entry)))) (certificatesOf (records (now (rest .entry)))) (delegationsOf (records (now (rest .entry)))) ⌝ }
+fn is_delegated(rec: &[u8], group: &[u8], certs: &[u8], dels: &[u8]) -> bool
+    requires { ⌜ (length (now rec) ≡ recordBytes) × ((length (now group) ≡ recordBytes) × (length (now dels) ≤ 4032)) ⌝ }
+    ensures { λ r. ⌜ ((file : Option BlobFile) → r ≡ delegated (wantedOf (now (rec .entry)) file) (part 4 hashBytes (now (group .entry))) (optional (flag 1 (now (group .entry))) (number 24 2 (now (group .entry)))) (certificatesOf (records (now (certs .entry)))) (delegationsOf (records (now (dels .entry))))) ⌝ }
 {
     if rec[0] != 6 {
         return false;
     }
-    has_chain(rec[4], group, rest)
+    has_chain(rec[4], group, certs, dels)
 }
 
-// Whether a group, by its first record, is certified for a request: it has no certifier, or a presented certificate serves, or a chain.
+// Whether a group, by its first record, is certified for a request: it has no certifier, or a presented certificate serves, or a chain. The delegations
+// are looked for from the end of the file, so that a request without any pays nothing for them.
 pub fn is_certified(group: &[u8], req: &[u8]) -> bool
-    requires { ⌜ (length (now group) ≡ recordBytes) × ((recordBytes ≤ length (now req)) × (length (now req) ≤ 4032)) ⌝ }
+    requires { ⌜ (length (now group) ≡ recordBytes) × Sound (now req) ⌝ }
     ensures { λ r. ⌜ r ≡ certified (requestOf (now (req .entry))) (groupOf (now (group .entry)) []) ⌝ }
 {
     if !fields::flag_of(0, group) {
         return true;
     }
-    let rest = request::presented(req);
-    if some_serves(&group[4..24], group, rest) {
+    let at = request::delegations_start(req);
+    let certs = &req[sizes::RECORD..at];
+    if some_serves(&group[4..24], group, certs) {
         return true;
     }
-    is_delegated(&req[0..sizes::RECORD], group, rest)
+    is_delegated(&req[0..sizes::RECORD], group, certs, &req[at..])
 }

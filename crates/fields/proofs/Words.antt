@@ -1,5 +1,5 @@
 -- Eight bytes at a time: a word's number is zero, or another's, exactly if its bytes are; the turns of the loops that go by words.
-use Prim.Native.Nat.{ℕ, _≤_, _<_, _-_, _+_, _*_, _^_}
+use Prim.Native.Nat.{ℕ, _≤_, _<_, _-_, _+_, _*_, _/_, _%_, _^_}
 use native.Mathlib.Nat.{zero-add, mul-one, mul-assoc, add-mul, add-assoc, pow-suc}
 use native.Mathlib.Omega.{arith}
 use mathlib.Core.Path.{_≡_, refl, sym, _∙_, ap, ap₂}
@@ -9,10 +9,10 @@ use lib.ListN.{length, take, drop, getD, length-drop, take-append-drop}
 use lib.Dec.{eqb}
 use lib.Seq.{drop-cons, take-add, take-all, drop-drop, length-take-le}
 use borrow.Author.Tests.{eqb-true, eqb-false, eq-eqb, ne-eqb}
-use Rattle.rules.specs.Basics.{Bytes, Every, allZero, same, part, blank}
-use Rattle.fields.specs.Words.{littleNumber, Word}
+use Rattle.rules.specs.Basics.{Bytes, Every, allZero, same, numberFrom, part, number, blank}
+use Rattle.fields.specs.Words.{littleNumber, Word, swapped16, swapped32, swapped64}
 use Rattle.rules.proofs.Laws.{and-right, same-eq, same-refl}
-use Rattle.fields.proofs.Laws.{and-false, and-true, and-assoc}
+use Rattle.fields.proofs.Laws.{and-false, and-true, and-assoc, number-halves}
 
 -- A word's number and its bytes.
 zero-word-number : (bs : Bytes) → eqb (littleNumber bs) 0 ≡ allZero bs
@@ -80,6 +80,49 @@ pub word-two : (s : Bytes) (at r : ℕ) → at + 2 ≤ length s → getD s at 0 
 unfolding Word littleNumber
 word-two s at r h p q e =
     rw (part-add s at 1 1, part-one s at (omega arith), part-one s (at + 1) (omega arith)) (omega arith, (p, (q, tt)))
+
+-- A word in the other order is the big-endian number of its bytes.
+little-below : (bs : Bytes) → Every (λ b. b < 256) bs → littleNumber bs < 256 ^ length bs
+unfolding littleNumber
+little-below [] h = omega arith
+little-below (b ∷ bs) h = omega (arith, little-below bs (h .1), h .0, pow-suc 256 (length bs))
+
+every-front : (P : ℕ → Type 0) (xs ys : Bytes) → Every P (xs ++ ys) → Every P xs × Every P ys
+every-front P [] ys h = (tt, h)
+every-front P (x ∷ xs) ys h = let i = every-front P xs ys (h .1) in ((h .0, i .0), i .1)
+
+-- .. from its halves of k bytes, of which the order is known; w is the weight of the upper one
+module _ (k w : ℕ) (p : w ≡ 256 ^ k) (swap : ℕ → ℕ) (known : (s : Bytes) (at n : ℕ) → at + k ≤ length s → Word (part at k s) n → swap n ≡ number at k s)
+    (split : (lo hi : ℕ) → lo < w → ((lo + hi * w) % w ≡ lo) × ((lo + hi * w) / w ≡ hi)) where
+  swap-halves : (s : Bytes) (at n : ℕ) → at + (k + k) ≤ length s → Word (part at (k + k) s) n → swap (n % w) * w + swap (n / w) ≡ number at (k + k) s
+  unfolding Word
+  swap-halves s at n h word =
+      let xs = part at k s in
+      let ys = part (at + k) k s in
+      let l = part-length s at k (omega arith) in
+      let e : n ≡ littleNumber xs + littleNumber ys * w = word .0 ∙ ap littleNumber (part-add s at k k) ∙ number-append xs ys ∙ rw (l, ← p) refl in
+      let o = every-front (λ b. b < 256) xs ys (rw (part-add s at k k) at (word .1)) in
+      let b : littleNumber xs < w = let i : littleNumber xs < 256 ^ k = rw l at (little-below xs (o .0)) in rw p i in
+      let q = split (littleNumber xs) (littleNumber ys) b in
+      let lo : n % w ≡ littleNumber xs = ap (λ (m : ℕ). m % w) e ∙ q .0 in
+      let hi : n / w ≡ littleNumber ys = ap (λ (m : ℕ). m / w) e ∙ q .1 in
+      number-halves k w s at _ (swap (n % w)) (swap (n / w)) p h (known s at (n % w) (omega arith) (lo, o .0)) (known s (at + k) (n / w) (omega arith) (hi, o .1)) refl
+
+one-byte : (s : Bytes) (at n : ℕ) → at + 1 ≤ length s → Word (part at 1 s) n → n ≡ number at 1 s
+unfolding Word littleNumber numberFrom
+one-byte s at n h word = word .0 ∙ rw (part-one s at (omega arith)) (omega arith)
+
+swap-two : (s : Bytes) (at n : ℕ) → at + 2 ≤ length s → Word (part at 2 s) n → swapped16 n ≡ number at 2 s
+unfolding swapped16
+swap-two = swap-halves 1 256 refl (λ n. n) one-byte (λ lo hi h. (omega arith, omega arith))
+
+swap-four : (s : Bytes) (at n : ℕ) → at + 4 ≤ length s → Word (part at 4 s) n → swapped32 n ≡ number at 4 s
+unfolding swapped32
+swap-four = swap-halves 2 65536 refl swapped16 swap-two (λ lo hi h. (omega arith, omega arith))
+
+pub swap-eight : (s : Bytes) (at n r : ℕ) → at + 8 ≤ length s → Word (part at 8 s) n → r ≡ swapped64 n → r ≡ number at 8 s
+unfolding swapped64
+swap-eight s at n r h word e = e ∙ swap-halves 4 4294967296 refl swapped32 swap-four (λ lo hi h. (omega arith, omega arith)) s at n h word
 
 -- What a list's test says of its parts.
 zero-append : (xs ys : Bytes) → allZero (xs ++ ys) ≡ (allZero xs && allZero ys)

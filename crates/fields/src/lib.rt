@@ -6,7 +6,7 @@ ghost use lib.ListN.{length};
 ghost use lib.Dec.{eqb};
 ghost use Rattle.rules.specs.Basics.{allZero, same, bit, bitCount, within, part, number, blank, flag};
 ghost use Rattle.rules.specs.Layout.{tokenParametersAt};
-ghost use Rattle.fields.specs.Words.{Word};
+ghost use Rattle.fields.specs.Words.{Word, swapped16, swapped32, swapped64};
 
 // Whether two runs of bytes of one length are the same, byte by byte: for runs of fewer than eight. No test here stops at the first difference, for
 // joining the answers costs less than a jump after each.
@@ -170,7 +170,30 @@ pub fn be64(s: &[u8], at: usize) -> u64
     requires { ⌜ at + 8 ≤ length (now s) ⌝ }
     ensures { λ r. ⌜ r ≡ number at 8 (now (s .entry)) ⌝ }
 {
-    join64(be32(s, at), be32(s, at + 4))
+    swap64(little64(s, at))
+}
+
+// A number with its bytes in the other order, at each width. Eight bytes are so one load and one swap; joined from the greatest place on they
+// would be eight loads.
+fn swap16(n: u16) -> u16
+    ensures { λ r. ⌜ r ≡ swapped16 n ⌝ }
+{
+    join16((n % 256) as u8, (n / 256) as u8)
+}
+
+fn swap32(n: u32) -> u32
+    ensures { λ r. ⌜ r ≡ swapped32 n ⌝ }
+{
+    join32(swap16((n % 65536) as u16), swap16((n / 65536) as u16))
+}
+
+fn swap64(n: u64) -> u64
+    ensures { λ r. ⌜ r ≡ swapped64 n ⌝ }
+{
+    join64(
+        swap32((n % 4294967296) as u32),
+        swap32((n / 4294967296) as u32),
+    )
 }
 
 // Bit b of a number.

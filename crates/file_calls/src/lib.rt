@@ -1,7 +1,9 @@
-// The calls of a replay script (docs/REPLAY.md) that know of no ledger: the desk, the subject writer and the listings. Each makes the call and prints its
-// line.
+// The calls of a replay script (docs/REPLAY.md) that know of no ledger: the desk, the subject writer, the listings and the trimming tool. Each makes the
+// call and prints its line.
 use printing::print;
+use steps::Step;
 use subject::Written;
+use trimming::TrimReply;
 
 // The desk's verdict, in its own line.
 pub fn desk_call(k: u64, bundle: &[u8], acl: &[u8]) {
@@ -53,5 +55,35 @@ pub fn buffer_call(k: u64, letter: u8, first: u64, second: u64, given: &[u8], bu
     answer(letter, first, second, given, buffer);
     print(b" ");
     printing::print_hex(buffer);
+    print(b"\n");
+}
+
+fn print_step(step: Step) {
+    let mut name = [0u8; verdicts::LINE];
+    let n = verdicts::append_step(step, 0, &mut name);
+    print(b"fail");
+    print(&name[..n]);
+}
+
+fn print_trimmed(reply: TrimReply) {
+    match reply {
+        TrimReply::Trimmed(m, n) => {
+            print(b"lengths");
+            printing::print_spaced(m);
+            printing::print_spaced(n);
+        }
+        TrimReply::Failed(s) => print_step(s),
+        TrimReply::Refused(why) => printing::print_refusal(refusals::number(why) as u64),
+    }
+}
+
+// A trimming, and both buffers after it.
+pub fn trim_call(k: u64, bundle: &[u8], acl: &[u8], new: &mut [u8], hints: &mut [u8]) {
+    printing::print_line(k);
+    print_trimmed(trimming::trim(bundle, acl, new, hints));
+    print(b" ");
+    printing::print_hex(new);
+    print(b" ");
+    printing::print_hex(hints);
     print(b"\n");
 }

@@ -16,6 +16,7 @@ use Rattle.rules.specs.Narrow.{narrows}
 use Rattle.rules.specs.Gate.{Answer, Outcome, Judgement, granted, denied, judge, settle, refused, permitted, narrowed, expanded, lengthsFit, narrowFiles, expandFiles}
 use Rattle.rules.proofs.Laws.{and-left, unless-passed, fault-none-every}
 use Rattle.rules.proofs.Few.{narrow-few}
+use Rattle.request.specs.Parts.{Sound}
 use Rattle.gate.specs.Outcomes.{carriedOf, noCounts, permittedIf, isPermit, lastAfter, settledAs, countsAfter}
 use Rattle.gate.proofs.Settling.{sound-request, fitting-request}
 use Rattle.gate.proofs.Carries.{carried-is}
@@ -82,19 +83,19 @@ module _ (l : Ledger) (km0 : Bytes) (gs : List Group) (q : Request) (a : Answer)
       → o ≡ settle l (q .time) expanded (judge l km0 gs q)
   expand-settled p d = replaced-is noCounts d ∙ ap (replaced noCounts) p ∙ settled-expanded l (q .time) (judge l km0 gs q)
 
--- What sound files tell: the request has a record and is short, the ACL has no fault, the hints are few.
-pub narrow-sound : (km0 acl req new hints : Bytes) → narrowFiles km0 acl req new hints ≡ none → ((64 ≤ length req) × (length req ≤ 4032)) × (aclFault (records acl) ≡ none) × (length (hintsOf hints) ≤ groupsMax)
+-- What sound files tell: the request has no fault and is short, the ACL has no fault, the hints are few.
+pub narrow-sound : (km0 acl req new hints : Bytes) → narrowFiles km0 acl req new hints ≡ none → Sound req × (aclFault (records acl) ≡ none) × (length (hintsOf hints) ≤ groupsMax)
 narrow-sound km0 acl req new hints e =
     let h = fault-none-every _ e in
     let t = unless-passed (lengthsFit km0 acl req && fits aclRecords new && fits hintRecords hints) badLength (h .0) in
     let f = and-left (lengthsFit km0 acl req) (fits aclRecords new) (and-left (lengthsFit km0 acl req && fits aclRecords new) (fits hintRecords hints) t) in
-    ((sound-request (useOf reduceAcl) req (h .1 .1 .0), fitting-request km0 acl req f), h .1 .0, narrow-few km0 acl req new hints e)
+    (sound-request (useOf reduceAcl) req (h .1 .1 .0) (fitting-request km0 acl req f), h .1 .0, narrow-few km0 acl req new hints e)
 
-pub expand-sound : (km0 acl req new : Bytes) → expandFiles km0 acl req new ≡ none → ((64 ≤ length req) × (length req ≤ 4032)) × (aclFault (records acl) ≡ none)
+pub expand-sound : (km0 acl req new : Bytes) → expandFiles km0 acl req new ≡ none → Sound req × (aclFault (records acl) ≡ none)
 expand-sound km0 acl req new e =
     let h = fault-none-every _ e in
     let t = unless-passed (lengthsFit km0 acl req && fits aclRecords new) badLength (h .0) in
-    ((sound-request (useOf expandAcl) req (h .1 .1 .0), fitting-request km0 acl req (and-left (lengthsFit km0 acl req) (fits aclRecords new) t)), h .1 .0)
+    (sound-request (useOf expandAcl) req (h .1 .1 .0) (fitting-request km0 acl req (and-left (lengthsFit km0 acl req) (fits aclRecords new) t)), h .1 .0)
 
 -- two tests that the code made, as one
 pub both-are : (a b x y : Bool) → a ≡ x → b ≡ y → (a && b) ≡ (x && y)

@@ -11,19 +11,21 @@ use lib.ListN.{length, drop, getD}
 use lib.Dec.{eqb, ltb, leb}
 use Rattle.rules.specs.Sizes.{recordBytes, hashBytes, fullCount, aclRecords, requestRecords}
 use Rattle.rules.specs.Numbers.{badLength, malformed, notNarrower}
-use Rattle.rules.specs.Basics.{Bytes, Every, all, records, fits}
+use Rattle.rules.specs.Basics.{Bytes, Every, all, records, fits, orNext}
 use Rattle.rules.specs.Acl.{Limit, Group, aclOf, aclFault}
 use Rattle.rules.specs.Request.{Request, requestLaidOut, requestFault}
 use Rattle.rules.specs.Ledger.{Ledger, charge}
 use Rattle.rules.specs.Grant.{limitLeft, limitsLeft, groupAdmits, certified, unspent}
 use Rattle.rules.specs.Gate.{Answer, permit, refuse, Outcome, Lowest, nobody, group, lowest, Denial, early, unadmitted, uncertified, exhausted, Judgement, granted, denied, grants, tooEarly, whyNot, judgedBy, judge, refusedNear, refused, settle, unlessFault, lengthsFit, requestFiles}
 use Rattle.rules.proofs.Laws.{never, and-left, and-right, and-both, implication, unless-passed, fault-none-every}
-use Rattle.rules.proofs.Rows.{no-rows}
+use Rattle.rules.proofs.Rows.{first, no-rows}
 use Rattle.theorems.specs.Sizes.{Apart, GroupFits}
 use Rattle.theorems.proofs.AclSizes.{acl-fits}
 use Rattle.groups.specs.Parts.{firstLimits}
 use Rattle.refusals.specs.declared.Denial as code
 use Rattle.refusals.specs.Refusals.{denialNumber, denialGroup}
+use Rattle.request.specs.Following.{followingFault}
+use Rattle.request.specs.Parts.{Sound}
 use Rattle.judging.specs.declared.Judged.{Judged}
 use Rattle.judging.specs.declared.Judged.the-variants.{Granted, Denied}
 use Rattle.judging.specs.Standings.{denialAs, judgedAs}
@@ -205,10 +207,10 @@ module _ (l : Ledger) (km0 : Bytes) (gs : List Group) (q : Request) (shown : Boo
       → settledAs a counts counters (l .loaded) (l .last) (q .time) ≡ settle l (q .time) (permittedIf l shown) (judge l km0 gs q)
   settled-by j a counts counters e d f g = rw (f, g, d) (charged-is j e)
 
--- A request file without fault has a record.
-pub sound-request : (first : Bytes → Bool) (s : Bytes) → requestFault first (records s) ≡ none → 64 ≤ length s
+-- A request file without fault has a record, and those that follow have no fault.
+request-begun : (test : Bytes → Bool) (s : Bytes) → requestFault test (records s) ≡ none → 64 ≤ length s
 unfolding requestFault
-sound-request first s e = pick (ltb (length s) 64) refl
+request-begun test s e = pick (ltb (length s) 64) refl
   where
     pick : (b : Bool) → ltb (length s) 64 ≡ b → 64 ≤ length s
     pick true d =
@@ -216,6 +218,16 @@ sound-request first s e = pick (ltb (length s) 64) refl
         let c : some malformed ≡ none = rw n at e in
         absurd (never (cc))
     pick false d = ltb-false (length s) 64 d
+
+both-none : (a b : Option ℕ) → a ≡ none → b ≡ none → orNext a b ≡ none
+both-none a b e d = rw (e, d)
+
+pub sound-request : (test : Bytes → Bool) (s : Bytes) → requestFault test (records s) ≡ none → length s ≤ 4032 → Sound s
+unfolding requestFault followingFault
+sound-request test s e l =
+    let h = request-begun test s e in
+    let f = fault-none-every _ (sym (ap (requestFault test) (first s h)) ∙ e) in
+    (h, (l, both-none _ _ (f .1 .0) (f .1 .1 .0)))
 
 -- A call whose files have a fault is refused with it; else it comes to what is made of the judgement.
 module _ (l : Ledger) (fault : Option ℕ) (o s : Outcome) where
@@ -233,8 +245,8 @@ fitting-request km0 acl req e =
     let a = leb-true (length req) (requestRecords * recordBytes) (and-right (eqb (length req % recordBytes) 0) (leb (length req) (requestRecords * recordBytes)) f) in
     omega arith
 
--- What a request's sound files tell: the request has a record and is short, the ACL has no fault.
-pub files-sound : (km0 acl req : Bytes) → requestFiles km0 acl req ≡ none → ((64 ≤ length req) × (length req ≤ 4032)) × (aclFault (records acl) ≡ none)
+-- What a request's sound files tell: the request has no fault and is short, the ACL has no fault.
+pub files-sound : (km0 acl req : Bytes) → requestFiles km0 acl req ≡ none → Sound req × (aclFault (records acl) ≡ none)
 files-sound km0 acl req e =
     let h = fault-none-every _ e in
-    ((sound-request requestLaidOut req (h .1 .1 .0), fitting-request km0 acl req (unless-passed (lengthsFit km0 acl req) badLength (h .0))), h .1 .0)
+    (sound-request requestLaidOut req (h .1 .1 .0) (fitting-request km0 acl req (unless-passed (lengthsFit km0 acl req) badLength (h .0))), h .1 .0)

@@ -5,7 +5,7 @@ ghost use mathlib.Core.Option.{none};
 ghost use mathlib.Core.List.{List};
 ghost use Prim.Native.Nat.{ℕ, _≤_, _<_};
 ghost use lib.ListN.{length, getD, set};
-ghost use Rattle.rules.specs.Sizes.{recordBytes, groupsMax, countersMax, fullCount};
+ghost use Rattle.rules.specs.Sizes.{groupsMax, countersMax, fullCount};
 ghost use Rattle.rules.specs.Basics.{records};
 ghost use Rattle.rules.specs.Acl.{limitsOf, aclOf, aclFault};
 ghost use Rattle.rules.specs.Request.{requestOf, hintsOf};
@@ -13,6 +13,7 @@ ghost use Rattle.rules.specs.Ledger.{freshLedger, raised, raisedBy};
 ghost use Rattle.rules.specs.Gate.{load, clear, request, lengthsFit, requestFiles, refused, permitted, settle, judge, narrowFiles, narrowed, narrow, expandFiles, expanded, expand};
 ghost use Rattle.refusals.specs.Refusals.{refusalNumber};
 ghost use Rattle.files.specs.Faults.{faultOf};
+ghost use Rattle.request.specs.Parts.{Sound};
 ghost use Rattle.judging.specs.Standings.{tablesOf};
 ghost use Rattle.gate.specs.Outcomes.{ledgerOf, answerOf, outcomeOf, settledOf, hasRoom, raisedOnce, Chargeable, permitIf, decided, CountersRoom, countersCharged, CountRoom, countsCharged, isPermit, lastAfter, countsAfter, carriedFrom, carriedOf, noCounts};
 use files::Checked;
@@ -276,7 +277,7 @@ fn used(
     acl: &[u8],
     req: &[u8],
 ) -> Settled
-    requires { ⌜ ((recordBytes ≤ length (now req)) × (length (now req) ≤ 4032)) × (aclFault (records (now acl)) ≡ none) ⌝ }
+    requires { ⌜ Sound (now req) × (aclFault (records (now acl)) ≡ none) ⌝ }
     ensures { λ r. ⌜ settledOf r (now (counts .exit)) (now (counters .exit)) loaded ≡ settle (tablesOf (now (counts .entry)) (now (counters .entry)) loaded last) (requestOf (now (req .entry)) .time) permitted (judge (tablesOf (now (counts .entry)) (now (counters .entry)) loaded last) (now (km0 .entry)) (aclOf (now (acl .entry))) (requestOf (now (req .entry)))) ⌝ }
 {
     let judged = judging::judge_request(counts, counters, loaded, last, km0, acl, req);
@@ -431,7 +432,7 @@ fn narrowed(
     new: &[u8],
     hints: &[u8],
 ) -> Settled
-    requires { ⌜ ((recordBytes ≤ length (now req)) × (length (now req) ≤ 4032)) × (aclFault (records (now acl)) ≡ none) × (length (hintsOf (now hints)) ≤ groupsMax) ⌝ }
+    requires { ⌜ Sound (now req) × (aclFault (records (now acl)) ≡ none) × (length (hintsOf (now hints)) ≤ groupsMax) ⌝ }
     ensures { λ r. ⌜ settledOf r (now (counts .exit)) (now (counters .exit)) loaded ≡ settle (tablesOf (now (counts .entry)) (now (counters .entry)) loaded last) (requestOf (now (req .entry)) .time) (narrowed (tablesOf (now (counts .entry)) (now (counters .entry)) loaded last) (aclOf (now (acl .entry))) (aclOf (now (new .entry))) (hintsOf (now (hints .entry)))) (judge (tablesOf (now (counts .entry)) (now (counters .entry)) loaded last) (now (km0 .entry)) (aclOf (now (acl .entry))) (requestOf (now (req .entry)))) ⌝ }
 {
     let shown = narrowing::shows_narrowing(acl, new, hints);
@@ -456,7 +457,7 @@ fn expanded(
     acl: &[u8],
     req: &[u8],
 ) -> Settled
-    requires { ⌜ ((recordBytes ≤ length (now req)) × (length (now req) ≤ 4032)) × (aclFault (records (now acl)) ≡ none) ⌝ }
+    requires { ⌜ Sound (now req) × (aclFault (records (now acl)) ≡ none) ⌝ }
     ensures { λ r. ⌜ settledOf r (now (counts .exit)) (now (counters .exit)) loaded ≡ settle (tablesOf (now (counts .entry)) (now (counters .entry)) loaded last) (requestOf (now (req .entry)) .time) expanded (judge (tablesOf (now (counts .entry)) (now (counters .entry)) loaded last) (now (km0 .entry)) (aclOf (now (acl .entry))) (requestOf (now (req .entry)))) ⌝ }
 {
     let judged = judging::judge_request(counts, counters, loaded, last, km0, acl, req);

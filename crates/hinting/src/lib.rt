@@ -100,12 +100,7 @@ fn hint_of(
 }
 
 // The hints, one for each group, over the front of the buffer.
-pub fn write_hints(
-    places: &[usize; facts::ENTRIES],
-    bundle: &[u8],
-    acl: &[u8],
-    hints: &mut [u8],
-)
+pub fn write_hints(places: &[usize; facts::ENTRIES], bundle: &[u8], acl: &[u8], hints: &mut [u8])
     requires { ⌜ (Found (now bundle) (now places)) × (aclFault (records (now acl)) ≡ none) × (length (trimHints (records (now bundle)) (now acl)) ≤ length (now hints)) ⌝ }
     ensures { λ _. ⌜ now (hints .exit) ≡ over (trimHints (records (now (bundle .entry))) (now (acl .entry))) (now (hints .entry)) ⌝ }
 {

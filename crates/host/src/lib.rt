@@ -5,6 +5,7 @@ ghost use Rattle.rules.specs.Gate.{load, clear, request, narrow, expand};
 ghost use Rattle.rules.specs.Cabinet.{freshCabinet, cabinetLoad, cabinetClear, cabinetRequest, cabinetNarrow, cabinetExpand};
 ghost use Rattle.rules.specs.Desk.{desk};
 ghost use Rattle.rules.specs.Subject.{subjectReply, subjectBuffer};
+ghost use Rattle.rules.specs.Trim.{trimReply, trimAclBuffer, trimHintBuffer};
 ghost use Rattle.rules.specs.Runs.{run};
 ghost use Rattle.rules.specs.Prepared.{prepare, preparedRun};
 ghost use Rattle.rules.specs.CabinetRuns.{cabinetRun, cabinetPreparedRun};
@@ -15,7 +16,7 @@ ghost use Rattle.cabinet.specs.Kept.{cabinetOf};
 ghost use Rattle.prepared.specs.Forms.{formAs, preparationFor};
 ghost use Rattle.row.specs.Rows.{rowAs};
 ghost use Rattle.told.specs.Surface.{hostRunOf, hostRunFor, hostCabinetRunOf, hostCabinetRunFor, hostFormOf, formTold};
-ghost use Rattle.surface.specs.Surface.{toldBy, toldFor, cabinetToldBy, cabinetToldFor, wroteBy, wroteFor, judgedBy, judgedIn, listedBy, listedFor};
+ghost use Rattle.surface.specs.Surface.{toldBy, toldFor, cabinetToldBy, cabinetToldFor, wroteBy, wroteFor, judgedBy, judgedIn, listedBy, listedFor, trimmedBy, trimmedFor};
 use cabinet::Cabinet;
 use gate::Ledger;
 use prepared::Prepared;
@@ -23,6 +24,7 @@ use row::Certificate;
 use surface::HostCabinetOutcome;
 use surface::HostListing;
 use surface::HostOutcome;
+use surface::HostTrimmed;
 use surface::HostVerdict;
 use surface::HostWritten;
 use told::HostCabinetRun;
@@ -277,14 +279,20 @@ pub extern "C" fn akubolinfe_cabinet_prepared_run(
 ) -> HostCabinetRun
     ensures { λ r. ⌜ hostCabinetRunOf r (now (answers .exit)) ≡ hostCabinetRunFor (cabinetPreparedRun (cabinetOf cabinet) slot (now (km0 .entry)) (now (acl .entry)) (rowAs (now (row .entry))) (formAs form) (now (requests .entry)) (now (answers .entry))) ⌝ }
 {
-    told::cabinet_run(slots::prepared_run(
-        cabinet,
-        slot,
-        km0,
-        acl,
-        row,
-        form,
-        requests,
-        answers,
-    ))
+    told::cabinet_run(slots::prepared_run(cabinet, slot, km0, acl, row, form, requests, answers))
+}
+
+// The trimmed ACL at the front of one buffer, its hints at the front of the other. Any answer but 1 leaves both.
+#[no_mangle]
+pub extern "C" fn akubolinfe_trim(
+    bundle: &[u8],
+    acl: &[u8],
+    new: &mut [u8],
+    hints: &mut [u8],
+) -> HostTrimmed
+    ensures reply { λ r. ⌜ trimmedBy r ≡ trimmedFor (trimReply (now (bundle .entry)) (now (acl .entry)) (now (new .entry)) (now (hints .entry))) ⌝ }
+    ensures trimmed { λ _. ⌜ now (new .exit) ≡ trimAclBuffer (now (bundle .entry)) (now (acl .entry)) (now (new .entry)) (now (hints .entry)) ⌝ }
+    ensures hinted { λ _. ⌜ now (hints .exit) ≡ trimHintBuffer (now (bundle .entry)) (now (acl .entry)) (now (new .entry)) (now (hints .entry)) ⌝ }
+{
+    surface::trimmed(trimming::trim(bundle, acl, new, hints))
 }

@@ -12,7 +12,7 @@ use Rattle.rules.specs.Basics.{Bytes, any, number, byte, records}
 use Rattle.rules.specs.Acl.{limitOf, Action, Group, groupOf, groupsOf}
 use Rattle.rules.specs.Request.{Wanted, blobFileNext, wantedOf, Request, requestOf}
 use Rattle.rules.specs.Grant.{admits, counterLeft, limitLeft}
-use Rattle.rules.proofs.Rows.{wanted-first, recordsFrom, rows-lent, rows-end, rows-rest, lentRecord, lentRest, lent-record, kind-at}
+use Rattle.rules.proofs.Rows.{wanted-first, recordsFrom, rows-lent, rows-end, rows-rest, lentRecord, lentRest, lent-record, lent-rest, kind-at}
 use Rattle.judging.specs.declared.Standing.{Standing}
 use Rattle.judging.specs.declared.Near.{Near}
 use Rattle.refusals.specs.declared.Denial.{Denial}
@@ -98,6 +98,6 @@ standing-at counts counters own elapsed km0 q place s at t o e =
     ∙ ap (λ (l : List Bytes). standingWith counters (getD counts place 0) elapsed km0 q (groupOf (lentRecord s at) l)) (rows-rest s (at + 64))
 
 -- a group that admits what the request record and what follows it ask for admits the request
-pub admits-asked : (km0 s rest : Bytes) (acts : List Action) (r : Bool) → r ≡ any (admits km0 (wantedOf (take 64 s) (blobFileNext (records rest)))) acts → rest ≡ drop 64 s → 64 ≤ length s
+pub admits-asked : (km0 s : Bytes) (acts : List Action) (r : Bool) → r ≡ any (admits km0 (wantedOf (take 64 s) (blobFileNext (records (take (length s - 64) (drop 64 s)))))) acts → 64 ≤ length s
     → r ≡ any (admits km0 (requestOf s .wanted)) acts
-admits-asked km0 s rest acts r e p h = e ∙ ap (λ (w : Wanted). any (admits km0 w) acts) (wanted-first s rest p h)
+admits-asked km0 s acts r e h = e ∙ ap (λ (w : Wanted). any (admits km0 w) acts) (wanted-first s (lentRest s 64) (lent-rest s 64) h)

@@ -10,6 +10,7 @@ ghost use Rattle.rules.specs.Request.{requestOf};
 ghost use Rattle.rules.specs.Grant.{counterLeft, limitLeft, limitsLeft, unspentWith};
 ghost use Rattle.rules.specs.Gate.{judge};
 ghost use Rattle.judging.specs.Standings.{isGranting, nearer, denialOf, judgedFrom, standing, recordStanding, judgedAs, tablesOf, NextGroup};
+ghost use Rattle.request.specs.Parts.{Sound};
 use refusals::Denial;
 
 // A full count: one more would not fit.
@@ -104,10 +105,10 @@ fn group_standing(
     group: &[u8],
     body: &[u8],
 ) -> Standing
-    requires { ⌜ ((recordBytes ≤ length (now req)) × (length (now req) ≤ 4032)) × (length (now group) ≡ recordBytes) ⌝ }
+    requires { ⌜ Sound (now req) × (length (now group) ≡ recordBytes) ⌝ }
     ensures { λ r. ⌜ r ≡ recordStanding (now (counters .entry)) own elapsed (now (km0 .entry)) (requestOf (now (req .entry))) (now (group .entry)) (records (now (body .entry))) ⌝ }
 {
-    let rest = request::presented(req);
+    let rest = &req[sizes::RECORD..];
     if !admitting::group_admits(km0, &req[0..sizes::RECORD], rest, body) {
         return Standing::Silent;
     }
@@ -202,7 +203,7 @@ fn judge_groups(
     req: &[u8],
     acl: &[u8],
 ) -> Judged
-    requires { ⌜ (recordBytes ≤ length (now req)) × (length (now req) ≤ 4032) ⌝ }
+    requires { ⌜ Sound (now req) ⌝ }
     ensures { λ r. ⌜ r ≡ judgedFrom (standing (now (counts .entry)) (now (counters .entry)) elapsed (now (km0 .entry)) (requestOf (now (req .entry)))) Near.Nothing 0 (aclOf (now (acl .entry))) ⌝ }
 {
     let mut near = Near::Nothing;
@@ -233,7 +234,7 @@ pub fn judge_request<'a>(
     acl: &[u8],
     req: &[u8],
 ) -> Judged
-    requires { ⌜ (recordBytes ≤ length (now req)) × (length (now req) ≤ 4032) ⌝ }
+    requires { ⌜ Sound (now req) ⌝ }
     ensures { λ r. ⌜ r ≡ judgedAs (judge (tablesOf (now (counts .entry)) (now (counters .entry)) loaded last) (now (km0 .entry)) (aclOf (now (acl .entry))) (requestOf (now (req .entry)))) ⌝ }
 {
     let time = request::time(req);

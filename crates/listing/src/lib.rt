@@ -3,15 +3,15 @@ ghost use mathlib.Core.Path.{_≡_};
 ghost use mathlib.Core.Option.{none};
 ghost use Prim.Native.Nat.{_+_, _*_, _≤_};
 ghost use lib.ListN.{length};
-ghost use Rattle.rules.specs.Sizes.{recordBytes, aclRecords, limitsMax};
+ghost use Rattle.rules.specs.Sizes.{recordBytes, aclRecords};
 ghost use Rattle.rules.specs.Basics.{same};
 ghost use Rattle.rules.specs.Acl.{aclFileFault};
-ghost use Rattle.acl.specs.Places.{placeOf};
+ghost use Rattle.files.specs.Faults.{faultOf};
 ghost use Rattle.listings.specs.Words.{lineOf, listingOf};
 ghost use Rattle.listings.specs.Decoding.{decoded};
-ghost use Rattle.listings.specs.Listing.{linesOf, goodLine, listingFault, listedBytes, writeListing, readListingInto};
+ghost use Rattle.listings.specs.Listing.{linesOf, listingFault, listedBytes, writeListing, readListingInto};
 ghost use Rattle.text.specs.Putting.{Put};
-ghost use Rattle.listing.specs.Answers.{Answers, linesFound};
+ghost use Rattle.listing.specs.Answers.{Answers, goodAs, linesFound};
 use acl::Place;
 use files::Checked;
 use refusals::Refusal;
@@ -123,16 +123,19 @@ fn decoded_record(line: &[u8]) -> [u8; sizes::RECORD]
     rec
 }
 
-// Whether a line is the written form of the record that it tells, and that record valid at a place of the ACL.
-fn is_good(place: Place, rec: [u8; sizes::RECORD], line: &[u8]) -> bool
-    requires { ⌜ (place .limits ≤ limitsMax) × (rec ≡ decoded (now line)) ⌝ }
-    ensures { λ r. ⌜ r ≡ goodLine (placeOf place) (now (line .entry)) ⌝ }
+// Whether a line is the written form of the record that it tells, of which the reader of ACLs found no fault.
+fn is_good(found: Checked, rec: [u8; sizes::RECORD], line: &[u8]) -> bool
+    requires { ⌜ rec ≡ decoded (now line) ⌝ }
+    ensures { λ r. ⌜ r ≡ goodAs (faultOf found) (now (line .entry)) ⌝ }
 {
-    place.in_place(&rec) & place.has_room(&rec) & place.is_keyed(&rec) & is_line(&rec, line)
+    match found {
+        Checked::Refused(_) => false,
+        Checked::Sound => is_line(&rec, line),
+    }
 }
 
-// The first pass: each line is decoded once, judged, and its record gives the next place. Where the text ends and a blob file record is due, the next
-// line is the bad one.
+// The first pass: each line is decoded once, and its record read where the one before it left off. Where the text ends and a blob file record is due, the
+// next line is the bad one.
 fn judge_lines(text: &[u8]) -> Lines
     ensures { λ r. ⌜ r ≡ linesFound (now (text .entry)) ⌝ }
 {
@@ -142,10 +145,12 @@ fn judge_lines(text: &[u8]) -> Lines
     while at < text.len() {
         let end = words::line_end(text, at);
         let rec = decoded_record(&text[at..end]);
-        if !is_good(place, rec, &text[at..end]) {
+        let read = place.read(&rec);
+        let found = read.found;
+        if !is_good(found, rec, &text[at..end]) {
             return Lines::Bad(line);
         }
-        place = place.after(&rec);
+        place = read.place;
         at = end;
         line += 1;
     }

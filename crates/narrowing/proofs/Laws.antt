@@ -6,7 +6,7 @@ use mathlib.Core.Path.{_≡_, refl, sym, _∙_, ap}
 use mathlib.Core.List.{List, [], _∷_}
 use mathlib.Core.Option.{Option, some}
 use mathlib.Core.Bool.{Bool, true, false, not, _&&_}
-use borrow.Author.Tests.{not-true, not-false}
+use borrow.Author.Tests.{eq-eqb, ne-eqb, eqb-true, eqb-false, not-true, not-false}
 use lib.ListN.{length, take, drop, getD, getElem?, length-drop, drop-of-length-le}
 use lib.Seq.{drop-cons, drop-drop, take-all}
 use lib.Dec.{eqb}
@@ -17,7 +17,7 @@ use Rattle.rules.proofs.Rows.{recordsFrom, rows-rest, lentRecord, lent-record, 
 use Rattle.fields.proofs.Laws.{lent}
 use Rattle.groups.specs.Parts.{NextAction}
 use Rattle.groups.proofs.Laws.{acts-step, acts-end, acts-group, acts-limit, acts-file, limits-step, limits-stop, limits-end}
-use Rattle.narrowing.specs.Groups.{actionKind, actionFrom, actionIn, certifierKept, recordsNarrow}
+use Rattle.narrowing.specs.Groups.{actionFrom, actionIn, certifierKept, recordsNarrow}
 
 -- "kept or added", by what the flags say
 module _ {A : Type 0} (test : A → A → Bool) (has had : Bool) (n o : A) where
@@ -31,68 +31,58 @@ module _ {A : Type 0} (test : A → A → Bool) (has had : Bool) (n o : A) where
   kept-compared r e d p = p ∙ sym (rw (not-false had e, not-false has d))
 
 -- An action by its kind.
-action-3 : (r : Bytes) (f : Option FileRule) → actionKind (kind r) ≡ 3 → actionOf r f ≡ permissions (number 4 2 r)
+action-3 : (r : Bytes) (file : Option FileRule) → kind r ≡ 3 → actionOf r file ≡ permissions (number 4 2 r)
 unfolding actionOf
-action-3 r f e = pick (eqb (kind r) 3) refl (eqb (kind r) 4) refl
-  where
-    pick : (b : Bool) → eqb (kind r) 3 ≡ b → (c : Bool) → eqb (kind r) 4 ≡ c → actionOf r f ≡ permissions (number 4 2 r)
-    pick true p c q = rw p
-    pick false p true q = let x : _≡_ {A = ℕ} 4 3 = rw (p, q) at e in absurd (omega arith)
-    pick false p false q = let x : _≡_ {A = ℕ} 5 3 = rw (p, q) at e in absurd (omega arith)
+action-3 r file e = rw (eq-eqb (kind r) 3 e)
 
-action-4 : (r : Bytes) (f : Option FileRule) → actionKind (kind r) ≡ 4 → actionOf r f ≡ makeBlob (blobRuleOf r) f
+action-4 : (r : Bytes) (file : Option FileRule) → kind r ≡ 4 → actionOf r file ≡ makeBlob (blobRuleOf r) file
 unfolding actionOf
-action-4 r f e = pick (eqb (kind r) 3) refl (eqb (kind r) 4) refl
-  where
-    pick : (b : Bool) → eqb (kind r) 3 ≡ b → (c : Bool) → eqb (kind r) 4 ≡ c → actionOf r f ≡ makeBlob (blobRuleOf r) f
-    pick true p c q = let x : _≡_ {A = ℕ} 3 4 = rw p at e in absurd (omega arith)
-    pick false p true q = rw (p, q)
-    pick false p false q = let x : _≡_ {A = ℕ} 5 4 = rw (p, q) at e in absurd (omega arith)
+action-4 r file e = rw e
 
-action-5 : (r : Bytes) (f : Option FileRule) → (actionKind (kind r) ≡ 3 → ⊥) → (actionKind (kind r) ≡ 4 → ⊥) → actionOf r f ≡ makeArchive (archiveRuleOf r) f
+action-5 : (r : Bytes) (file : Option FileRule) → (kind r ≡ 3 → ⊥) → (kind r ≡ 4 → ⊥) → actionOf r file ≡ makeArchive (archiveRuleOf r) file
 unfolding actionOf
-action-5 r f g h = pick (eqb (kind r) 3) refl (eqb (kind r) 4) refl
-  where
-    pick : (b : Bool) → eqb (kind r) 3 ≡ b → (c : Bool) → eqb (kind r) 4 ≡ c → actionOf r f ≡ makeArchive (archiveRuleOf r) f
-    pick true p c q = absurd (g (rw p))
-    pick false p true q = absurd (h (rw (p, q)))
-    pick false p false q = rw (p, q)
+action-5 r file f g = rw (ne-eqb (kind r) 3 f, ne-eqb (kind r) 4 g)
 
+-- .. against one of another kind
 module _ (n : Bytes) (nf : Option FileRule) (o : Bytes) (of : Option FileRule) where
-  pub kinds-differ : (a b : ℕ) → a ≡ actionKind (kind n) → b ≡ actionKind (kind o) → (a ≡ b → ⊥) → false ≡ noWider (actionOf n nf) (actionOf o of)
-  unfolding noWider actionOf
-  kinds-differ a b p q f = pick (eqb (kind n) 3) refl (eqb (kind n) 4) refl (eqb (kind o) 3) refl (eqb (kind o) 4) refl
+  pub bits-against : kind n ≡ 3 → (kind o ≡ 3 → ⊥) → false ≡ noWider (actionOf n nf) (actionOf o of)
+  unfolding noWider
+  bits-against e f = pick (eqb (kind o) 4) refl
     where
-      clash : actionKind (kind n) ≡ actionKind (kind o) → ⊥
-      clash e = f (p ∙ e ∙ sym q)
+      pick : (b : Bool) → eqb (kind o) 4 ≡ b → false ≡ noWider (actionOf n nf) (actionOf o of)
+      pick true q = sym (rw (action-3 n nf e, action-4 o of (eqb-true (kind o) 4 q)))
+      pick false q = sym (rw (action-3 n nf e, action-5 o of f (eqb-false (kind o) 4 q)))
 
-      pick : (w : Bool) → eqb (kind n) 3 ≡ w → (x : Bool) → eqb (kind n) 4 ≡ x → (y : Bool) → eqb (kind o) 3 ≡ y → (z : Bool) → eqb (kind o) 4 ≡ z
-          → false ≡ noWider (actionOf n nf) (actionOf o of)
-      pick true s x t true u z v = absurd (clash (rw (s, u)))
-      pick true s x t false u true v = rw (s, u, v)
-      pick true s x t false u false v = rw (s, u, v)
-      pick false s true t true u z v = rw (s, t, u)
-      pick false s true t false u true v = absurd (clash (rw (s, t, u, v)))
-      pick false s true t false u false v = rw (s, t, u, v)
-      pick false s false t true u z v = rw (s, t, u)
-      pick false s false t false u true v = rw (s, t, u, v)
-      pick false s false t false u false v = absurd (clash (rw (s, t, u, v)))
+  pub blob-against : kind n ≡ 4 → (kind o ≡ 4 → ⊥) → false ≡ noWider (actionOf n nf) (actionOf o of)
+  unfolding noWider
+  blob-against e f = pick (eqb (kind o) 3) refl
+    where
+      pick : (b : Bool) → eqb (kind o) 3 ≡ b → false ≡ noWider (actionOf n nf) (actionOf o of)
+      pick true q = sym (rw (action-4 n nf e, action-3 o of (eqb-true (kind o) 3 q)))
+      pick false q = sym (rw (action-4 n nf e, action-5 o of (eqb-false (kind o) 3 q) f))
 
-  module _ (a b : ℕ) (p : a ≡ actionKind (kind n)) (q : b ≡ actionKind (kind o)) (s : a ≡ b) where
-    pub bits-compared : (x y : ℕ) (r : Bool) → a ≡ 3 → x ≡ number 4 2 n → y ≡ number 4 2 o → r ≡ within 16 x y → r ≡ noWider (actionOf n nf) (actionOf o of)
+  module _ (f : kind n ≡ 3 → ⊥) (g : kind n ≡ 4 → ⊥) where
+    pub archive-against-bits : kind o ≡ 3 → false ≡ noWider (actionOf n nf) (actionOf o of)
     unfolding noWider
-    bits-compared x y r e c d f = f ∙ rw (c, d) (sym (rw (action-3 n nf (sym p ∙ e), action-3 o of (sym q ∙ sym s ∙ e))))
+    archive-against-bits e = sym (rw (action-5 n nf f g, action-3 o of e))
 
-    pub blobs-compared : (r t : Bool) → a ≡ 4 → r ≡ blobNoWider (blobRuleOf n) (blobRuleOf o) → t ≡ fileNoWider nf of → (r && t) ≡ noWider (actionOf n nf) (actionOf o of)
+    pub archive-against-blob : kind o ≡ 4 → false ≡ noWider (actionOf n nf) (actionOf o of)
     unfolding noWider
-    blobs-compared r t e f g = rw (f, g) (sym (rw (action-4 n nf (sym p ∙ e), action-4 o of (sym q ∙ sym s ∙ e))))
+    archive-against-blob e = sym (rw (action-5 n nf f g, action-4 o of e))
 
-    pub archives-compared : (r t : Bool) → (a ≡ 3 → ⊥) → (a ≡ 4 → ⊥) → r ≡ archiveNoWider (archiveRuleOf n) (archiveRuleOf o) → t ≡ fileNoWider nf of
+    pub archives-compared : (r t : Bool) → (kind o ≡ 3 → ⊥) → (kind o ≡ 4 → ⊥) → r ≡ archiveNoWider (archiveRuleOf n) (archiveRuleOf o) → t ≡ fileNoWider nf of
         → (r && t) ≡ noWider (actionOf n nf) (actionOf o of)
     unfolding noWider
-    archives-compared r t e g f h =
-        rw (f, h)
-        (sym (rw (action-5 n nf (λ x. e (p ∙ x)) (λ x. g (p ∙ x)), action-5 o of (λ x. e (s ∙ q ∙ x)) (λ x. g (s ∙ q ∙ x)))))
+    archives-compared r t h k e d = rw (e, d) (sym (rw (action-5 n nf f g, action-5 o of h k)))
+
+  -- .. and of its own
+  pub bits-compared : (x y : ℕ) (r : Bool) → kind n ≡ 3 → kind o ≡ 3 → x ≡ number 4 2 n → y ≡ number 4 2 o → r ≡ within 16 x y → r ≡ noWider (actionOf n nf) (actionOf o of)
+  unfolding noWider
+  bits-compared x y r e d p q f = f ∙ rw (p, q) (sym (rw (action-3 n nf e, action-3 o of d)))
+
+  pub blobs-compared : (r t : Bool) → kind n ≡ 4 → kind o ≡ 4 → r ≡ blobNoWider (blobRuleOf n) (blobRuleOf o) → t ≡ fileNoWider nf of → (r && t) ≡ noWider (actionOf n nf) (actionOf o of)
+  unfolding noWider
+  blobs-compared r t e d f g = rw (f, g) (sym (rw (action-4 n nf e, action-4 o of d)))
 
 -- The action at a place, by counting down.
 in-action : (r : Bytes) → 0 < length r → actionIn r ≡ some (actionFrom r)

@@ -1,20 +1,21 @@
 -- New groups against the sources that their hints name, one after the other.
-use Prim.Native.Nat.{ℕ, zero, suc, _+_, _-_, _≤_, _<_}
+use Prim.Native.Nat.{ℕ, zero, suc, _+_, _-_, _*_, _/_, _≤_, _<_}
 use native.Mathlib.Omega.{arith}
 use native.Mathlib.Numerals.{add-one}
 use mathlib.Core.Path.{_≡_, refl, sym, _∙_, ap}
 use mathlib.Core.List.{List, [], _∷_, map}
 use mathlib.Core.Bool.{Bool, true, false, not, _&&_}
-use borrow.Author.Tests.{eq-eqb, ne-eqb, not-true, not-false, lt-leb, le-leb, ltb-true, ltb-false}
-use lib.ListN.{length, take, drop, getD, getElem?}
+use borrow.Author.Tests.{eq-eqb, not-true, not-false, lt-leb, le-leb, ltb-true, ltb-false}
+use lib.ListN.{length, take, drop, getD, getElem?, length-drop}
 use lib.Seq.{getD-take, drop-nil, drop-drop}
 use lib.Dec.{eqb, leb, ltb}
 use Rattle.rules.specs.Basics.{Bytes, part, byte, kind, records}
 use Rattle.rules.specs.Acl.{Group, groupOf, groupsOf}
 use Rattle.rules.specs.Request.{Hint, hintOf, hintsOf}
 use Rattle.rules.specs.Narrow.{narrowsSource, narrowsFrom}
+use Rattle.rules.proofs.Laws.{chunks-length}
 use Rattle.rules.proofs.Rows.{recordsFrom, rows-start, rows-at, rows-lent, rows-end, rows-rest, lentRecord, lent-record, lentRest, kind-at, no-rows}
-use Rattle.groups.specs.Parts.{GroupAt}
+use Rattle.groups.specs.Parts.{groupPlace, GroupAt}
 use Rattle.narrowing.specs.Groups.{recordsNarrow}
 
 -- the first of what is left after some
@@ -54,6 +55,24 @@ module _ (old : Bytes) (low from w place : ℕ) (inv : groupsOf (recordsFrom old
   unfolding recordsFrom
   left-next r d = d .same ∙ ap (drop 1) left-from ∙ drop-drop 1 w (groupsOf (records old))
 
+-- a group stands no earlier than where it is looked for
+place-later : (g : ℕ) (rs : List Bytes) (at end : ℕ) → at + length rs * 64 ≤ end → at ≤ groupPlace g rs at end
+unfolding groupPlace
+place-later g [] at end h = omega arith
+place-later g (r ∷ rs) at end h = pick (eqb (kind r) 1) refl (eqb g 0) refl (place-later g rs (at + 64) end (omega arith)) (place-later (g - 1) rs (at + 64) end (omega arith))
+  where
+    pick : (b : Bool) → eqb (kind r) 1 ≡ b → (c : Bool) → eqb g 0 ≡ c → at + 64 ≤ groupPlace g rs (at + 64) end → at + 64 ≤ groupPlace (g - 1) rs (at + 64) end → at ≤ groupPlace g (r ∷ rs) at end
+    pick true e true d p q = rw (e, d) (omega arith)
+    pick true e false d p q = rw (e, d) (omega arith)
+    pick false e c d p q = rw e (omega arith)
+
+pub group-later : (s : Bytes) (at g r : ℕ) → GroupAt s at g r → at ≤ length s → at ≤ r
+unfolding records
+group-later s at g r e h =
+    let n : length (records (drop at s)) ≡ length (drop at s) / 64 = chunks-length (length (drop at s) / 64) (drop at s) in
+    let p : at ≤ groupPlace g (records (drop at s)) at (length s) = place-later g (records (drop at s)) at (length s) (omega (arith, n, length-drop at s)) in
+    rw (e .exact) p
+
 -- the hints from a place on: shut, so that a search reads the file and the place off it
 unfoldable pub hintsFrom : Bytes → ℕ → List Hint
 hintsFrom s at = map hintOf (recordsFrom s at)
@@ -62,13 +81,14 @@ pub hints-start : (s : Bytes) → hintsFrom s 0 ≡ hintsOf s
 unfolding hintsFrom
 hints-start s = ap (map hintOf) (rows-start s)
 
+-- from where the next new group stands the same is left
+pub groups-on : (olds : List Group) (new hints : Bytes) (low at r h : ℕ) (x : Bool) → GroupAt new at 0 r
+    → narrowsFrom olds low (groupsOf (recordsFrom new at)) (hintsFrom hints h) ≡ x → narrowsFrom olds low (groupsOf (recordsFrom new r)) (hintsFrom hints h) ≡ x
+unfolding recordsFrom
+groups-on olds new hints low at r h x e inv = ap (λ (z : List Group). narrowsFrom olds low z (hintsFrom hints h)) (e .same) ∙ inv
+
 -- A loop over the new groups and their hints.
 module _ (olds : List Group) (new hints : Bytes) (low at h : ℕ) (x : Bool) (inv : narrowsFrom olds low (groupsOf (recordsFrom new at)) (hintsFrom hints h) ≡ x) where
-  pub groups-skip : 64 ≤ length new - at → (getD new at 0 ≡ 1 → ⊥) → narrowsFrom olds low (groupsOf (recordsFrom new (at + 64))) (hintsFrom hints h) ≡ x
-  unfolding groupsOf
-  groups-skip l n =
-      sym (ap (λ (z : List Bytes). narrowsFrom olds low (groupsOf z) (hintsFrom hints h)) (rows-lent new at l) ∙ rw (lent-record new at, kind-at new at, ne-eqb (getD new at 0) 1 n)) ∙ inv
-
   abbrev front : Group
   front = groupOf (lentRecord new at) (recordsFrom new (at + 64))
 

@@ -1,18 +1,13 @@
 -- Actions and groups by their records, as the code compares them.
-use Prim.Native.Nat.{ℕ, _-_}
+use Prim.Native.Nat.{_-_}
 use mathlib.Core.List.{List, [], _∷_}
 use mathlib.Core.Option.{Option, none, some}
 use mathlib.Core.Bool.{Bool, _&&_}
 use lib.ListN.{length, take, drop}
-use lib.Dec.{eqb}
 use Rattle.rules.specs.Sizes.{recordBytes, hashBytes}
-use Rattle.rules.specs.Basics.{if_then_else_, Bytes, part, number, flag, optional, records}
+use Rattle.rules.specs.Basics.{Bytes, part, number, flag, optional, records}
 use Rattle.rules.specs.Acl.{fileRuleNext, Action, actionOf, groupOf}
 use Rattle.rules.specs.Narrow.{kept, keptNumber, groupNarrows}
-
--- the kind of an action as it is decoded
-abbrev pub actionKind : ℕ → ℕ
-actionKind k = if eqb k 3 then 3 else if eqb k 4 then 4 else 5
 
 -- The action at the front of some records, with the record of kind 15 that may follow it.
 abbrev pub actionFrom : Bytes → Action

@@ -6,7 +6,7 @@ ghost use Rattle.rules.specs.Sizes.{recordBytes, hashBytes};
 ghost use Rattle.rules.specs.Basics.{all, implies, part, flag, optional, records};
 ghost use Rattle.rules.specs.Acl.{parametersOf, blobRuleOf, archiveRuleOf, fileRuleNext, limitOf, limitsOf, actionOf, actionsOf, groupOf, aclOf};
 ghost use Rattle.rules.specs.Request.{hintsOf};
-ghost use Rattle.narrowing.specs.Groups.{actionKind, actionIn, certifierKept, recordsNarrow};
+ghost use Rattle.narrowing.specs.Groups.{actionIn, certifierKept, recordsNarrow};
 ghost use Rattle.rules.specs.Narrow.{kept, keptNumber, keptParameters, blobNoWider, archiveNoWider, noWider, noWiderThan, actionsNoWider, answers, isAnswered, narrowsSource, narrows};
 
 // A hash against the old one: kept equal or added.
@@ -104,35 +104,33 @@ fn archive_no_wider(new: &[u8], old: &[u8]) -> bool
     (fields::be16(new, 24) == fields::be16(old, 24)) & hash_kept(0, 4, new, old)
 }
 
-// An action against another: of the same kind and no wider. `after` and `behind` follow the new and the old action.
+// An action against another: of the same kind and no wider. `after` and `behind` follow the new and the old action. What is neither of kind 3 nor of
+// kind 4 is decoded as one of kind 5.
 fn action_no_wider(new: &[u8], after: &[u8], old: &[u8], behind: &[u8]) -> bool
     requires { ⌜ (length (now new) ≡ recordBytes) × (length (now old) ≡ recordBytes) ⌝ }
     ensures { λ r. ⌜ r ≡ noWider (actionOf (now (new .entry)) (fileRuleNext (records (now (after .entry))))) (actionOf (now (old .entry)) (fileRuleNext (records (now (behind .entry))))) ⌝ }
 {
-    let kind = action_kind(new[0]);
-    if kind != action_kind(old[0]) {
-        return false;
-    }
+    let kind = new[0];
+    let was = old[0];
     if kind == 3 {
+        if was != 3 {
+            return false;
+        }
         return fields::subset16(fields::be16(new, 4), fields::be16(old, 4));
     }
     if kind == 4 {
+        if was != 4 {
+            return false;
+        }
         return blob_no_wider(new, old) & storing::place_no_wider(after, behind);
     }
+    if was == 3 {
+        return false;
+    }
+    if was == 4 {
+        return false;
+    }
     archive_no_wider(new, old) & storing::place_no_wider(after, behind)
-}
-
-// The kind of an action as it is decoded: what is neither 3 nor 4 counts as 5.
-fn action_kind(kind: u8) -> u8
-    ensures { λ r. ⌜ r ≡ actionKind kind ⌝ }
-{
-    if kind == 3 {
-        return 3;
-    }
-    if kind == 4 {
-        return 4;
-    }
-    5
 }
 
 // The records of a group from its action h on, of those that follow the group's first one; empty where there is none.
@@ -291,12 +289,8 @@ pub fn shows_narrowing(old: &[u8], new: &[u8], hints: &[u8]) -> bool
     let mut low: u16 = 0;
     let mut from = 0;
     let mut h = 0;
-    let mut at = 0;
+    let mut at = groups::group_at(new, 0, 0);
     while sizes::RECORD <= new.len() - at {
-        if new[at] != 1 {
-            at += sizes::RECORD;
-            continue;
-        }
         if hints.len() - h < sizes::RECORD {
             return false;
         }
@@ -317,7 +311,7 @@ pub fn shows_narrowing(old: &[u8], new: &[u8], hints: &[u8]) -> bool
         from = groups::group_at(old, place, 1);
         low = source + 1;
         h += sizes::RECORD;
-        at += sizes::RECORD;
+        at = groups::group_at(new, at + sizes::RECORD, 0);
     }
     hints.len() - h < sizes::RECORD
 }

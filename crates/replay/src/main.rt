@@ -66,32 +66,38 @@ fn called(
     stopped(k, s)
 }
 
-// A call, its arguments in the buffers. Those that write do so in the second.
+// A call, its arguments in the buffers. Those that write do so in the second, a trimming in the third and fourth.
 fn answered(
     k: u64,
     s: State,
     call: Call,
     a: &[u8],
     b: &mut [u8],
-    c: &[u8],
-    d: &[u8],
+    c: &mut [u8],
+    d: &mut [u8],
     e: &[u8],
 ) -> State {
     let letter = call.letter;
+    let given = prefix(a, call.a);
     let m = script::within(b, call.b);
+    let n = script::within(c, call.c);
+    let o = script::within(d, call.d);
     if (letter == b'S') | (letter == b'W') | (letter == b'T') {
-        let given = prefix(a, call.a);
         file_calls::buffer_call(k, letter, call.first, call.second, given, &mut b[0..m]);
+        return s;
+    }
+    if letter == b'M' {
+        file_calls::trim_call(k, given, &b[0..m], &mut c[0..n], &mut d[0..o]);
         return s;
     }
     called(
         k,
         s,
         call,
-        prefix(a, call.a),
+        given,
         &b[0..m],
-        prefix(c, call.c),
-        prefix(d, call.d),
+        &c[0..n],
+        &d[0..o],
         prefix(e, call.e),
     )
 }
@@ -103,8 +109,8 @@ fn turn(
     next: Next,
     a: &[u8],
     b: &mut [u8],
-    c: &[u8],
-    d: &[u8],
+    c: &mut [u8],
+    d: &mut [u8],
     e: &[u8],
 ) -> State {
     match next {

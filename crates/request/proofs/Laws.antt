@@ -1,19 +1,23 @@
 -- A request file by its first record and the rest, and the fault of one certificate or hint by what the tests answered.
-use Prim.Native.Nat.{ℕ, _+_, _-_, _≤_, _<_}
+use Prim.Native.Nat.{ℕ, zero, suc, _+_, _-_, _*_, _/_, _%_, _≤_, _<_}
 use native.Mathlib.Omega.{arith}
 use mathlib.Core.Path.{_≡_, refl, sym, _∙_, ap}
-use mathlib.Core.List.{List, [], _∷_}
+use mathlib.Core.List.{List, [], _∷_, _++_}
 use mathlib.Core.Option.{Option, none, some}
 use mathlib.Core.Bool.{Bool, true, false, not, _&&_}
-use lib.ListN.{length, take, drop, getD, drop-of-length-le}
+use lib.ListN.{length, take, drop, getD, length-drop, length-append}
+use lib.Seq.{take-add, take-at, drop-at, drop-drop, length-take-le}
 use lib.Dec.{eqb, ltb}
-use borrow.Author.Tests.{eq-eqb, ne-eqb, not-true, not-false}
+use borrow.Author.Tests.{eq-eqb, ne-eqb, eqb-true, not-true, not-false}
 use Rattle.rules.specs.Sizes.{certificatesMax, delegationsMax}
 use Rattle.rules.specs.Numbers.{malformed, tooMany}
-use Rattle.rules.specs.Basics.{Bytes, number, flag, records, orNext, firstFault, recordFault, scan}
-use Rattle.rules.specs.Request.{certificateRecord, delegationRecord, PresentedCounts, certificateFault, delegationFault, presentedRecordFault, afterPresented, presentedEnd, presentedFault, fileRequestRecord, fileNext, presentedAfter, requestFault, requestFrom, requestOf, hintRecord, hintFault}
+use Rattle.rules.specs.Basics.{if_then_else_, Bytes, number, kind, flag, unless, records, orNext, firstFault, recordFault, scan}
+use Rattle.rules.specs.Request.{Certificate, certificateOf, certificatesOf, delegationsOf, certificateRecord, delegationRecord, PresentedCounts, certificateFault, delegationFault, presentedRecordFault, afterPresented, presentedEnd, presentedFault, fileRequestRecord, fileNext, presentedAfter, requestFault, requestFrom, requestOf, hintRecord, hintFault}
+use Rattle.rules.specs.Layout.{delegationLaidOut, fileRequestLaidOut}
+use Rattle.rules.proofs.Laws.{and-left, and-right, not-both, unless-passed, orNext-first, orNext-next, fault-none-every}
 use Rattle.request.specs.Following.{followingFault}
-use Rattle.rules.proofs.Rows.{recordsFrom, scan-stop, scan-next, bad-record, full-record, sound-record, no-rows, rows-start, rows-at, rows-rest, lentRecord, lent-record, kind-at, lent-rest}
+use Rattle.request.specs.Parts.{Parted}
+use Rattle.rules.proofs.Rows.{first, recordsFrom, scan-stop, scan-next, bad-record, full-record, sound-record, no-rows, rows-start, rows-at, rows-rest, rows-lent, rows-end, lentRecord, lentRest, lent-record, kind-at}
 
 -- the first record as code lends it, `&s[..64]`, and what follows
 request-rows : (s : Bytes) → 64 ≤ length s → records s ≡ take 64 s ∷ records (take (length s - 64) (drop 64 s))
@@ -127,9 +131,131 @@ module _ (s : Bytes) where
   unfolding requestFrom
   time-some x h e = e ∙ sym (ap (λ (l : List Bytes). requestFrom l .time) (request-rows s h))
 
-  -- what follows the first record, as code lends it
-  pub presented-none : length s < 64 → [] ≡ drop 64 s
-  presented-none h = sym (drop-of-length-le s {i = 64} (omega arith))
+-- Where the delegations begin. The search goes back from the end: from a byte on there are delegations alone.
+module _ (s : Bytes) where
+  pub none-past : certificatesOf (recordsFrom s (length s - length s % 64)) ≡ []
+  unfolding certificatesOf
+  none-past = ap certificatesOf (rows-end s (length s - length s % 64) (omega arith))
 
-  pub presented-some : take (length s - 64) (drop 64 s) ≡ drop 64 s
-  presented-some = lent-rest s 64
+  pub none-earlier : (at : ℕ) → certificatesOf (recordsFrom s at) ≡ [] → 64 ≤ at → at ≤ length s → getD s (at - 64) 0 ≡ 14 → certificatesOf (recordsFrom s (at - 64)) ≡ []
+  unfolding certificatesOf
+  none-earlier at inv h k e =
+      let d : at - 64 + 64 ≡ at = omega arith in
+      ap certificatesOf (rows-lent s (at - 64) (omega arith))
+      ∙ rw (lent-record s (at - 64), kind-at s (at - 64), e, d) inv
+
+-- a file as its first n records and the rest
+first-rows : (n : ℕ) (bs : Bytes) → n * 64 ≤ length bs → records bs ≡ records (take (n * 64) bs) ++ records (drop (n * 64) bs)
+first-rows zero bs h = rw (no-rows [] (omega arith))
+first-rows (suc n) bs h =
+    let k : suc n * 64 ≡ 64 + n * 64 = omega arith in
+    let l = length-take-le 64 bs (omega arith) in
+    let t : take (suc n * 64) bs ≡ take 64 bs ++ take (n * 64) (drop 64 bs) = ap (λ (m : ℕ). take m bs) k ∙ take-add 64 (n * 64) bs in
+    let d : drop (n * 64) (drop 64 bs) ≡ drop (suc n * 64) bs = drop-drop (n * 64) 64 bs ∙ ap (λ (m : ℕ). drop m bs) (sym k) in
+    let i = first-rows n (drop 64 bs) (omega (arith, length-drop 64 bs)) in
+    let f = first (take 64 bs ++ take (n * 64) (drop 64 bs)) (omega (arith, l, length-append (take 64 bs) (take (n * 64) (drop 64 bs)))) in
+    let g : records (take (suc n * 64) bs) ≡ take 64 bs ∷ records (take (n * 64) (drop 64 bs)) =
+    ap records t ∙ f ∙ rw (take-at (take 64 bs) (take (n * 64) (drop 64 bs)) 64 l, drop-at (take 64 bs) (take (n * 64) (drop 64 bs)) 64 l) in
+    first bs (omega arith) ∙ ap (λ (rs : List Bytes). take 64 bs ∷ rs) (i ∙ ap (λ (b : Bytes). records (take (n * 64) (drop 64 bs)) ++ records b) d) ∙ sym (ap (λ (rs : List Bytes). rs ++ records (drop (suc n * 64) bs)) g)
+
+-- certificates after which there is none
+certificates-append : (xs ys : List Bytes) → certificatesOf ys ≡ [] → certificatesOf (xs ++ ys) ≡ certificatesOf xs
+unfolding certificatesOf
+certificates-append [] ys e = e
+certificates-append (x ∷ xs) ys e = ap (λ (l : List Certificate). if eqb (kind x) 9 then certificateOf x ∷ l else l) (certificates-append xs ys e)
+
+-- A record without fault that is no delegation stands where none was read ..
+other-record : (n m : ℕ) (r : Bytes) → presentedRecordFault (record { certificates = n; delegations = m }) r ≡ none → eqb (kind r) 14 ≡ false → m ≡ 0
+unfolding presentedRecordFault certificateFault delegationFault recordFault delegationRecord
+other-record n m r e d = pick (eqb (kind r) 9) refl
+  where
+    pick : (b : Bool) → eqb (kind r) 9 ≡ b → m ≡ 0
+    pick true k = eqb-true m 0 (and-right (certificateRecord r) (eqb m 0) (unless-passed _ malformed (fault-none-every _ (rw k at e) .0)))
+    pick false k = absurd (not-both (eqb (kind r) 14) (and-left (eqb (kind r) 14) (delegationLaidOut r) (unless-passed _ malformed (fault-none-every _ (rw k at e) .0))) d)
+
+-- .. so that all delegations come after it
+delegations-after : (n m : ℕ) (xs : List Bytes) (r : Bytes) (ys : List Bytes)
+    → scan presentedRecordFault afterPresented presentedEnd (record { certificates = n; delegations = m }) (xs ++ r ∷ ys) ≡ none → eqb (kind r) 14 ≡ false
+    → (m ≡ 0) × (delegationsOf (xs ++ r ∷ ys) ≡ delegationsOf ys)
+unfolding scan afterPresented delegationsOf
+delegations-after n m [] r ys e d = (other-record n m r (orNext-first _ _ e) d, rw d)
+delegations-after n m (x ∷ xs) r ys e d =
+    pick (eqb (kind x) 9) refl (λ f. delegations-after (n + 1) m xs r ys f d) (λ f. delegations-after n (m + 1) xs r ys f d .0)
+  where
+    counts : PresentedCounts
+    counts = record { certificates = n; delegations = m }
+
+    rest : scan presentedRecordFault afterPresented presentedEnd (afterPresented counts x) (xs ++ r ∷ ys) ≡ none
+    rest = orNext-next (presentedRecordFault counts x) (scan presentedRecordFault afterPresented presentedEnd (afterPresented counts x) (xs ++ r ∷ ys)) e
+
+    pick : (b : Bool) → eqb (kind x) 9 ≡ b
+        → (scan presentedRecordFault afterPresented presentedEnd (record { certificates = n + 1; delegations = m }) (xs ++ r ∷ ys) ≡ none → (m ≡ 0) × (delegationsOf (xs ++ r ∷ ys) ≡ delegationsOf ys))
+        → (scan presentedRecordFault afterPresented presentedEnd (record { certificates = n; delegations = m + 1 }) (xs ++ r ∷ ys) ≡ none → m + 1 ≡ 0)
+        → (m ≡ 0) × (delegationsOf (x ∷ xs ++ r ∷ ys) ≡ delegationsOf ys)
+    pick true k f g =
+        let i = f (rw k at rest) in
+        let t : eqb (kind x) 14 ≡ false = rw (eqb-true (kind x) 9 k) in
+        (i .0, rw t (i .1))
+    pick false k f g = absurd (let z = g (rw k at rest) in omega arith)
+
+-- .. also where a record of kind 15 comes first
+delegations-follow : (q : Bytes) (xs : List Bytes) (r : Bytes) (ys : List Bytes) → followingFault q (xs ++ r ∷ ys) ≡ none → eqb (kind r) 14 ≡ false → delegationsOf (xs ++ r ∷ ys) ≡ delegationsOf ys
+unfolding followingFault presentedFault fileNext fileRequestRecord delegationsOf
+delegations-follow q xs r ys e d = pick (flag 6 q) xs refl e
+  where
+    pick : (b : Bool) (zs : List Bytes) → flag 6 q ≡ b → followingFault q (zs ++ r ∷ ys) ≡ none → delegationsOf (zs ++ r ∷ ys) ≡ delegationsOf ys
+    pick false zs k f = delegations-after 0 0 zs r ys (rw k at f) d .1
+    pick true [] k f = rw d
+    pick true (z ∷ zs) k f =
+        let g : orNext (unless (fileRequestRecord z) malformed) (presentedFault (zs ++ r ∷ ys)) ≡ none = rw k at f in
+        let t = and-left (eqb (kind z) 15) (fileRequestLaidOut z) (unless-passed (fileRequestRecord z) malformed (orNext-first _ _ g)) in
+        let o : eqb (kind z) 14 ≡ false = rw (eqb-true (kind z) 15 t) in
+        rw o (delegations-after 0 0 zs r ys (orNext-next (unless (fileRequestRecord z) malformed) _ g) d .1)
+
+-- the records after the first, before a place and from there on
+module _ (s : Bytes) (at : ℕ) (h : 64 ≤ at) (m : at % 64 ≡ 0) (l : at ≤ length s) where
+  rows-parted : recordsFrom s 64 ≡ records (take (at - 64) (drop 64 s)) ++ recordsFrom s at
+  unfolding recordsFrom
+  rows-parted =
+      let n = (at - 64) / 64 in
+      let k : n * 64 ≡ at - 64 = omega arith in
+      let q : 64 + (at - 64) ≡ at = omega arith in
+      first-rows n (drop 64 s) (omega (arith, length-drop 64 s))
+      ∙ rw (k, drop-drop (at - 64) 64 s, q)
+
+  parted-certificates : certificatesOf (recordsFrom s at) ≡ [] → certificatesOf (records (take (at - 64) (drop 64 s))) ≡ requestOf s .certificates
+  unfolding requestFrom recordsFrom
+  parted-certificates e =
+      sym (certificates-append _ _ e) ∙ sym (ap certificatesOf rows-parted) ∙ sym (ap (λ (l : List Bytes). requestFrom l .certificates) (first s (omega arith)))
+
+  parted-delegations : delegationsOf (recordsFrom s at) ≡ delegationsOf (recordsFrom s 64) → delegationsOf (records (lentRest s at)) ≡ requestOf s .delegations
+  unfolding requestFrom recordsFrom
+  parted-delegations e = ap delegationsOf (rows-rest s at) ∙ e ∙ sym (ap (λ (l : List Bytes). requestFrom l .delegations) (first s (omega arith)))
+
+-- the search ends at a record of another kind, or at the request record
+pub parted-here : (s : Bytes) (at : ℕ) → certificatesOf (recordsFrom s at) ≡ [] → 64 < at → at % 64 ≡ 0 → at ≤ length s → (getD s (at - 64) 0 ≡ 14 → ⊥) → followingFault (take 64 s) (records (drop 64 s)) ≡ none → Parted s at
+unfolding recordsFrom
+parted-here s at c h m l n e =
+    let xs = records (take (at - 64 - 64) (drop 64 s)) in
+    let d : at - 64 + 64 ≡ at = omega arith in
+    let p : recordsFrom s 64 ≡ xs ++ lentRecord s (at - 64) ∷ recordsFrom s at =
+    rows-parted s (at - 64) (omega arith) (omega arith) (omega arith)
+    ∙ ap (λ (rs : List Bytes). xs ++ rs) (rows-lent s (at - 64) (omega arith) ∙ ap (λ (i : ℕ). lentRecord s (at - 64) ∷ recordsFrom s i) d) in
+    let k : eqb (kind (lentRecord s (at - 64))) 14 ≡ false = ap (λ (r : Bytes). eqb (kind r) 14) (lent-record s (at - 64)) ∙ rw (kind-at s (at - 64), ne-eqb (getD s (at - 64) 0) 14 n) in
+    let f = delegations-follow (take 64 s) xs (lentRecord s (at - 64)) (recordsFrom s at) (sym (ap (followingFault (take 64 s)) p) ∙ e) k in
+    record {
+      later = omega arith;
+      inside = l;
+      certificates = parted-certificates s at (omega arith) m l c;
+      delegations = parted-delegations s at (omega arith) m l (sym f ∙ sym (ap delegationsOf p));
+    }
+
+pub parted-all : (s : Bytes) (at : ℕ) → certificatesOf (recordsFrom s at) ≡ [] → 64 ≤ at → at ≤ 64 → at % 64 ≡ 0 → at ≤ length s → Parted s at
+parted-all s at c h g m l =
+    let z : at ≡ 64 = omega arith in
+    record {
+      later = h;
+      inside = l;
+      certificates = parted-certificates s at h m l c;
+      delegations = parted-delegations s at h m l (ap (λ (i : ℕ). delegationsOf (recordsFrom s i)) z);
+    }

@@ -1,11 +1,12 @@
-// A request file with what is presented, and a hints file: their first faults; a request's time, and what follows its first record.
+// A request file with what is presented, and a hints file: their first faults; a request's time, and where its delegations begin.
 ghost use mathlib.Core.Path.{_≡_};
-ghost use lib.ListN.{length, drop};
+ghost use lib.ListN.{length};
 ghost use Rattle.rules.specs.Sizes.{recordBytes};
 ghost use Rattle.rules.specs.Basics.{records};
 ghost use Rattle.rules.specs.Request.{requestLaidOut, standsAlone, fileRequestRecord, useOf, certificateRecord, delegationRecord, presentedFault, requestFault, requestOf, hintRecord, hintsFault};
 ghost use Rattle.files.specs.Faults.{faultOf};
 ghost use Rattle.request.specs.Following.{followingFault};
+ghost use Rattle.request.specs.Parts.{Sound, Parted};
 use files::Checked;
 use refusals::Refusal;
 
@@ -173,12 +174,17 @@ pub fn time(req: &[u8]) -> u64
     fields::be64(&req[0..sizes::RECORD], 56)
 }
 
-// What follows the first record of a request file: a record of kind 15, certificates and delegations.
-pub fn presented(req: &[u8]) -> &[u8]
-    ensures { λ r. ⌜ now r ≡ drop recordBytes (now (req .entry)) ⌝ }
+// Where the delegations of a request file without fault begin: after its last record of another kind. No more than the delegations is looked through.
+pub fn delegations_start(req: &[u8]) -> usize
+    requires { ⌜ Sound (now req) ⌝ }
+    ensures { λ r. ⌜ Parted (now (req .entry)) r ⌝ }
 {
-    if req.len() < sizes::RECORD {
-        return &req[0..0];
+    let mut at = req.len() - req.len() % sizes::RECORD;
+    while sizes::RECORD < at {
+        if req[at - sizes::RECORD] != 14 {
+            return at;
+        }
+        at -= sizes::RECORD;
     }
-    &req[sizes::RECORD..]
+    at
 }

@@ -167,29 +167,6 @@ places-below b checked place s (r ∷ rs) e h =
 
 -- The trimmed ACL's records.
 module _ (b : List Bytes) (checked kept : Bool) (s : Bytes) (at : ℕ) where
-  pub trim-group : 64 ≤ length s - at → eqb (kind (lentRecord s at)) 1 ≡ true → trimmedFrom b checked kept (recordsFrom s at) ≡ lentRecord s at ∷ trimmedFrom b (isChecked b (lentRecord s at)) kept (recordsFrom s (at + 64))
-  unfolding trimmedFrom
-  trim-group h p = ap (trimmedFrom b checked kept) (rows-lent s at h) ∙ rw p
-
-  pub trim-limit : 64 ≤ length s - at → eqb (kind (lentRecord s at)) 1 ≡ false → eqb (kind (lentRecord s at)) 2 ≡ true → trimmedFrom b checked kept (recordsFrom s at) ≡ lentRecord s at ∷ trimmedFrom b checked kept (recordsFrom s (at + 64))
-  unfolding trimmedFrom
-  trim-limit h p q = ap (trimmedFrom b checked kept) (rows-lent s at h) ∙ rw (p, q)
-
-  -- a record of kind 15 goes with its action
-  pub trim-file : 64 ≤ length s - at → eqb (kind (lentRecord s at)) 1 ≡ false → eqb (kind (lentRecord s at)) 2 ≡ false → eqb (kind (lentRecord s at)) 15 ≡ true → trimmedFrom b checked kept (recordsFrom s at) ≡ keptBefore kept (lentRecord s at) (trimmedFrom b checked kept (recordsFrom s (at + 64)))
-  unfolding trimmedFrom
-  trim-file h p q u = ap (trimmedFrom b checked kept) (rows-lent s at h) ∙ rw (p, q, u)
-
-  pub trim-stays : 64 ≤ length s - at → eqb (kind (lentRecord s at)) 1 ≡ false → eqb (kind (lentRecord s at)) 2 ≡ false → eqb (kind (lentRecord s at)) 15 ≡ false → stays b checked (lentRecord s at) ≡ true
-      → trimmedFrom b checked kept (recordsFrom s at) ≡ trimmedRecord b checked (lentRecord s at) ∷ trimmedFrom b checked true (recordsFrom s (at + 64))
-  unfolding trimmedFrom
-  trim-stays h p q u r = ap (trimmedFrom b checked kept) (rows-lent s at h) ∙ rw (p, q, u, r)
-
-  pub trim-goes : 64 ≤ length s - at → eqb (kind (lentRecord s at)) 1 ≡ false → eqb (kind (lentRecord s at)) 2 ≡ false → eqb (kind (lentRecord s at)) 15 ≡ false → stays b checked (lentRecord s at) ≡ false
-      → trimmedFrom b checked kept (recordsFrom s at) ≡ trimmedFrom b checked false (recordsFrom s (at + 64))
-  unfolding trimmedFrom
-  trim-goes h p q u r = ap (trimmedFrom b checked kept) (rows-lent s at h) ∙ rw (p, q, u, r)
-
   pub trim-end : length s - at < 64 → trimmedFrom b checked kept (recordsFrom s at) ≡ []
   unfolding trimmedFrom
   trim-end h = ap (trimmedFrom b checked kept) (rows-end s at h)

@@ -69,7 +69,7 @@ fn runs_of(letter: u8) -> u64 {
     match letter {
         b'D' | b'S' | b'W' | b'T' => 2,
         b'R' | b'r' => 3,
-        b'X' | b'x' => 4,
+        b'X' | b'x' | b'M' => 4,
         b'N' | b'n' => 5,
         _ => 0,
     }

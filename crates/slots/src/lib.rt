@@ -12,6 +12,7 @@ ghost use Rattle.cabinet.specs.Kept.{cabinetOf};
 ghost use Rattle.rules.specs.CabinetRuns.{ranAsGate, runInSlot, cabinetRun, cabinetPreparedRun};
 ghost use Rattle.slots.specs.Handed.{ranOf, notRun};
 use cabinet::Cabinet;
+use gate::Ledger;
 use prepared::Prepared;
 use refusals::Refusal;
 use row::Certificate;
@@ -31,7 +32,7 @@ fn put_back(cabinet: Cabinet, slot: usize, o: RunOutcome) -> CabinetRan
     ensures { λ r. ⌜ ((buffer : Bytes) → ranOf r buffer ≡ ranAsGate (cabinetOf cabinet) slot (runAs o buffer)) ⌝ }
 {
     let reply = o.reply;
-    let ledger = o.ledger;
+    let ledger: Ledger = o.ledger;
     CabinetRan {
         cabinet: cabinet.with_ledger(slot, ledger),
         reply,

@@ -12,6 +12,7 @@ use Rattle.rules.specs.Basics.{if_then_else_}
 use Rattle.rules.specs.Gate.{Answer, done, permit, refuse, Outcome}
 use Rattle.rules.specs.Desk.{Step, WV1, MSCV1, MSCV2, MSCV3, MSCV4, MSCV5, WBCV1, WBCV2, WBCV3, KGCV1, KGCV2, ACLV3, WB1, WB2, WB3, WB6, RB1, RB2, RB3, KV3, CSRL1}
 use Rattle.rules.specs.Subject.{SubjectReply, written, unwritten}
+use Rattle.rules.specs.Trim.{TrimReply, trimmed, untrimmed, unread}
 use Rattle.steps.specs.Steps.{stepNumber}
 use Rattle.desk.specs.Replies.{Reply, accepting, failing, refusing}
 use Rattle.gate.proofs.Determined.{ledgerBack}
@@ -22,7 +23,8 @@ use Rattle.surface.specs.declared.HostOutcome.{HostOutcome}
 use Rattle.surface.specs.declared.HostCabinetOutcome.{HostCabinetOutcome}
 use Rattle.surface.specs.declared.HostVerdict.{HostVerdict}
 use Rattle.surface.specs.declared.HostWritten.{HostWritten}
-use Rattle.surface.specs.Surface.{Told, toldBy, answerCode, answerNumber, noGroup, answerGroup, toldFor, CabinetTold, cabinetToldBy, cabinetToldFor, Wrote, wroteBy, wroteFor, Judged, judgedBy, judgedIn}
+use Rattle.surface.specs.declared.HostTrimmed.{HostTrimmed}
+use Rattle.surface.specs.Surface.{Told, toldBy, answerCode, answerNumber, noGroup, answerGroup, toldFor, CabinetTold, cabinetToldBy, cabinetToldFor, Wrote, wroteBy, wroteFor, Judged, judgedBy, judgedIn, Trimming, trimmedBy, trimmedFor}
 
 -- The structs.
 pub told-determined : (o p : HostOutcome) → toldBy o ≡ toldBy p → o ≡ p
@@ -46,6 +48,9 @@ judged-determined v w e =
 
 pub wrote-determined : (w v : HostWritten) → wroteBy w ≡ wroteBy v → w ≡ v
 wrote-determined w v e = ap (λ (n : Wrote). record { answer = n .answer; number = n .number }) e
+
+pub trimmed-determined : (t u : HostTrimmed) → trimmedBy t ≡ trimmedBy u → t ≡ u
+trimmed-determined t u e = ap (λ (n : Trimming). record { answer = n .answer; number = n .number; hints = n .hints }) e
 
 -- What the numbers stand for: an outcome. No group has the number that says that none is named: the gate names places in an ACL, and an ACL has far fewer groups.
 abbrev pub Nameable : Answer → Type 0
@@ -138,3 +143,18 @@ verdict-back (refusing n) = refl
 
 pub verdict-judged : (r s : Reply) → judgedIn r ≡ judgedIn s → r ≡ s
 verdict-judged r s e = sym (verdict-back r) ∙ ap verdictBack e ∙ verdict-back s
+
+-- .. a trimming's reply
+abbrev trimBack : Trimming → TrimReply
+trimBack t =
+    if eqb (t .answer) 1 then trimmed (t .number) (t .hints)
+    else if eqb (t .answer) 2 then untrimmed (getD steps (t .number) WV1)
+    else unread (t .number)
+
+trim-back : (r : TrimReply) → trimBack (trimmedFor r) ≡ r
+trim-back (trimmed m n) = refl
+trim-back (untrimmed s) = ap untrimmed (step-back s)
+trim-back (unread f) = refl
+
+pub reply-trimmed : (r s : TrimReply) → trimmedFor r ≡ trimmedFor s → r ≡ s
+reply-trimmed r s e = sym (trim-back r) ∙ ap trimBack e ∙ trim-back s

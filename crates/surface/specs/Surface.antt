@@ -5,6 +5,7 @@ use mathlib.Core.Bool.{Bool, false}
 use Rattle.rules.specs.Ledger as rules
 use Rattle.rules.specs.Gate.{Answer, done, permit, refuse, Outcome}
 use Rattle.rules.specs.Subject.{SubjectReply, written, unwritten}
+use Rattle.rules.specs.Trim.{TrimReply, trimmed, untrimmed, unread}
 use Rattle.steps.specs.Steps.{stepNumber}
 use Rattle.desk.specs.Replies.{Reply, accepting, failing, refusing}
 use Rattle.gate.specs.Outcomes.{ledgerOf}
@@ -16,6 +17,7 @@ use Rattle.surface.specs.declared.HostVerdict.{HostVerdict}
 use Rattle.listings.specs.Listing.{ListingReply, produced, refusedWith, refusedAt}
 use Rattle.surface.specs.declared.HostWritten.{HostWritten}
 use Rattle.surface.specs.declared.HostListing.{HostListing}
+use Rattle.surface.specs.declared.HostTrimmed.{HostTrimmed}
 
 -- An outcome in numbers: the ledger; 0 for done, 1 for a permit, 2 for a refusal; the group that permits, or the refusal's number; the group that
 -- permits, or that a refusal 6 or 7 carries.
@@ -128,3 +130,21 @@ abbrev pub listedFor : ListingReply → Listing
 listedFor (produced n) = listingNumbers 1 n 0
 listedFor (refusedWith f) = listingNumbers 2 f 0
 listedFor (refusedAt f n) = listingNumbers 2 f n
+
+-- A trimming's reply in numbers: 1 with the new ACL's length and the hints'; 2 for a failing step, with its number; 3 for a refusal, with its number.
+-- Without results the hints' length is zero.
+pub record Trimming : Type 0 where
+  pub answer : ℕ
+  pub number : ℕ
+  pub hints : ℕ
+
+abbrev pub trimmedBy : HostTrimmed → Trimming
+trimmedBy t = record { answer = t .answer; number = t .number; hints = t .hints }
+
+abbrev pub trimNumbers : ℕ → ℕ → ℕ → Trimming
+trimNumbers answer number hints = record { answer = answer; number = number; hints = hints }
+
+abbrev pub trimmedFor : TrimReply → Trimming
+trimmedFor (trimmed m n) = trimNumbers 1 m n
+trimmedFor (untrimmed s) = trimNumbers 2 (stepNumber s) 0
+trimmedFor (unread f) = trimNumbers 3 f 0

@@ -6,7 +6,8 @@ ghost use Rattle.desk.specs.Replies as replies;
 ghost use Rattle.gate.specs.Outcomes.{answerOf, outcomeOf};
 ghost use Rattle.cabinet.specs.Kept.{cabinetOutcomeOf};
 ghost use Rattle.subject.specs.Writing as writing;
-ghost use Rattle.surface.specs.Surface.{toldBy, answerCode, answerNumber, orNoGroup, answerGroup, toldFor, cabinetToldBy, cabinetToldFor, wroteBy, wroteFor, judgedBy, judgedIn, otherwise, listedBy, listingNumbers, listedFor};
+ghost use Rattle.trimming.specs.Trimming as tool;
+ghost use Rattle.surface.specs.Surface.{toldBy, answerCode, answerNumber, orNoGroup, answerGroup, toldFor, cabinetToldBy, cabinetToldFor, wroteBy, wroteFor, judgedBy, judgedIn, otherwise, listedBy, listingNumbers, listedFor, trimmedBy, trimNumbers, trimmedFor};
 use cabinet::Cabinet;
 use cabinet::CabinetOutcome;
 use desk::Acceptance;
@@ -16,6 +17,7 @@ use gate::Outcome;
 use gate::Reply;
 use refusals::Denial;
 use subject::Written;
+use trimming::TrimReply;
 
 // No group is named: all ones.
 const NO_GROUP: u64 = 18446744073709551615;
@@ -62,6 +64,14 @@ pub struct HostListing {
     pub answer: u64,
     pub number: u64,
     pub line: u64,
+}
+
+// A trimming: 1, the new ACL's length and the hints' length; 2 and the failing step's number, from 1; or 3 and the refusal's.
+#[repr(C)]
+pub struct HostTrimmed {
+    pub answer: u64,
+    pub number: u64,
+    pub hints: u64,
 }
 
 // What a reply is, and its number.
@@ -212,5 +222,27 @@ pub fn listed(reply: listing::Reply) -> HostListing
         listing::Reply::Produced(n) => listing_numbers(1, n as u64, 0),
         listing::Reply::Refused(why) => listing_numbers(2, refusals::number(why) as u64, 0),
         listing::Reply::BadLine(n) => listing_numbers(2, 15, n as u64),
+    }
+}
+
+// A trimming's reply in its three numbers.
+fn trim_numbers(answer: u64, number: u64, hints: u64) -> HostTrimmed
+    ensures { λ r. ⌜ trimmedBy r ≡ trimNumbers answer number hints ⌝ }
+{
+    HostTrimmed {
+        answer,
+        number,
+        hints,
+    }
+}
+
+// What the trimming tool answered.
+pub fn trimmed(reply: TrimReply) -> HostTrimmed
+    ensures { λ r. ⌜ trimmedBy r ≡ trimmedFor (tool.replyOf reply) ⌝ }
+{
+    match reply {
+        TrimReply::Trimmed(m, n) => trim_numbers(1, m as u64, n as u64),
+        TrimReply::Failed(s) => trim_numbers(2, steps::number(s), 0),
+        TrimReply::Refused(why) => trim_numbers(3, refusals::number(why) as u64, 0),
     }
 }

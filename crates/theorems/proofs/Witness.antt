@@ -11,14 +11,16 @@ use Rattle.rules.specs.Basics.{Bytes, records, bothSame}
 use Rattle.rules.specs.Acl.{aclOf}
 use Rattle.rules.specs.Ledger.{freshLedger, loadedAt}
 use Rattle.rules.specs.Grant.{nullKey}
-use Rattle.rules.specs.Gate.{Answer, permit, refuse}
+use Rattle.rules.specs.Gate.{Answer, done, permit, refuse}
 use Rattle.rules.specs.Bundle.{policyOf}
 use Rattle.rules.specs.Desk.{Grade, approach2, accepted, classOf, policyAdmits, desk}
 use Rattle.rules.proofs.Computing.{computing}
 use Rattle.rules.proofs.Samples.{rec, timed, hash, openGroup, limited, sign, decrypt, certificate, signLink, decryptLink, reduce, hint, bundle, blob, cardset, archive, delegation, storedArchive, onDevices, recovery, storedRecovery}
-use Rattle.theorems.specs.Demands.{Call, requesting, narrowing, State, outcome, after, byOfficer, officerSigned, asked, Allowed, EveryPermit}
+use Rattle.theorems.specs.Demands.{Call, requesting, loading, narrowing, State, outcome, after, byOfficer, officerSigned, asked, Allowed, EveryPermit}
+use Rattle.theorems.specs.Account.{AllPutDown, isExpansion}
 use Rattle.theorems.specs.Exhibit.{certificatesFor, BlobPermitted}
 use Rattle.theorems.proofs.Demand3.{demand-3}
+use Rattle.theorems.proofs.Uses.{no-expansion}
 use Rattle.theorems.proofs.Cautious.{grade-reached-exhibited}
 
 -- what the gate answers to each call of a sequence
@@ -96,3 +98,31 @@ unfolding certificatesFor computing
 reached-witness =
     grade-reached-exhibited bundle kept (record { protection = 3; recoverable = false }) refl (omega arith) (refl, tt) ((refl, tt), tt) ((refl, tt), tt)
     (λ e. false≢true (ap (λ (h : Option Bytes). bothSame h (some nullKey)) e)) (hash 6) refl ((inr refl, tt), tt) freshLedger 7 9 (omega arith) (omega arith) .0
+
+-- Request m does as well. Three uses per load, of Sign or ReduceACL; a use, a narrowing to the same limit, a use: the fourth is refused, for the narrowing
+-- gave none back. A reload does. Each permit is put down to group 0 of the first ACL, by an account that is charged for it alone.
+abbrev pub three : Bytes
+three = openGroup ++ rec (2 ∷ 0 ∷ 0 ∷ 0 ∷ 1 ∷ 0 ∷ 0 ∷ 0 ∷ 0 ∷ 0 ∷ 0 ∷ 3 ∷ []) ++ rec (3 ∷ 0 ∷ 0 ∷ 0 ∷ 0 ∷ 0x14 ∷ [])
+
+abbrev pub narrowed : List Call
+narrowed =
+    requesting (hash 0) (sign 6)
+    ∷ narrowing (hash 0) (reduce 6) (limited 1 3) (hint 0)
+    ∷ requesting (hash 0) (sign 6)
+    ∷ requesting (hash 0) (sign 6)
+    ∷ loading 9
+    ∷ requesting (hash 0) (sign 9)
+    ∷ []
+
+abbrev pub loaded : State
+loaded = record { ledger = loadedAt freshLedger 5; acl = three }
+
+pub narrowed-witness : (replies loaded narrowed ≡ (permit 0 ∷ permit 0 ∷ permit 0 ∷ refuse 7 (some 0) ∷ done ∷ permit 0 ∷ []))
+    × EveryPermit (λ s c. isExpansion c ≡ false) loaded narrowed
+    × AllPutDown (aclOf three) (loadedAt freshLedger 5) loaded narrowed
+unfolding outcome after computing
+narrowed-witness = (
+  refl,
+  no-expansion loaded narrowed (refl, (refl, (refl, (refl, (refl, (refl, tt)))))),
+  (0, _, refl, refl, (0, _, refl, refl, (0, _, refl, refl, (0, _, refl, refl, tt)))),
+)

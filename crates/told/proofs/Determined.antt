@@ -22,12 +22,11 @@ host-run-determined r s b c e =
     (ap (λ (t : ToldRun). record { ledger = ledgerBack (t .ledger); answer = t .answer; number = t .number }) e, ap (λ (t : ToldRun). t .buffer) e)
 
 pub host-cabinet-run-determined : (r s : HostCabinetRun) (b c : Bytes) → hostCabinetRunOf r b ≡ hostCabinetRunOf s c → (r ≡ s) × (b ≡ c)
-host-cabinet-run-determined r s b c e =
-    (
-      ap₂ (λ (d : Cabinet) (t : ToldCabinetRun). record { cabinet = d; answer = t .answer; number = t .number })
+host-cabinet-run-determined r s b c e = (
+  ap₂ (λ (d : Cabinet) (t : ToldCabinetRun). record { cabinet = d; answer = t .answer; number = t .number })
       (cabinet-determined (r .cabinet) (s .cabinet) (ap (λ (t : ToldCabinetRun). t .cabinet) e)) e,
-      ap (λ (t : ToldCabinetRun). t .buffer) e,
-    )
+  ap (λ (t : ToldCabinetRun). t .buffer) e,
+)
 
 pub host-form-determined : (f g : HostForm) → hostFormOf f ≡ hostFormOf g → f ≡ g
 host-form-determined f g e = ap (λ (t : ToldForm). record { form = formBack (t .form); answer = t .answer; number = t .number }) e

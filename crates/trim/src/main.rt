@@ -10,18 +10,12 @@ ghost use Rattle.facts.specs.Places.{Found};
 use arguments::Input;
 use desk::Verdict;
 use libc::STDERR_FILENO;
-use libc::STDOUT_FILENO;
+use printing::print;
+use printing::print_number;
+use refusals::Refusal;
 use steps::Failure;
 use steps::Step;
 use trimming::TrimReply;
-
-fn print(text: &[u8]) {
-    io::write_all(STDOUT_FILENO, text);
-}
-
-fn print_number(n: usize) {
-    io::print_decimal(STDOUT_FILENO, n as u64);
-}
 
 // The desk's line.
 fn print_verdict(v: Verdict) {
@@ -30,14 +24,19 @@ fn print_verdict(v: Verdict) {
     print(arguments::prefix(&line, n));
 }
 
+// .. for files that are refused.
+fn print_refusal(why: Refusal) {
+    print_verdict(Verdict::Refused(why));
+}
+
 // What a line begins with: an action's old place, and the step that it fails.
 fn print_place(group: usize, action: usize, step: Step) {
     let mut name = [0u8; verdicts::LINE];
     let n = verdicts::append_step(step, 0, &mut name);
     print(b"group ");
-    print_number(group);
+    print_number(group as u64);
     print(b" action ");
-    print_number(action);
+    print_number(action as u64);
     print(b" fails");
     print(arguments::prefix(&name, n));
     print(b", removed: ");
@@ -152,9 +151,9 @@ fn print_trimmed(bundle: &[u8], acl: &[u8], new: usize, hints: usize) {
     facts::find_places(&mut places, bundle);
     print_removed(&places, bundle, acl);
     print(b"trimmed: ACL ");
-    print_number(new);
+    print_number(new as u64);
     print(b" bytes, hints ");
-    print_number(hints);
+    print_number(hints as u64);
     print(b" bytes\n");
 }
 
@@ -182,7 +181,7 @@ fn trim_files(bundle: &[u8], acl: &[u8]) {
             arguments::prefix(&hints, n),
         ),
         TrimReply::Failed(s) => print_verdict(Verdict::Failed(s)),
-        TrimReply::Refused(r) => print_verdict(Verdict::Refused(r)),
+        TrimReply::Refused(why) => print_refusal(why),
     }
 }
 

@@ -1,7 +1,7 @@
 // The trimming tool: a bundle and an ACL in; out come the ACL without what fails at the desk, and the hints by which it narrows the old one.
 ghost use mathlib.Core.Path.{_≡_};
 ghost use mathlib.Core.Option.{none};
-ghost use Prim.Native.Nat.{_-_, _*_, _≤_, _<_};
+ghost use Prim.Native.Nat.{_*_, _≤_};
 ghost use lib.ListN.{length};
 ghost use Rattle.rules.specs.Sizes.{recordBytes};
 ghost use Rattle.rules.specs.Basics.{number, records};
@@ -77,13 +77,7 @@ fn put_fewer(places: &[usize; facts::ENTRIES], bundle: &[u8], rec: &[u8], out: &
 }
 
 // What is left of a record, over the front of the buffer.
-fn put(
-    places: &[usize; facts::ENTRIES],
-    bundle: &[u8],
-    fate: Fate,
-    rec: &[u8],
-    out: &mut [u8],
-)
+fn put(places: &[usize; facts::ENTRIES], bundle: &[u8], fate: Fate, rec: &[u8], out: &mut [u8])
     requires { ⌜ Found (now bundle) (now places) × (length (now rec) ≡ recordBytes) × (sizeOf fate ≤ length (now out)) ⌝ }
     ensures { λ _. ⌜ now (out .exit) ≡ over (leftOf (records (now (bundle .entry))) fate (now (rec .entry))) (now (out .entry)) ⌝ }
 {

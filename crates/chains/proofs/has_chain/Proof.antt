@@ -10,10 +10,10 @@ use Rattle.chains.proofs.has_chain.Statement.{statement}
 use Rattle.chains.proofs.has_chain.Tie as tie
 
 abbrev Inv-loop : tie.InvT-loop
-Inv-loop p group rest key ends₀ links₀ ends links = (links ≤ chainMax) × (ends ≡ level links p key (delegationsOf (records rest)))
+Inv-loop p group certs dels key ends₀ links₀ ends links = (links ≤ chainMax) × (ends ≡ level links p key (delegationsOf (records dels)))
 
 abbrev μ-loop : tie.MeasureT-loop
-μ-loop p group rest key ends₀ links₀ ends links = chainMax - links
+μ-loop p group certs dels key ends₀ links₀ ends links = chainMax - links
 
 sub-key : tie.Need-sub-key Inv-loop μ-loop
 sub-key c = search needs

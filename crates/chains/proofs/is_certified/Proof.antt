@@ -1,4 +1,4 @@
-use Rattle.chains.proofs.Laws.{presented-short, certifier-absent, certifier-shown, certifier-delegates}
+use Rattle.chains.proofs.Laws.{certifier-absent, certifier-shown, certifier-delegates}
 use borrow.Author.Needs.{needs}
 use Rattle.chains.proofs.is_certified.Statement.{statement}
 use Rattle.chains.proofs.is_certified.Tie as tie
@@ -9,8 +9,17 @@ flag-of-requires c κs = search needs
 returns : tie.Need-returns
 returns c = search (needs, certifier-absent)
 
-presented-requires : tie.Need-presented-requires
-presented-requires c κs = search needs
+delegations-start-requires : tie.Need-delegations-start-requires
+delegations-start-requires c κs = search needs
+
+sub-certs : tie.Need-sub-certs
+sub-certs c = search needs
+
+part-certs-start : tie.Need-part-certs-start
+part-certs-start c = search needs
+
+part-certs-end : tie.Need-part-certs-end
+part-certs-end c = search needs
 
 sub-some-serves : tie.Need-sub-some-serves
 sub-some-serves c = search needs
@@ -36,8 +45,17 @@ part-is-delegated-start c = search needs
 part-is-delegated-end : tie.Need-part-is-delegated-end
 part-is-delegated-end c = search needs
 
+sub-is-delegated-2 : tie.Need-sub-is-delegated-2
+sub-is-delegated-2 c = search needs
+
+part-is-delegated-start-2 : tie.Need-part-is-delegated-start-2
+part-is-delegated-start-2 c = search needs
+
+part-is-delegated-end-2 : tie.Need-part-is-delegated-end-2
+part-is-delegated-end-2 c = search needs
+
 is-delegated-requires : tie.Need-is-delegated-requires
-is-delegated-requires c κs = search (needs, presented-short)
+is-delegated-requires c κs = search needs
 
 returns-3 : tie.Need-returns-3
 returns-3 c = search (needs, certifier-delegates)
@@ -48,7 +66,10 @@ is-certified-spec =
     (tie.spec
     flag-of-requires
     returns
-    presented-requires
+    delegations-start-requires
+    sub-certs
+    part-certs-start
+    part-certs-end
     sub-some-serves
     part-some-serves-start
     part-some-serves-end
@@ -57,5 +78,8 @@ is-certified-spec =
     sub-is-delegated
     part-is-delegated-start
     part-is-delegated-end
+    sub-is-delegated-2
+    part-is-delegated-start-2
+    part-is-delegated-end-2
     is-delegated-requires
     returns-3)

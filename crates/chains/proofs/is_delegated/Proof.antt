@@ -7,7 +7,7 @@ shared-slice-read-if1 : tie.Need-shared-slice-read-if1
 shared-slice-read-if1 c = search needs
 
 returns : tie.Need-returns
-returns c = search (needs, delegated-blob)
+returns c file = search (needs, delegated-blob)
 
 shared-slice-read-has-chain : tie.Need-shared-slice-read-has-chain
 shared-slice-read-has-chain c = search needs
@@ -16,7 +16,7 @@ has-chain-requires : tie.Need-has-chain-requires
 has-chain-requires c κs = search needs
 
 returns-2 : tie.Need-returns-2
-returns-2 c = search (needs, delegated-use)
+returns-2 c file = search (needs, delegated-use)
 
 pub is-delegated-spec : {M : Type 1} → statement M
 is-delegated-spec =

@@ -13,10 +13,10 @@ use Rattle.chains.proofs.next_level.Statement.{statement}
 use Rattle.chains.proofs.next_level.Tie as tie
 
 abbrev Inv-loop : tie.InvT-loop
-Inv-loop p key rest set next₀ at₀ next at = (length rest ≤ 4032) × ((at ≤ length rest) × ((at % 64 ≡ 0) × (next ≡ setOf (continues p key (delegationsOf (records rest)) set) (delegationsOf (recordsFrom rest at)))))
+Inv-loop p key dels set next₀ at₀ next at = (length dels ≤ 4032) × ((at ≤ length dels) × ((at % 64 ≡ 0) × (next ≡ setOf (continues p key (delegationsOf (records dels)) set) (delegationsOf (recordsFrom dels at)))))
 
 abbrev μ-loop : tie.MeasureT-loop
-μ-loop p key rest set next₀ at₀ next at = at
+μ-loop p key dels set next₀ at₀ next at = at
 
 sub-at : tie.Need-sub-at Inv-loop μ-loop
 sub-at c = search needs

@@ -11,10 +11,10 @@ use Rattle.chains.proofs.one_leads_to.Statement.{statement}
 use Rattle.chains.proofs.one_leads_to.Tie as tie
 
 abbrev Inv-loop : tie.InvT-loop
-Inv-loop set key rest left₀ at₀ left at = (at ≤ length rest) × (anyIn left (leadsTo key) (delegationsOf (recordsFrom rest at)) ≡ anyIn set (leadsTo key) (delegationsOf (records rest)))
+Inv-loop set key dels left₀ at₀ left at = (at ≤ length dels) × (anyIn left (leadsTo key) (delegationsOf (recordsFrom dels at)) ≡ anyIn set (leadsTo key) (delegationsOf (records dels)))
 
 abbrev μ-loop : tie.MeasureT-loop
-μ-loop set key rest left₀ at₀ left at = length rest - at
+μ-loop set key dels left₀ at₀ left at = length dels - at
 
 loop-holds : tie.Need-loop-holds Inv-loop μ-loop
 unfolding recordsFrom

@@ -11,10 +11,10 @@ use Rattle.chains.proofs.one_leads_to_presented.Statement.{statement}
 use Rattle.chains.proofs.one_leads_to_presented.Tie as tie
 
 abbrev Inv-loop : tie.InvT-loop
-Inv-loop set group rest left₀ at₀ left at = (at ≤ length rest) × (anyIn left (leadsToPresented (optional (flag 1 group) (number 24 2 group)) (certificatesOf (records rest))) (delegationsOf (recordsFrom rest at)) ≡ anyIn set (leadsToPresented (optional (flag 1 group) (number 24 2 group)) (certificatesOf (records rest))) (delegationsOf (records rest)))
+Inv-loop set group certs dels left₀ at₀ left at = (at ≤ length dels) × (anyIn left (leadsToPresented (optional (flag 1 group) (number 24 2 group)) (certificatesOf (records certs))) (delegationsOf (recordsFrom dels at)) ≡ anyIn set (leadsToPresented (optional (flag 1 group) (number 24 2 group)) (certificatesOf (records certs))) (delegationsOf (records dels)))
 
 abbrev μ-loop : tie.MeasureT-loop
-μ-loop set group rest left₀ at₀ left at = length rest - at
+μ-loop set group certs dels left₀ at₀ left at = length dels - at
 
 loop-holds : tie.Need-loop-holds Inv-loop μ-loop
 unfolding recordsFrom

@@ -11,10 +11,10 @@ use Rattle.chains.proofs.some_serves.Statement.{statement}
 use Rattle.chains.proofs.some_serves.Tie as tie
 
 abbrev Inv-loop : tie.InvT-loop
-Inv-loop key group rest at₀ at = (at ≤ length rest) × (any (serves key (optional (flag 1 group) (number 24 2 group))) (certificatesOf (recordsFrom rest at)) ≡ any (serves key (optional (flag 1 group) (number 24 2 group))) (certificatesOf (records rest)))
+Inv-loop key group certs at₀ at = (at ≤ length certs) × (any (serves key (optional (flag 1 group) (number 24 2 group))) (certificatesOf (recordsFrom certs at)) ≡ any (serves key (optional (flag 1 group) (number 24 2 group))) (certificatesOf (records certs)))
 
 abbrev μ-loop : tie.MeasureT-loop
-μ-loop key group rest at₀ at = length rest - at
+μ-loop key group certs at₀ at = length certs - at
 
 loop-holds : tie.Need-loop-holds Inv-loop μ-loop
 unfolding recordsFrom

@@ -6,8 +6,14 @@ use borrow.Author.Needs.{needs}
 use Rattle.judging.proofs.group_standing.Statement.{statement}
 use Rattle.judging.proofs.group_standing.Tie as tie
 
-presented-requires : tie.Need-presented-requires
-presented-requires c κs = search needs
+sub-rest : tie.Need-sub-rest
+sub-rest c = search needs
+
+part-rest-start : tie.Need-part-rest-start
+part-rest-start c = search needs
+
+part-rest-end : tie.Need-part-rest-end
+part-rest-end c = search needs
 
 sub-group-admits : tie.Need-sub-group-admits
 sub-group-admits c = search needs
@@ -25,9 +31,8 @@ returns : tie.Need-returns
 unfolding recordStanding
 returns c =
     let g = c .before in
-    let p = g .before .before in
-    let s = p .before .before .before .before .before .before in
-    let a = admits-asked _ (s .args .req .now) _ _ _ (g .group-admits .ensures) (p .presented .ensures) (s .pre .0 .0) in
+    let s = g .before .before .before .before .before .before .before .before in
+    let a = admits-asked _ (s .args .req .now) _ _ (g .group-admits .ensures) (s .pre .0 .0) in
     via-not-true _ _ _ _ _ a (c .if1 .taken) refl
 
 is-certified-requires : tie.Need-is-certified-requires
@@ -38,9 +43,8 @@ unfolding recordStanding
 returns-2 c =
     let f = c .before .before in
     let g = f .before in
-    let p = g .before .before in
-    let s = p .before .before .before .before .before .before in
-    let a = admits-asked _ (s .args .req .now) _ _ _ (g .group-admits .ensures) (p .presented .ensures) (s .pre .0 .0) in
+    let s = g .before .before .before .before .before .before .before .before in
+    let a = admits-asked _ (s .args .req .now) _ _ (g .group-admits .ensures) (s .pre .0 .0) in
     via-not-false _ _ _ _ _ a (f .if1 .left) (via-not-true _ _ _ _ _ (c .before .is-certified .ensures) (c .if2 .taken) refl)
 
 is-unspent-requires : tie.Need-is-unspent-requires
@@ -52,9 +56,8 @@ returns-3 c =
     let e = c .before .before in
     let f = e .before .before in
     let g = f .before in
-    let p = g .before .before in
-    let s = p .before .before .before .before .before .before in
-    let a = admits-asked _ (s .args .req .now) _ _ _ (g .group-admits .ensures) (p .presented .ensures) (s .pre .0 .0) in
+    let s = g .before .before .before .before .before .before .before .before in
+    let a = admits-asked _ (s .args .req .now) _ _ (g .group-admits .ensures) (s .pre .0 .0) in
     via-not-false _ _ _ _ _ a (f .if1 .left)
     (via-not-false _ _ _ _ _ (e .before .is-certified .ensures) (e .if2 .left)
     (via-not-true _ _ _ _ _ (c .before .is-unspent .ensures) (c .if3 .taken) refl))
@@ -65,9 +68,8 @@ returns-4 c =
     let e = c .before .before in
     let f = e .before .before in
     let g = f .before in
-    let p = g .before .before in
-    let s = p .before .before .before .before .before .before in
-    let a = admits-asked _ (s .args .req .now) _ _ _ (g .group-admits .ensures) (p .presented .ensures) (s .pre .0 .0) in
+    let s = g .before .before .before .before .before .before .before .before in
+    let a = admits-asked _ (s .args .req .now) _ _ (g .group-admits .ensures) (s .pre .0 .0) in
     via-not-false _ _ _ _ _ a (f .if1 .left)
     (via-not-false _ _ _ _ _ (e .before .is-certified .ensures) (e .if2 .left)
     (via-not-false _ _ _ _ _ (c .before .is-unspent .ensures) (c .if3 .left) refl))
@@ -76,7 +78,9 @@ pub group-standing-spec : {M : Type 1} → statement M
 group-standing-spec =
     tie.close
     (tie.spec
-    presented-requires
+    sub-rest
+    part-rest-start
+    part-rest-end
     sub-group-admits
     part-group-admits-start
     part-group-admits-end

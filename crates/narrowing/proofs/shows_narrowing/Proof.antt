@@ -1,12 +1,12 @@
 use Prim.Native.Nat.{_≤_, _-_}
 use mathlib.Core.Path.{_≡_, ap}
-use lib.ListN.{length, drop}
+use lib.ListN.{length, getD, drop}
 use Rattle.rules.specs.Acl.{groupsOf, aclOf}
 use Rattle.rules.specs.Request.{hintsOf}
 use Rattle.rules.specs.Narrow.{narrowsFrom, narrows}
 use Rattle.rules.proofs.Rows.{recordsFrom, rows-start}
 use Rattle.groups.proofs.Laws.{begins}
-use Rattle.narrowing.proofs.Sources.{hintsFrom, hints-start, groups-skip, hint-lacking, source-falls, source-found, source-wider, source-kept, left-next, hints-spent}
+use Rattle.narrowing.proofs.Sources.{hintsFrom, hints-start, group-later, groups-on, hint-lacking, source-falls, source-found, source-wider, source-kept, left-next, hints-spent}
 use borrow.Author.Needs.{needs}
 use Rattle.narrowing.proofs.shows_narrowing.Statement.{statement}
 use Rattle.narrowing.proofs.shows_narrowing.Tie as tie
@@ -15,44 +15,36 @@ abbrev Inv-loop : tie.InvT-loop
 Inv-loop old new hints low₀ from₀ h₀ at₀ low from h at =
     (at ≤ length new)
     × ((h ≤ length hints)
+    × ((64 ≤ length new - at → getD new at 0 ≡ 1)
     × ((narrowsFrom (aclOf old) low (groupsOf (recordsFrom new at)) (hintsFrom hints h) ≡ narrows (aclOf old) (aclOf new) (hintsOf hints))
-    × ((from ≤ length old) × (groupsOf (recordsFrom old from) ≡ drop low (aclOf old)))))
+    × ((from ≤ length old) × (groupsOf (recordsFrom old from) ≡ drop low (aclOf old))))))
 
 abbrev μ-loop : tie.MeasureT-loop
 μ-loop old new hints low₀ from₀ h₀ at₀ low from h at = length new - at
 
+group-at-requires : tie.Need-group-at-requires Inv-loop μ-loop
+group-at-requires c κs = search needs
+
 loop-holds : tie.Need-loop-holds Inv-loop μ-loop
 unfolding recordsFrom
 loop-holds c =
-    let a = c .before .before .before .args in
-    (search needs, (search needs, (ap (narrowsFrom (aclOf (a .old .now)) 0 (aclOf (a .new .now))) (hints-start (a .hints .now)), (search needs, ap groupsOf (rows-start (a .old .now))))))
+    let a = c .before .before .before .before .args in
+    let e = c .group-at .ensures in
+    let n = ap (narrowsFrom (aclOf (a .old .now)) 0 (aclOf (a .new .now))) (hints-start (a .hints .now)) in
+    (e .inside, (search needs, (e .head, (groups-on _ _ _ _ _ _ _ _ e n, (search needs, ap groupsOf (rows-start (a .old .now)))))))
 
 sub-loop : tie.Need-sub-loop Inv-loop μ-loop
 sub-loop c = search needs
 
-shared-slice-read-if1 : tie.Need-shared-slice-read-if1 Inv-loop μ-loop
-shared-slice-read-if1 c = search needs
-
-add-at : tie.Need-add-at Inv-loop μ-loop
-add-at c = search needs
-
-loop-less : tie.Need-loop-less Inv-loop μ-loop
-loop-less c = search needs
-
-loop-again : tie.Need-loop-again Inv-loop μ-loop
-loop-again c =
-    let l = c .before .before in
-    let i = l .before .loop .inv in
-    (search needs, (search needs, (groups-skip _ _ _ _ _ _ _ (i .1 .1 .0) (l .loop-test .taken) (c .if1 .taken), i .1 .1 .1)))
-
-sub-if2 : tie.Need-sub-if2 Inv-loop μ-loop
-sub-if2 c = search needs
+sub-if1 : tie.Need-sub-if1 Inv-loop μ-loop
+sub-if1 c = search needs
 
 returns : tie.Need-returns Inv-loop μ-loop
 returns c =
-    let e = c .before in
-    let l = e .before .before in
-    hint-lacking _ _ _ _ _ _ _ (l .before .loop .inv .1 .1 .0) (l .loop-test .taken) (e .if1 .left) (c .if2 .taken)
+    let l = c .before in
+    let v = l .before .loop .inv .1 .1 in
+    let t = l .loop-test .taken in
+    hint-lacking _ _ _ _ _ _ _ (v .1 .0) t (v .0 t) (c .if1 .taken)
 
 add-hint : tie.Need-add-hint Inv-loop μ-loop
 add-hint c = search needs
@@ -76,15 +68,16 @@ returns-2 : tie.Need-returns-2 Inv-loop μ-loop
 returns-2 c =
     let w = c .before in
     let g = w .before .before .before in
-    let e = g .before in
-    let l = e .before .before in
-    source-falls _ _ _ _ _ _ _ (l .before .loop .inv .1 .1 .0) (l .loop-test .taken) (e .if1 .left) (g .if2 .left) _ (w .wide .ensures .0) (c .if3 .taken)
+    let l = g .before in
+    let v = l .before .loop .inv .1 .1 in
+    let t = l .loop-test .taken in
+    source-falls _ _ _ _ _ _ _ (v .1 .0) t (v .0 t) (g .if1 .left) _ (w .wide .ensures .0) (c .if2 .taken)
 
 cast-group-at : tie.Need-cast-group-at Inv-loop μ-loop
 cast-group-at c = search needs
 
-group-at-requires : tie.Need-group-at-requires Inv-loop μ-loop
-group-at-requires c κs = search needs
+group-at-requires-2 : tie.Need-group-at-requires-2 Inv-loop μ-loop
+group-at-requires-2 c κs = search needs
 
 add-source-narrows : tie.Need-add-source-narrows Inv-loop μ-loop
 add-source-narrows c = search needs
@@ -129,7 +122,7 @@ part-source-narrows-end-4 : tie.Need-part-source-narrows-end-4 Inv-loop μ-loop
 part-source-narrows-end-4 c = search needs
 
 source-narrows-requires : tie.Need-source-narrows-requires Inv-loop μ-loop
-source-narrows-requires c κs = (search needs, begins _ _ _ _ (c .before .before .before .before .group-at .ensures))
+source-narrows-requires c κs = (search needs, begins _ _ _ _ (c .before .before .before .before .group-at2 .ensures))
 
 returns-3 : tie.Need-returns-3 Inv-loop μ-loop
 returns-3 c =
@@ -138,14 +131,14 @@ returns-3 c =
     let f = p .before in
     let w = f .before in
     let g = w .before .before .before in
-    let e = g .before in
-    let l = e .before .before in
-    let i = l .before .loop .inv .1 .1 in
-    let t = source-found _ _ _ _ _ (i .1 .1) (f .if3 .left) (p .group-at .ensures) _ _ _ (s .source-narrows .ensures) in
-    source-wider _ _ _ _ _ _ _ (i .0) (l .loop-test .taken) (e .if1 .left) (g .if2 .left) _ (w .wide .ensures .0) (f .if3 .left) _ t (c .if4 .taken)
+    let l = g .before in
+    let v = l .before .loop .inv .1 .1 in
+    let t = l .loop-test .taken in
+    let k = source-found _ _ _ _ _ (v .1 .1 .1) (f .if2 .left) (p .group-at2 .ensures) _ _ _ (s .source-narrows .ensures) in
+    source-wider _ _ _ _ _ _ _ (v .1 .0) t (v .0 t) (g .if1 .left) _ (w .wide .ensures .0) (f .if2 .left) _ k (c .if3 .taken)
 
-group-at-requires-2 : tie.Need-group-at-requires-2 Inv-loop μ-loop
-group-at-requires-2 c κs = c .before .before .before .before .before .before .group-at .ensures .inside
+group-at-requires-3 : tie.Need-group-at-requires-3 Inv-loop μ-loop
+group-at-requires-3 c κs = c .before .before .before .before .before .before .group-at2 .ensures .inside
 
 add-low : tie.Need-add-low Inv-loop μ-loop
 add-low c = search needs
@@ -153,33 +146,38 @@ add-low c = search needs
 add-h : tie.Need-add-h Inv-loop μ-loop
 add-h c = search needs
 
-add-at-2 : tie.Need-add-at-2 Inv-loop μ-loop
-add-at-2 c = search needs
+add-group-at : tie.Need-add-group-at Inv-loop μ-loop
+add-group-at c = search needs
 
-loop-less-2 : tie.Need-loop-less-2 Inv-loop μ-loop
-loop-less-2 c = search needs
+group-at-requires-4 : tie.Need-group-at-requires-4 Inv-loop μ-loop
+group-at-requires-4 c κs = search needs
 
-loop-again-2 : tie.Need-loop-again-2 Inv-loop μ-loop
-loop-again-2 c =
-    let k = c .before in
+loop-less : tie.Need-loop-less Inv-loop μ-loop
+loop-less c = let e = group-later _ _ _ _ (c .group-at4 .ensures) (search needs) in search needs
+
+loop-again : tie.Need-loop-again Inv-loop μ-loop
+loop-again c =
+    let j = c .before in
+    let k = j .before in
     let s = k .before in
     let p = s .before .before .before .before .before in
     let f = p .before in
     let w = f .before in
     let g = w .before .before .before in
-    let e = g .before in
-    let l = e .before .before in
-    let i = l .before .loop .inv .1 .1 in
-    let t = source-found _ _ _ _ _ (i .1 .1) (f .if3 .left) (p .group-at .ensures) _ _ _ (s .source-narrows .ensures) in
-    let n = source-kept _ _ _ _ _ _ _ (i .0) (l .loop-test .taken) (e .if1 .left) (g .if2 .left) _ (w .wide .ensures .0) (f .if3 .left) _ t (k .if4 .left) in
-    let m = left-next _ _ _ _ _ (i .1 .1) (f .if3 .left) (p .group-at .ensures) _ (c .group-at2 .ensures) in
-    (search needs, (search needs, (n, (c .group-at2 .ensures .inside, m))))
+    let l = g .before in
+    let v = l .before .loop .inv .1 .1 in
+    let t = l .loop-test .taken in
+    let e = c .group-at4 .ensures in
+    let d = source-found _ _ _ _ _ (v .1 .1 .1) (f .if2 .left) (p .group-at2 .ensures) _ _ _ (s .source-narrows .ensures) in
+    let n = source-kept _ _ _ _ _ _ _ (v .1 .0) t (v .0 t) (g .if1 .left) _ (w .wide .ensures .0) (f .if2 .left) _ d (k .if3 .left) in
+    let m = left-next _ _ _ _ _ (v .1 .1 .1) (f .if2 .left) (p .group-at2 .ensures) _ (j .group-at3 .ensures) in
+    (e .inside, (search needs, (e .head, (groups-on _ _ _ _ _ _ _ _ e n, (j .group-at3 .ensures .inside, m)))))
 
 sub-result : tie.Need-sub-result Inv-loop μ-loop
 sub-result c = search needs
 
 returns-4 : tie.Need-returns-4 Inv-loop μ-loop
-returns-4 c = hints-spent _ _ _ _ _ _ _ (c .before .loop .inv .1 .1 .0) (c .loop-test .left)
+returns-4 c = hints-spent _ _ _ _ _ _ _ (c .before .loop .inv .1 .1 .1 .0) (c .loop-test .left)
 
 pub shows-narrowing-spec : {M : Type 1} → statement M
 shows-narrowing-spec =
@@ -187,13 +185,10 @@ shows-narrowing-spec =
     (tie.spec
     Inv-loop
     μ-loop
+    group-at-requires
     loop-holds
     sub-loop
-    shared-slice-read-if1
-    add-at
-    loop-less
-    loop-again
-    sub-if2
+    sub-if1
     returns
     add-hint
     sub-hint
@@ -203,7 +198,7 @@ shows-narrowing-spec =
     wide-requires
     returns-2
     cast-group-at
-    group-at-requires
+    group-at-requires-2
     add-source-narrows
     sub-source-narrows
     part-source-narrows-start
@@ -220,11 +215,12 @@ shows-narrowing-spec =
     part-source-narrows-end-4
     source-narrows-requires
     returns-3
-    group-at-requires-2
+    group-at-requires-3
     add-low
     add-h
-    add-at-2
-    loop-less-2
-    loop-again-2
+    add-group-at
+    group-at-requires-4
+    loop-less
+    loop-again
     sub-result
     returns-4)

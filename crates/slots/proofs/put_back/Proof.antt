@@ -11,7 +11,7 @@ with-ledger-requires c κs = search needs
 
 returns : tie.Need-returns
 returns c buffer =
-    let a = c .before .args in
+    let a = c .before .before .args in
     ap (λ (d : rules.Cabinet). let r : defined.CabinetRan = record { reply = replyAs (a .o .reply); cabinet = d; buffer = buffer } in r) (c .with-ledger .ensures)
 
 pub put-back-spec : {M : Type 1} → statement M

@@ -3,11 +3,11 @@ use Rattle.cabinet.proofs.Laws.{ledger-handed}
 use Rattle.cabinet.proofs.Cabinet.with_ledger.Statement.{statement}
 use Rattle.cabinet.proofs.Cabinet.with_ledger.Tie as tie
 
-mul-s : tie.Need-mul-s
-mul-s c = search needs
+mul-put : tie.Need-mul-put
+mul-put c = search needs
 
-element-set-from-s : tie.Need-element-set-from-s
-element-set-from-s c = search needs
+element-set-from-put : tie.Need-element-set-from-put
+element-set-from-put c = search needs
 
 returns : tie.Need-returns
 returns c =
@@ -16,4 +16,4 @@ returns c =
     ledger-handed (a .t1 .slots) (a .t1 .counters) (l .counters) (a .slot) (record { counts = l .counts; loaded = l .loaded; last = l .last })
 
 pub with-ledger-spec : {M : Type 1} → statement M
-with-ledger-spec = tie.close (tie.spec mul-s element-set-from-s returns)
+with-ledger-spec = tie.close (tie.spec mul-put element-set-from-put returns)
