@@ -1,10 +1,28 @@
 /* Akubolinfe for C programs: the permission gate, for one key and for a cabinet of eight, the attestation desk, the trimming
- * tool, the subject writer, and ACLs as text.
+ * tool, the subject writer, and ACLs as text. x86-64 Linux.
  *
- * Each function takes any bytes of any length; none has a condition. A run of bytes is a pointer and a length; where the
- * length is zero the pointer may be NULL. The runs of one call may overlap, except that a buffer that is written must not
- * overlap any other. Nothing is kept between calls: the ledger, or the cabinet, goes in by value and comes back. A refusal hands it
- * back as it was and leaves the buffer. Link with libhost.a (`rt staticlib host`), x86-64 Linux. */
+ * Every function takes any bytes, of any length, and any numbers, and returns; what is wrong with them it answers with a number. A
+ * refusal hands ledger or cabinet back as it was, and leaves every buffer as it was.
+ *
+ * What the caller has to see to:
+ *
+ * - A run of bytes is a pointer and a length. The pointer leads to that many bytes, and nothing else changes them before the
+ *   call returns. Where the length is zero nothing is read or written, and the pointer may be NULL.
+ * - Runs that are only read (`const`) may overlap. A buffer that is written must not overlap any other run of the same call,
+ *   the other buffer of a trimming among them.
+ * - Bytes need no alignment. A row of certificates is an array of `akubolinfe_certificate`, aligned as C aligns that type (2 bytes),
+ *   and its length counts certificates, not bytes.
+ * - Nothing is kept between calls, and there is no global state. Threads may call at the same time. The ledger or the cabinet goes in by
+ *   value and comes back by value: hand the one that came back last to the next call, and let calls on one key, or on one cabinet,
+ *   follow each other; of two calls that start from the same ledger one is forgotten.
+ * - Structs by value are large: a ledger has 1,296 bytes, a cabinet 3,200. A call needs some kilobytes of stack (`bench/measure
+ *   stack` prints how many), and its result is as large as the struct that it took.
+ * - Lend the ACL that is in force, the KM0 hash of the module and the true time. No function looks at a clock, and none knows whether a
+ *   presented certificate or a signature reported as good was checked.
+ *
+ * Build and install it with `make -C host install PREFIX=..`, which installs this header, the library as libakubolinfe.a and a
+ * pkg-config file, and link with `pkg-config --cflags --libs akubolinfe`. Within the repository the library has the name that `rt staticlib
+ * host` gives it, target/staticlib/libhost.a; it is the same file. */
 #ifndef AKUBOLINFE_H
 #define AKUBOLINFE_H
 
