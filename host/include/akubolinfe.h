@@ -15,8 +15,8 @@
  * - Nothing is kept between calls, and there is no global state. Threads may call at the same time. The ledger or the cabinet goes in by
  *   value and comes back by value: hand the one that came back last to the next call, and let calls on one key, or on one cabinet,
  *   follow each other; of two calls that start from the same ledger one is forgotten.
- * - Structs by value are large: a ledger has 1,296 bytes, a cabinet 3,200. A call needs some kilobytes of stack (`bench/measure
- *   stack` prints how many), and its result is as large as the struct that it took.
+ * - Structs by value are large: a ledger has 1,296 bytes, a cabinet 3,200, and each comes back within the result. Besides these a
+ *   call needs some kilobytes of stack (`bench/measure stack` prints how many).
  * - Lend the ACL that is in force, the KM0 hash of the module and the true time. No function looks at a clock, and none knows whether a
  *   presented certificate or a signature reported as good was checked.
  *
