@@ -6,10 +6,10 @@
  *
  * What the caller has to see to:
  *
- * - A run of bytes is a pointer and a length. The pointer leads to that many bytes, and nothing else changes them before the
+ * - Bytes are lent as a pointer and a length. The pointer leads to that many bytes, and nothing else changes them before the
  *   call returns. Where the length is zero nothing is read or written, and the pointer may be NULL.
- * - Runs that are only read (`const`) may overlap. A buffer that is written must not overlap any other run of the same call,
- *   the other buffer of a trimming among them.
+ * - What is only read (`const`) may overlap. A buffer that is written must not overlap anything else that is lent to the same call,
+ *   nor the other buffer of a trimming.
  * - Bytes need no alignment. A row of certificates is an array of `akubolinfe_certificate`, aligned as C aligns that type (2 bytes),
  *   and its length counts certificates, not bytes.
  * - Nothing is kept between calls, and there is no global state. Threads may call at the same time. The ledger or the cabinet goes in by
