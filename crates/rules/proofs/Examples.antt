@@ -147,7 +147,7 @@ guards =
     ∷ []
 
 -- Document 02, request f, over a Sign group whose certifier is key 9 at mechanism 1: one delegation; four; four in another order; five; a mask without
--- the bit; a delegation the wrong way round; a loop beside a chain, and alone; a repeated delegation; another mechanism on the presented certificate;
+-- the bit, of the last delegation, of the first and of one between; a delegation the wrong way round; a loop beside a chain, and alone; a repeated delegation; another mechanism on the presented certificate;
 -- a chain that starts elsewhere. Then a blob request, by a chain and by the certifier's own certificate. Then files: a certificate after a delegation,
 -- a malformed delegation, a seventeenth.
 unfoldable pub delegations : List Example
@@ -157,6 +157,8 @@ delegations =
     ∷ gate 0 certifiedGroup (sign 5 ++ certificate 13 1 ++ signLink 12 13 ++ signLink 11 12 ++ signLink 10 11 ++ signLink 9 10) is permits 0 5
     ∷ gate 0 certifiedGroup (sign 5 ++ certificate 13 1 ++ signLink 9 10 ++ signLink 10 11 ++ signLink 11 12 ++ signLink 12 14 ++ signLink 14 13) is refusesNear 6 0 0
     ∷ gate 0 certifiedGroup (sign 5 ++ certificate 13 1 ++ signLink 9 10 ++ decryptLink 10 13) is refusesNear 6 0 0
+    ∷ gate 0 certifiedGroup (sign 5 ++ certificate 13 1 ++ decryptLink 9 10 ++ signLink 10 13) is refusesNear 6 0 0
+    ∷ gate 0 certifiedGroup (sign 5 ++ certificate 13 1 ++ signLink 9 10 ++ decryptLink 10 11 ++ signLink 11 13) is refusesNear 6 0 0
     ∷ gate 0 certifiedGroup (sign 5 ++ certificate 13 1 ++ signLink 13 9) is refusesNear 6 0 0
     ∷ gate 0 certifiedGroup (sign 5 ++ certificate 13 1 ++ signLink 9 10 ++ signLink 10 9 ++ signLink 10 13) is permits 0 5
     ∷ gate 0 certifiedGroup (sign 5 ++ certificate 13 1 ++ signLink 9 10 ++ signLink 10 9 ++ signLink 9 9) is refusesNear 6 0 0

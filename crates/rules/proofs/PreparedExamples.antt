@@ -56,11 +56,15 @@ pub record PreparedRows : Type 0 where
   pub recovery-blob : formed (signGroup ++ openGroup ++ archive) [] (signGroup ++ openGroup ++ archive) recovery (replicate 8 8) ≡ states (ran 1) (answer 0 1) (0 ∷ 1 ∷ [])
   pub other-form : formed two [] signGroup (sign 5) (replicate 8 8) ≡ states (refusedWhole 14) (replicate 8 8) (0 ∷ 0 ∷ [])
   pub short-buffer-first : formed two [] signGroup (sign 5) (replicate 7 8) ≡ states (refusedWhole 9) (replicate 7 8) (0 ∷ 0 ∷ [])
+  pub row-before-form : formed two (replicate 33 (record { hash = hash 9; mechanism = 1 })) signGroup (sign 5) (replicate 8 8) ≡ states (refusedWhole 3) (replicate 8 8) (0 ∷ 0 ∷ [])
+  pub acl-before-form : formed (openGroup ++ keyless) [] signGroup (sign 5) (replicate 8 8) ≡ states (refusedWhole 12) (replicate 8 8) (0 ∷ 0 ∷ [])
   pub own-form : given mixed ≡ states (ran 1) (answer 0 0) (1 ∷ 0 ∷ [])
   pub use-too-many : given (signing 3 2 2) ≡ refused-14
   pub use-too-few : given (signing 0 2 2) ≡ refused-14
   pub other-permission : given (record { uses = 0 ∷ 0 ∷ 0 ∷ 1 ∷ 0 ∷ replicate 11 0; working = 2; recovery = 2 }) ≡ refused-14
   pub working-too-many : given (signing 1 3 2) ≡ refused-14
+  pub working-too-few : given (signing 1 0 2) ≡ refused-14
+  pub recovery-too-many : given (signing 1 2 3) ≡ refused-14
   pub recovery-too-few : given (signing 1 2 0) ≡ refused-14
   pub run-of-1000 : replied 1000 8000 ≡ ran 1000
   pub run-of-1001 : replied 1001 8008 ≡ refusedWhole 1
@@ -77,11 +81,15 @@ prepared-rows =
       recovery-blob = refl;
       other-form = refl;
       short-buffer-first = refl;
+      row-before-form = refl;
+      acl-before-form = refl;
       own-form = refl;
       use-too-many = refl;
       use-too-few = refl;
       other-permission = refl;
       working-too-many = refl;
+      working-too-few = refl;
+      recovery-too-many = refl;
       recovery-too-few = refl;
       run-of-1000 = refl;
       run-of-1001 = refl;

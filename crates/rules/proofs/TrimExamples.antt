@@ -6,7 +6,7 @@ use mathlib.Core.List.{List, [], _∷_, _++_}
 use lib.ListN.{length, take, drop, replicate}
 use Rattle.rules.specs.Sizes.{recordBytes}
 use Rattle.rules.specs.Basics.{Bytes}
-use Rattle.rules.specs.Desk.{WV1, KV3, CSRL1, approach1, Verdict, accepted, failed, desk}
+use Rattle.rules.specs.Desk.{WV1, MSCV3, KV3, CSRL1, approach1, Verdict, accepted, failed, desk}
 use Rattle.rules.specs.Trim.{TrimReply, trimmed, untrimmed, unread, trimReply, trimAclBuffer, trimHintBuffer}
 use Rattle.rules.proofs.Computing.{computing}
 use Rattle.rules.proofs.Samples.{rec, hash, fact, openGroup, bundle, bundleWith, signedWell, blob, cardset, onDevices, keyless}
@@ -76,6 +76,10 @@ underPolicy approach lowest = before ++ rec (12 ∷ 0 ∷ 0 ∷ 0 ∷ 3 ∷ appr
 abbrev otherRequest : Bytes
 otherRequest = take (9 * recordBytes) bundle ++ fact 10 (hash 9) ++ drop (10 * recordBytes) bundle
 
+-- under approach 1, with a state certificate of another module, which fails MSCV3: a step that approach 1 does not run
+abbrev otherModule : Bytes
+otherModule = take recordBytes bundle ++ fact 2 (hash 2) ++ drop (2 * recordBytes) (underPolicy 1 1)
+
 -- what the tool comes to, and what request l states
 abbrev computed : List Trial
 computed =
@@ -90,6 +94,7 @@ computed =
     ∷ trial (underPolicy 1 1) storedLoose 192 64
     ∷ trial (underPolicy 2 4) storedLoose 192 64
     ∷ trial otherRequest storedLoose 192 64
+    ∷ trial otherModule storedLoose 192 64
     ∷ []
 
 abbrev stated : List Trial
@@ -105,16 +110,17 @@ stated =
     ∷ stored
     ∷ stored
     ∷ stored
+    ∷ nothing (untrimmed MSCV3) 192 64
     ∷ []
 
 pub trials-hold : computed ≡ stated
 unfolding computing
 trials-hold = refl
 
--- what the desk says of the last three
+-- what the desk says of the last four
 abbrev verdicts : List Verdict
-verdicts = desk (underPolicy 1 1) storedTight ∷ desk (underPolicy 2 4) storedTight ∷ desk otherRequest storedTight ∷ []
+verdicts = desk (underPolicy 1 1) storedTight ∷ desk (underPolicy 2 4) storedTight ∷ desk otherRequest storedTight ∷ desk otherModule storedTight ∷ []
 
-pub verdicts-hold : verdicts ≡ accepted approach1 ∷ failed KV3 ∷ failed CSRL1 ∷ []
+pub verdicts-hold : verdicts ≡ accepted approach1 ∷ failed KV3 ∷ failed CSRL1 ∷ accepted approach1 ∷ []
 unfolding computing
 verdicts-hold = refl

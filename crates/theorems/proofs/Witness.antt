@@ -9,16 +9,17 @@ use mathlib.Core.Option.{Option, none, some}
 use mathlib.Core.Bool.{true, false, false≢true}
 use Rattle.rules.specs.Basics.{Bytes, records, bothSame}
 use Rattle.rules.specs.Acl.{aclOf}
+use Rattle.rules.specs.Request.{WorkingBlob}
 use Rattle.rules.specs.Ledger.{freshLedger, loadedAt}
 use Rattle.rules.specs.Grant.{nullKey}
-use Rattle.rules.specs.Gate.{Answer, done, permit, refuse}
+use Rattle.rules.specs.Gate.{Answer, done, permit, refuse, request}
 use Rattle.rules.specs.Bundle.{policyOf}
-use Rattle.rules.specs.Desk.{Grade, approach2, accepted, classOf, policyAdmits, desk}
+use Rattle.rules.specs.Desk.{Grade, approach2, accepted, classOf, policyAdmits, desk, blobProtection}
 use Rattle.rules.proofs.Computing.{computing}
-use Rattle.rules.proofs.Samples.{rec, timed, hash, openGroup, limited, sign, decrypt, certificate, signLink, decryptLink, reduce, hint, bundle, blob, cardset, archive, delegation, storedArchive, onDevices, recovery, storedRecovery}
-use Rattle.theorems.specs.Demands.{Call, requesting, loading, narrowing, State, outcome, after, byOfficer, officerSigned, asked, Allowed, EveryPermit}
+use Rattle.rules.proofs.Samples.{rec, timed, hash, openGroup, limited, sign, decrypt, certificate, signLink, decryptLink, reduce, hint, hintTo, bundle, blob, cardset, softcard, archive, delegation, storedArchive, onDevices, recovery, storedRecovery}
+use Rattle.theorems.specs.Demands.{Call, requesting, loading, clearing, narrowing, State, outcome, after, byOfficer, officerSigned, asked, Allowed, EveryPermit}
 use Rattle.theorems.specs.Account.{AllPutDown, isExpansion}
-use Rattle.theorems.specs.Exhibit.{certificatesFor, BlobPermitted}
+use Rattle.theorems.specs.Exhibit.{certificatesFor, blobRequestFile, BlobPermitted}
 use Rattle.theorems.proofs.Demand3.{demand-3}
 use Rattle.theorems.proofs.Uses.{no-expansion}
 use Rattle.theorems.proofs.Cautious.{grade-reached-exhibited}
@@ -99,6 +100,36 @@ reached-witness =
     grade-reached-exhibited bundle kept (record { protection = 3; recoverable = false }) refl (omega arith) (refl, tt) ((refl, tt), tt) ((refl, tt), tt)
     (λ e. false≢true (ap (λ (h : Option Bytes). bothSame h (some nullKey)) e)) (hash 6) refl ((inr refl, tt), tt) freshLedger 7 9 (omega arith) (omega arith) .0
 
+-- .. and the same computed: the certificates that are built, the request's bytes, the gate's answer to them, and the blob's protection.
+abbrev pub keptBlob : WorkingBlob
+keptBlob = record { key = hash 6; token = some (record { hash = hash 20; parameters = record { flags = 0; needed = 1; total = 2; timeLimit = 0 } }) }
+
+abbrev pub keptRequest : Bytes
+keptRequest = timed (7 ∷ 0 ∷ 0 ∷ 1 ∷ [] ++ hash 6 ++ hash 20 ++ cardset) 9 ++ certificate 9 1
+
+pub reached-computed : (certificatesFor (aclOf kept) ≡ record { hash = hash 9; mechanism = 1 } ∷ [])
+    × (blobRequestFile keptBlob 9 (certificatesFor (aclOf kept)) ≡ keptRequest)
+    × (request (loadedAt freshLedger 7) (hash 6) kept keptRequest .answer ≡ permit 0)
+    × (blobProtection (records bundle) keptBlob ≡ 3)
+unfolding certificatesFor computing
+reached-computed = (refl, refl, refl, refl)
+
+-- The other two protections, in an open group, under another KM0: 1 by AllowKmOnly, and 2 by a softcard beside a cardset.
+pub reached-direct : BlobPermitted bundle (openGroup ++ blob 7 (hash 0) []) (hash 0) (loadedAt freshLedger 7) 9 1 []
+unfolding certificatesFor computing
+reached-direct =
+    grade-reached-exhibited bundle (openGroup ++ blob 7 (hash 0) []) (record { protection = 1; recoverable = false }) refl (omega arith) (refl, tt) ((refl, tt), tt) ((refl, tt), tt)
+    (λ e. false≢true (ap (λ (h : Option Bytes). bothSame h (some nullKey)) e)) (hash 0) refl ((inl refl, tt), tt) freshLedger 7 9 (omega arith) (omega arith) .0
+
+abbrev pub soft : Bytes
+soft = openGroup ++ blob 30 (hash 20) cardset ++ blob 30 (hash 21) softcard
+
+pub reached-softcard : BlobPermitted bundle soft (hash 0) (loadedAt freshLedger 7) 9 2 []
+unfolding certificatesFor computing
+reached-softcard =
+    grade-reached-exhibited bundle soft (record { protection = 2; recoverable = false }) refl (omega arith) (refl, tt) ((refl, (refl, tt)), tt) ((refl, (refl, tt)), tt)
+    (λ e. false≢true (ap (λ (h : Option Bytes). bothSame h (some nullKey)) e)) (hash 0) refl ((inl refl, (inl refl, tt)), tt) freshLedger 7 9 (omega arith) (omega arith) .0
+
 -- Request m does as well. Three uses per load, of Sign or ReduceACL; a use, a narrowing to the same limit, a use: the fourth is refused, for the narrowing
 -- gave none back. A reload does. Each permit is put down to group 0 of the first ACL, by an account that is charged for it alone.
 abbrev pub three : Bytes
@@ -125,4 +156,41 @@ narrowed-witness = (
   refl,
   no-expansion loaded narrowed (refl, (refl, (refl, (refl, (refl, (refl, tt)))))),
   (0, _, refl, refl, (0, _, refl, refl, (0, _, refl, refl, (0, _, refl, refl, tt)))),
+)
+
+-- .. and with a named counter, a clear, a blob that is stored and a use by a chain of delegations. Group 0 may be used twice by counter 3; the narrowing,
+-- which is the second use, takes one device from it. The stored blob after that is refused until the counter is cleared.
+abbrev pub counted : Bytes → Bytes → Bytes
+counted action devices = openGroup ++ rec (2 ∷ 0 ∷ 0 ∷ 0 ∷ 2 ∷ 3 ∷ 0 ∷ 0 ∷ 0 ∷ 0 ∷ 0 ∷ 2 ∷ []) ++ action ++ storedArchive ++ devices
+
+abbrev pub decrypting : Bytes
+decrypting = rec (1 ∷ 0 ∷ 0 ∷ 3 ∷ [] ++ hash 9 ++ (0 ∷ 1 ∷ [])) ++ rec (3 ∷ 0 ∷ 0 ∷ 0 ∷ 2 ∷ 0 ∷ [])
+
+abbrev pub storing : Bytes
+storing = counted (rec (3 ∷ 0 ∷ 0 ∷ 0 ∷ 0 ∷ 0x14 ∷ [])) (onDevices 5) ++ decrypting
+
+abbrev pub storedLater : Bytes
+storedLater = timed (8 ∷ 0 ∷ 0 ∷ 64 ∷ [] ++ hash 7 ++ (0 ∷ 2 ∷ [])) 6 ++ onDevices 4
+
+abbrev pub presenting : List Call
+presenting =
+    requesting (hash 0) (storedRecovery ++ onDevices 4)
+    ∷ narrowing (hash 0) (reduce 6) (counted [] (onDevices 4) ++ decrypting) (hintTo 0 1 ++ hint 1)
+    ∷ requesting (hash 0) storedLater
+    ∷ clearing 3
+    ∷ requesting (hash 0) storedLater
+    ∷ requesting (hash 0) (decrypt 6 ++ certificate 13 1 ++ decryptLink 9 10 ++ decryptLink 10 13)
+    ∷ []
+
+abbrev pub stocked : State
+stocked = record { ledger = loadedAt freshLedger 5; acl = storing }
+
+pub presented-witness : (replies stocked presenting ≡ (permit 0 ∷ permit 0 ∷ refuse 7 (some 0) ∷ done ∷ permit 0 ∷ permit 1 ∷ []))
+    × EveryPermit (λ s c. isExpansion c ≡ false) stocked presenting
+    × AllPutDown (aclOf storing) (loadedAt freshLedger 5) stocked presenting
+unfolding outcome after computing
+presented-witness = (
+  refl,
+  no-expansion stocked presenting (refl, (refl, (refl, (refl, (refl, (refl, tt)))))),
+  (0, _, refl, refl, (0, _, refl, refl, (0, _, refl, refl, (1, _, refl, refl, tt)))),
 )
