@@ -1,15 +1,22 @@
 -- The cabinet's examples, as one table that antt computes: each row is the answer and the whole cabinet handed back. Two wrong products that it rules
--- out: a cabinet whose load changes another slot, and a cabinet that takes slot 8.
+-- out: a cabinet whose load changes another slot, and a cabinet that takes slot 8. Then runs in a slot, each a field, so that one that does not hold is
+-- named.
 use Prim.Native.Nat.{ℕ, _-_}
 use mathlib.Core.Path.{_≡_, refl}
 use mathlib.Core.List.{List, [], _∷_, _++_, map}
 use mathlib.Core.Option.{none, some}
 use lib.ListN.{length, replicate}
 use Rattle.rules.specs.Sizes.{groupsMax, countersMax, slotsMax}
+use Rattle.rules.specs.Basics.{Bytes}
+use Rattle.rules.specs.Acl.{aclOf}
 use Rattle.rules.specs.Gate.{Answer, done, permit, refuse}
 use Rattle.rules.specs.Cabinet.{Slot, Cabinet, freshSlot, freshCabinet, CabinetOutcome, cabinetRequest, cabinetLoad, cabinetClear, cabinetNarrow, cabinetExpand}
+use Rattle.rules.specs.Runs.{RunReply, ran, refusedWhole}
+use Rattle.rules.specs.Prepared.{formOf}
+use Rattle.rules.specs.CabinetRuns.{CabinetRan, cabinetRun, cabinetPreparedRun}
 use Rattle.rules.proofs.Computing.{computing}
-use Rattle.rules.proofs.Samples.{hash, signGroup, sign, counting, reducible, expandable, reduce, enlarge, hint}
+use Rattle.rules.proofs.Samples.{repeated, hash, signGroup, sign, counting, reducible, expandable, reduce, enlarge, hint}
+use Rattle.rules.proofs.RunExamples.{answer}
 
 -- a slot whose counts begin so and are zero from there on
 abbrev slot : List ℕ → ℕ → ℕ → Slot
@@ -63,3 +70,33 @@ rows =
 pub cabinet-examples-hold : map (λ r. r .computed) rows ≡ map (λ r. record { answer = r .answer; cabinet = r .after }) rows
 unfolding computing
 cabinet-examples-hold = refl
+
+-- what a run in a slot comes to
+abbrev hands : RunReply → Cabinet → Bytes → CabinetRan
+hands reply cabinet buffer = record { reply = reply; cabinet = cabinet; buffer = buffer }
+
+-- of two Signs by counter 3 in slot 1, the first is permitted: the slot and the shared counter are charged for it, and slot 0 stands
+abbrev inSlot1 : CabinetRan
+inSlot1 = hands (ran 2) (cabinetOf (slot (1 ∷ []) 2 4 ∷ slot (3 ∷ 1 ∷ []) 3 5 ∷ []) (0 ∷ 0 ∷ 0 ∷ 2 ∷ [])) (answer 0 0 ++ answer 7 0 ++ (8 ∷ 8 ∷ []))
+
+-- "as the gate would with its counts, times and the shared table"; 13 "first of all", before the lengths of a run, its ACL and its form; a run that is
+-- refused whole leaves cabinet and buffer
+pub record SlotRunRows : Type 0 where
+  pub run-in-slot-1 : cabinetRun used 1 (hash 0) (counting 3 2) [] (sign 5 ++ sign 6) (replicate 18 8) ≡ inSlot1
+  pub prepared-in-slot-1 : cabinetPreparedRun used 1 (hash 0) (counting 3 2) [] (formOf (aclOf (counting 3 2))) (sign 5 ++ sign 6) (replicate 18 8) ≡ inSlot1
+  pub run-in-slot-8 : cabinetRun used 8 [] (0 ∷ []) [] (repeated 101 (sign 5)) [] ≡ hands (refusedWhole 13) used []
+  pub prepared-in-slot-8 : cabinetPreparedRun used 8 [] (0 ∷ []) [] (formOf []) (sign 5) (replicate 8 8) ≡ hands (refusedWhole 13) used (replicate 8 8)
+  pub short-in-slot-1 : cabinetRun used 1 (hash 0) (counting 3 2) [] (sign 5) (replicate 7 8) ≡ hands (refusedWhole 9) used (replicate 7 8)
+  pub other-form-in-slot-1 : cabinetPreparedRun used 1 (hash 0) (counting 3 2) [] (formOf []) (sign 5) (replicate 8 8) ≡ hands (refusedWhole 14) used (replicate 8 8)
+
+pub slot-run-rows : SlotRunRows
+unfolding computing
+slot-run-rows =
+    record {
+      run-in-slot-1 = refl;
+      prepared-in-slot-1 = refl;
+      run-in-slot-8 = refl;
+      prepared-in-slot-8 = refl;
+      short-in-slot-1 = refl;
+      other-form-in-slot-1 = refl;
+    }
