@@ -147,9 +147,9 @@ guards =
     ∷ []
 
 -- Document 02, request f, over a Sign group whose certifier is key 9 at mechanism 1: one delegation; four; four in another order; five; a mask without
--- the bit, of the last delegation, of the first and of one between; a delegation the wrong way round; a loop beside a chain, and alone; a repeated delegation; another mechanism on the presented certificate;
+-- the bit; a delegation the wrong way round; a loop beside a chain, and alone; a repeated delegation; another mechanism on the presented certificate;
 -- a chain that starts elsewhere. Then a blob request, by a chain and by the certifier's own certificate. Then files: a certificate after a delegation,
--- a malformed delegation, a seventeenth.
+-- a malformed delegation, a seventeenth. Last, a mask without the bit again, that of the first delegation and that of one between others.
 unfoldable pub delegations : List Example
 delegations =
     gate 0 certifiedGroup (sign 5 ++ certificate 13 1 ++ signLink 9 13) is permits 0 5
@@ -157,8 +157,6 @@ delegations =
     ∷ gate 0 certifiedGroup (sign 5 ++ certificate 13 1 ++ signLink 12 13 ++ signLink 11 12 ++ signLink 10 11 ++ signLink 9 10) is permits 0 5
     ∷ gate 0 certifiedGroup (sign 5 ++ certificate 13 1 ++ signLink 9 10 ++ signLink 10 11 ++ signLink 11 12 ++ signLink 12 14 ++ signLink 14 13) is refusesNear 6 0 0
     ∷ gate 0 certifiedGroup (sign 5 ++ certificate 13 1 ++ signLink 9 10 ++ decryptLink 10 13) is refusesNear 6 0 0
-    ∷ gate 0 certifiedGroup (sign 5 ++ certificate 13 1 ++ decryptLink 9 10 ++ signLink 10 13) is refusesNear 6 0 0
-    ∷ gate 0 certifiedGroup (sign 5 ++ certificate 13 1 ++ signLink 9 10 ++ decryptLink 10 11 ++ signLink 11 13) is refusesNear 6 0 0
     ∷ gate 0 certifiedGroup (sign 5 ++ certificate 13 1 ++ signLink 13 9) is refusesNear 6 0 0
     ∷ gate 0 certifiedGroup (sign 5 ++ certificate 13 1 ++ signLink 9 10 ++ signLink 10 9 ++ signLink 10 13) is permits 0 5
     ∷ gate 0 certifiedGroup (sign 5 ++ certificate 13 1 ++ signLink 9 10 ++ signLink 10 9 ++ signLink 9 9) is refusesNear 6 0 0
@@ -170,6 +168,8 @@ delegations =
     ∷ gate 0 certifiedGroup (sign 5 ++ signLink 9 13 ++ certificate 13 1) is refuses 2 0
     ∷ gate 0 certifiedGroup (sign 5 ++ certificate 13 1 ++ rec (14 ∷ 0 ∷ 0 ∷ 0 ∷ [] ++ hash 9 ++ hash 13 ++ (0 ∷ 16 ∷ 1 ∷ []))) is refuses 2 0
     ∷ gate 0 certifiedGroup (sign 5 ++ concat (replicate 17 (signLink 9 13))) is refuses 3 0
+    ∷ gate 0 certifiedGroup (sign 5 ++ certificate 13 1 ++ decryptLink 9 10 ++ signLink 10 13) is refusesNear 6 0 0
+    ∷ gate 0 certifiedGroup (sign 5 ++ certificate 13 1 ++ signLink 9 10 ++ decryptLink 10 11 ++ signLink 11 13) is refusesNear 6 0 0
     ∷ []
 
 -- what is computed is what is stated, row by row
