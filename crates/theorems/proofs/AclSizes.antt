@@ -21,6 +21,7 @@ use Rattle.rules.proofs.Laws.{never, and-left, and-right, and-both, not-both, o
 use Rattle.rules.proofs.Rows.{records-sized}
 use Rattle.rules.proofs.Places.{limit-placed}
 use Rattle.theorems.specs.Sizes.{LimitFits, Apart, GroupFits, AclFits}
+use Rattle.theorems.proofs.AclFile.{same-count}
 
 ruleset conj = (and-left, and-right, and-both)
 
@@ -204,15 +205,6 @@ group-room : (s : AclPlace) (r : Bytes) → eqb (kind r) 1 ≡ true → hasRoom 
 unfolding hasRoomUnder
 group-room s r q e = ltb-true (s .groups) groupsMax (rw q at e)
 
-same-groups : (s : AclPlace) (r : Bytes) → eqb (kind r) 1 ≡ false → afterRecord s r .groups ≡ s .groups
-unfolding afterRecord
-same-groups s r q = pick (eqb (kind r) 2) refl (eqb (kind r) 15) refl
-  where
-    pick : (b : Bool) → eqb (kind r) 2 ≡ b → (c : Bool) → eqb (kind r) 15 ≡ c → afterRecord s r .groups ≡ s .groups
-    pick true d c t = rw (q, d)
-    pick false d true t = rw (q, d, t)
-    pick false d false t = rw (q, d, t)
-
 -- a group whose record was read just before the rest
 group-fits : (s : AclPlace) (r : Bytes) (rs : List Bytes) → s .limits ≡ [] → s .actions ≡ 0 → Whole rs → Reads s rs → GroupFits (groupOf r rs)
 group-fits s r rs p q w e =
@@ -240,7 +232,7 @@ groups-fit s (r ∷ rs) w e h = pick (eqb (kind r) 1) refl (first-record s r rs 
         let z = f (a .2) (omega (arith, k .0)) in
         rw q (omega (arith, k .0, z .0), (group-fits (afterRecord s r) r rs (k .1) (k .2) (w .1) (a .2), z .1))
     pick false q a f =
-        let k = same-groups s r q in
+        let k = same-count s r q in
         let z = f (a .2) (omega arith) in
         rw q (omega (arith, z .0), z .1)
 

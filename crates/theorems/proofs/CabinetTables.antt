@@ -7,7 +7,7 @@ use mathlib.Core.Logic.{_⊎_, inl, inr}
 use mathlib.Core.List.{List, [], _∷_}
 use mathlib.Core.Option.{some}
 use mathlib.Core.Bool.{Bool, true, false}
-use lib.ListN.{length, getD, set, replicate, length-replicate}
+use lib.ListN.{length, getD, length-replicate}
 use lib.Dec.{ltb}
 use borrow.Author.Tests.{ltb-true}
 use Rattle.rules.specs.Sizes.{groupsMax, countersMax, slotsMax}
@@ -17,28 +17,14 @@ use Rattle.rules.specs.Cabinet.{Slot, Cabinet, countsAndTimes, freshSlot, fresh
 use Rattle.theorems.specs.Demands.{outcome}
 use Rattle.theorems.specs.Cabinets.{CabinetCall, clearingAll, cabinetAfter, cabinetAfterAll, slotIn, lentIn, gateCall, gateOutcome}
 use Rattle.theorems.proofs.Tables.{fresh-sized, call-sized}
-use Rattle.theorems.proofs.Bounds.{Held, fresh-bounded, call-bounded}
+use Rattle.theorems.proofs.Bounds.{Held, every-set, every-getD, every-replicate, fresh-bounded, call-bounded}
 use Rattle.theorems.proofs.Slots.{kinds, in-slot, clears-everywhere, clear-slots, slots-kept}
 
 module _ {A : Type 0} (P : A → Type 0) where
-  every-set : (xs : List A) (i : ℕ) (x : A) → P x → Every P xs → Every P (set xs i x)
-  every-set [] i x p h = tt
-  every-set (y ∷ ys) zero x p h = (p, h .1)
-  every-set (y ∷ ys) (suc i) x p h = (h .0, every-set ys i x p (h .1))
-
-  every-getD : (xs : List A) (i : ℕ) (d : A) → P d → Every P xs → P (getD xs i d)
-  every-getD [] i d p h = p
-  every-getD (y ∷ ys) zero d p h = h .0
-  every-getD (y ∷ ys) (suc i) d p h = every-getD ys i d p (h .1)
-
   every-within : (xs : List A) (i : ℕ) (d : A) → i < length xs → Every P xs → P (getD xs i d)
   every-within [] i d b h = absurd (omega arith)
   every-within (y ∷ ys) zero d b h = h .0
   every-within (y ∷ ys) (suc i) d b h = every-within ys i d (omega arith) (h .1)
-
-  every-replicate : (n : ℕ) (x : A) → P x → Every P (replicate n x)
-  every-replicate zero x p = tt
-  every-replicate (suc n) x p = (p, every-replicate n x p)
 
 -- What the gate keeps of a ledger's counts and of its counters, the cabinet keeps of every slot's counts and of the shared counters.
 module _ (P : List ℕ → Type 0) (Q : List ℕ → Type 0) (keeps : (l : Ledger) (x : CabinetCall) → P (l .counts) → Q (l .counters) → P (gateOutcome l x .ledger .counts) × Q (gateOutcome l x .ledger .counters)) (c : Cabinet) (at : (k : ℕ) → k < slotsMax → P (slotAt c k .counts)) where

@@ -140,12 +140,12 @@ gateNumbers (narrowingAt slot km0 acl req new hints) = narrowNumbers
 gateNumbers (expandingAt slot km0 acl req new) = requestNumbers
 
 -- .. and those that the cabinet gives: 13 besides, where the call has a slot
+abbrev pub slotNumbers : Option ℕ → List ℕ → List ℕ
+slotNumbers none ns = ns
+slotNumbers (some slot) ns = noSlot ∷ ns
+
 abbrev pub cabinetNumbers : CabinetCall → List ℕ
-cabinetNumbers (requestingAt slot km0 acl req) = noSlot ∷ requestNumbers
-cabinetNumbers (loadingAt slot time) = noSlot ∷ []
-cabinetNumbers (clearingAll counter) = outOfRange ∷ []
-cabinetNumbers (narrowingAt slot km0 acl req new hints) = noSlot ∷ narrowNumbers
-cabinetNumbers (expandingAt slot km0 acl req new) = noSlot ∷ requestNumbers
+cabinetNumbers x = slotNumbers (slotIn x) (gateNumbers x)
 
 gate-number : (l : Ledger) (x : CabinetCall) → RefusalIn (gateNumbers x) (gateOutcome l x)
 unfolding outcome
@@ -167,15 +167,8 @@ not-13 (expandingAt slot km0 acl req new) = refl
 -- a number of a call to a slot is 13, or one of the gate's
 either-number : (x : CabinetCall) (k n : ℕ) → slotIn x ≡ some k → (n ≡ noSlot) ⊎ (oneOf (gateNumbers x) n ≡ true) → oneOf (cabinetNumbers x) n ≡ true
 unfolding oneOf any
-either-number (requestingAt slot km0 acl req) k n e (inl q) = rw q
-either-number (requestingAt slot km0 acl req) k n e (inr q) = or-right (eqb noSlot n) _ q
-either-number (loadingAt slot time) k n e (inl q) = rw q
-either-number (loadingAt slot time) k n e (inr q) = or-right (eqb noSlot n) _ q
-either-number (clearingAll counter) k n e q = absurd (never (cc))
-either-number (narrowingAt slot km0 acl req new hints) k n e (inl q) = rw q
-either-number (narrowingAt slot km0 acl req new hints) k n e (inr q) = or-right (eqb noSlot n) _ q
-either-number (expandingAt slot km0 acl req new) k n e (inl q) = rw q
-either-number (expandingAt slot km0 acl req new) k n e (inr q) = or-right (eqb noSlot n) _ q
+either-number x k n e (inl q) = rw (e, q)
+either-number x k n e (inr q) = rw e (or-right (eqb noSlot n) _ q)
 
 -- Demand 1 for the cabinet, the numbers; 6 and 7 carry a group, and no other does.
 pub cabinet-number : (c : Cabinet) (x : CabinetCall) (n : ℕ) (near : Option ℕ) → cabinetOutcome c x .answer ≡ refuse n near → Numbered (cabinetNumbers x) n near
