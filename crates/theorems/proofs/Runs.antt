@@ -12,10 +12,11 @@ use Rattle.rules.specs.Basics.{Bytes, records}
 use Rattle.rules.specs.Request.{Certificate, standsAlone, requestRecordFault}
 use Rattle.rules.specs.Ledger.{Ledger}
 use Rattle.rules.specs.Gate.{refuse, refused}
-use Rattle.rules.specs.Runs.{askGate, Ran, answeredFirst, asked, requestsIn, runFault, ran, refusedWhole, runEnd, run}
+use Rattle.rules.specs.Runs.{withRow, askGate, Ran, answeredFirst, asked, requestsIn, runFault, ran, refusedWhole, runEnd, run}
 use Rattle.rules.proofs.Laws.{never}
 use Rattle.rules.proofs.Asking.{Sound, ask-gate}
-use Rattle.theorems.proofs.Demand1.{request-stays}
+use Rattle.theorems.specs.Demands.{requesting, outcome}
+use Rattle.theorems.proofs.Demand1.{refused-ledger}
 
 -- "The answers and ledger of a run not refused whole equal those of asking one by one in order"; "bytes past the last answer stay"
 pub run-one-by-one : (l : Ledger) (km0 acl : Bytes) (row : List Certificate) (requests buffer : Bytes) → runFault runRecords km0 acl row requests buffer ≡ none
@@ -29,8 +30,10 @@ run-one-by-one l km0 acl row requests buffer e = rw e (refl, refl, refl)
 -- "a refusal in the middle changes nothing and the run goes on"
 pub refusal-goes-on : (km0 acl : Bytes) (row : List Certificate) (l : Ledger) (r : Bytes) (rs : List Bytes) (n : ℕ) (near : Option ℕ) → askGate km0 acl row l r .answer ≡ refuse n near
     → asked (askGate km0 acl row) l (r ∷ rs) ≡ answeredFirst (refuse n near) (asked (askGate km0 acl row) l rs)
-unfolding asked
-refusal-goes-on km0 acl row l r rs n near e = rw (e, request-stays l km0 acl _ n near e)
+unfolding asked outcome
+refusal-goes-on km0 acl row l r rs n near e =
+    let q : askGate km0 acl row l r .ledger ≡ l = refused-ledger (record { ledger = l; acl = acl }) (requesting km0 (withRow r row)) n near e in
+    rw (e, q)
 
 -- "A malformed request record gets its own answer 2."; one that announces a record of kind 15 is malformed here
 pub malformed-answered : (km0 acl : Bytes) (row : List Certificate) → Sound km0 acl row → (l : Ledger) (r : Bytes) → length r ≡ recordBytes → standsAlone r ≡ false
