@@ -9,12 +9,12 @@ use borrow.Author.Tests.{ne-eqb}
 use lib.ListN.{length, drop, length-drop}
 use lib.Seq.{length-take-le}
 use lib.Dec.{eqb}
-use Rattle.rules.specs.Basics.{Bytes, Every, same, part, present, implies, bothSame, records}
+use Rattle.rules.specs.Basics.{Bytes, same, part, present, implies, bothSame, records}
 use Rattle.rules.specs.Bundle.{Policy, firstRecord, numbered, field, listed}
 use Rattle.rules.specs.Desk.{isListed}
-use Rattle.rules.proofs.Laws.{never}
 use Rattle.rules.proofs.Rows.{records-sized}
 use Rattle.facts.specs.Found.{orEmpty}
+use Rattle.facts.proofs.Laws.{first-sized}
 use Rattle.evidence.specs.Given.{given}
 
 -- what a part of some bytes stands for
@@ -23,15 +23,6 @@ given-some [] n = absurd (n refl)
 given-some (x ∷ xs) n = refl
 
 -- A record of a file has 64 bytes, so that a field that is there has twenty.
-first-sized : (p : Bytes → Bool) (rs : List Bytes) (r : Bytes) → Every (λ x. length x ≡ 64) rs → firstRecord p rs ≡ some r → length r ≡ 64
-unfolding firstRecord
-first-sized p [] r h e = absurd (never (cc))
-first-sized p (x ∷ xs) r h e = pick (p x) refl (first-sized p xs r (h .1))
-  where
-    pick : (b : Bool) → p x ≡ b → (firstRecord p xs ≡ some r → length r ≡ 64) → length r ≡ 64
-    pick true q f = let d : some x ≡ some r = rw q at e in let g : x ≡ r = cc in rw (← g) (h .0)
-    pick false q f = f (rw q at e)
-
 pub field-given : (n : ℕ) (s : Bytes) → given (orEmpty (field n (records s))) ≡ field n (records s)
 unfolding field
 field-given n s = pick (firstRecord (numbered 10 n) (records s)) refl

@@ -17,7 +17,7 @@ use Rattle.facts.specs.Places.{entered}
 use Rattle.facts.proofs.Places.{first-fact, first-signature, first-policy}
 
 -- A record of a file has 64 bytes, so that an empty part is none.
-first-sized : (p : Bytes → Bool) (rs : List Bytes) (r : Bytes) → Every (λ x. length x ≡ 64) rs → firstRecord p rs ≡ some r → length r ≡ 64
+pub first-sized : (p : Bytes → Bool) (rs : List Bytes) (r : Bytes) → Every (λ x. length x ≡ 64) rs → firstRecord p rs ≡ some r → length r ≡ 64
 unfolding firstRecord
 first-sized p [] r h e = absurd (never (cc))
 first-sized p (x ∷ xs) r h e = pick (p x) refl (first-sized p xs r (h .1))
