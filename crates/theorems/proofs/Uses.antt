@@ -19,7 +19,7 @@ use Rattle.rules.specs.Request.{operation, Request, reduceAcl, requestOf, Hint,
 use Rattle.rules.specs.Ledger.{Ledger, raisedBy, charge, loadedAt, cleared, recounted, carried}
 use Rattle.rules.specs.Grant.{groupAdmits, certified, limitsLeft}
 use Rattle.rules.specs.Narrow.{groupNarrows, narrowsSource, narrowsFrom, narrows}
-use Rattle.rules.specs.Gate.{permit, load, numberOf, nearest, Judgement, granted, denied, grants, judge, refusedNear, refused, permitted, finished, requestFiles, request, clear, narrowFiles, narrow, expandFiles, expand}
+use Rattle.rules.specs.Gate.{Outcome, permit, load, numberOf, nearest, Judgement, granted, denied, grants, judge, refusedNear, refused, permitted, finished, requestFiles, request, clear, narrowFiles, narrow, expandFiles, expand}
 use Rattle.theorems.specs.Demands.{Call, requesting, loading, clearing, narrowing, expanding, State, outcome, after, EveryPermit, names}
 use Rattle.theorems.specs.Account.{PutDown, AllPutDown, isExpansion}
 use Rattle.rules.proofs.Laws.{never, and-left, and-right, and-both, every-map, fault-none-every}
@@ -251,44 +251,53 @@ narrowed-follows first a l gs os ns hs f e b =
         let z = carried-at (λ h. getD (l .counts) (h .source) 0) hs (replicate (groupsMax - length hs) 0) k (r .0) (r .2) in
         (o .0, o .1, w ∙ ap some c, o .3, covers-narrow n (r .0 .actions) (r .1) (o .1) (r .4) (o .4), rw z (o .5))
 
--- The two ways that a request ends, and a narrowing.
-request-ways : (l : Ledger) (km0 acl req : Bytes) → ((f : ℕ) × (near : Option ℕ) × (request l km0 acl req ≡ refusedNear l f near))
+-- the outcome is a refusal, which leaves the ledger
+abbrev Refuses : Ledger → Outcome → Type 0
+Refuses l o = (f : ℕ) × (near : Option ℕ) × (o ≡ refusedNear l f near)
+
+-- a request is refused or permitted ..
+abbrev RequestWays : Ledger → Bytes → Bytes → Bytes → Type 0
+RequestWays l km0 acl req =
+    Refuses l (request l km0 acl req)
     ⊎ ((k : ℕ) × (g : Group) × (requestFiles km0 acl req ≡ none) × (judge l km0 (aclOf acl) (requestOf req) ≡ granted k g) × (request l km0 acl req ≡ permitted k (charge l k g (requestOf req .time))))
+
+request-ways : (l : Ledger) (km0 acl req : Bytes) → RequestWays l km0 acl req
 unfolding request
 request-ways l km0 acl req = pick (requestFiles km0 acl req) refl (judge l km0 (aclOf acl) (requestOf req)) refl
   where
-    pick : (f : Option ℕ) → requestFiles km0 acl req ≡ f → (j : Judgement) → judge l km0 (aclOf acl) (requestOf req) ≡ j
-        → ((f : ℕ) × (near : Option ℕ) × (request l km0 acl req ≡ refusedNear l f near))
-        ⊎ ((k : ℕ) × (g : Group) × (requestFiles km0 acl req ≡ none) × (judge l km0 (aclOf acl) (requestOf req) ≡ granted k g) × (request l km0 acl req ≡ permitted k (charge l k g (requestOf req .time))))
+    pick : (f : Option ℕ) → requestFiles km0 acl req ≡ f → (j : Judgement) → judge l km0 (aclOf acl) (requestOf req) ≡ j → RequestWays l km0 acl req
     pick (some f) p j q = inl (f, none, rw p)
     pick none p (denied f) q = inl (numberOf f, nearest f, rw (p, q))
     pick none p (granted k g) q = inr (k, g, p, q, rw (p, q))
 
-narrow-ways : (l : Ledger) (km0 acl req new hints : Bytes) → ((f : ℕ) × (near : Option ℕ) × (narrow l km0 acl req new hints ≡ refusedNear l f near))
+-- .. and so is a narrowing ..
+abbrev NarrowWays : Ledger → Bytes → Bytes → Bytes → Bytes → Bytes → Type 0
+NarrowWays l km0 acl req new hints =
+    Refuses l (narrow l km0 acl req new hints)
     ⊎ ((k : ℕ) × (g : Group) × (narrowFiles km0 acl req new hints ≡ none) × (judge l km0 (aclOf acl) (requestOf req) ≡ granted k g)
     × (narrows (aclOf acl) (aclOf new) (hintsOf hints) ≡ true)
     × (narrow l km0 acl req new hints ≡ permitted k (recounted (charge l k g (requestOf req .time)) (carried (charge l k g (requestOf req .time) .counts) (hintsOf hints)))))
+
+narrow-ways : (l : Ledger) (km0 acl req new hints : Bytes) → NarrowWays l km0 acl req new hints
 unfolding narrow
 narrow-ways l km0 acl req new hints =
     pick (narrowFiles km0 acl req new hints) refl (judge l km0 (aclOf acl) (requestOf req)) refl (narrows (aclOf acl) (aclOf new) (hintsOf hints)) refl
   where
-    pick : (f : Option ℕ) → narrowFiles km0 acl req new hints ≡ f → (j : Judgement) → judge l km0 (aclOf acl) (requestOf req) ≡ j → (b : Bool) → narrows (aclOf acl) (aclOf new) (hintsOf hints) ≡ b
-        → ((f : ℕ) × (near : Option ℕ) × (narrow l km0 acl req new hints ≡ refusedNear l f near))
-        ⊎ ((k : ℕ) × (g : Group) × (narrowFiles km0 acl req new hints ≡ none) × (judge l km0 (aclOf acl) (requestOf req) ≡ granted k g)
-        × (narrows (aclOf acl) (aclOf new) (hintsOf hints) ≡ true)
-        × (narrow l km0 acl req new hints ≡ permitted k (recounted (charge l k g (requestOf req .time)) (carried (charge l k g (requestOf req .time) .counts) (hintsOf hints)))))
+    pick : (f : Option ℕ) → narrowFiles km0 acl req new hints ≡ f → (j : Judgement) → judge l km0 (aclOf acl) (requestOf req) ≡ j → (b : Bool) → narrows (aclOf acl) (aclOf new) (hintsOf hints) ≡ b → NarrowWays l km0 acl req new hints
     pick (some f) p j q b r = inl (f, none, rw p)
     pick none p (denied f) q b r = inl (numberOf f, nearest f, rw (p, q))
     pick none p (granted k g) q true r = inr (k, g, p, q, r, rw (p, q, r))
     pick none p (granted k g) q false r = inl (notNarrower, none, rw (p, q, r))
 
--- an expansion is refused or permitted
-expand-ways : (l : Ledger) (km0 acl req new : Bytes) → ((f : ℕ) × (near : Option ℕ) × (expand l km0 acl req new ≡ refusedNear l f near)) ⊎ ((k : ℕ) × (expand l km0 acl req new .answer ≡ permit k))
+-- .. and an expansion
+abbrev ExpandWays : Ledger → Bytes → Bytes → Bytes → Bytes → Type 0
+ExpandWays l km0 acl req new = Refuses l (expand l km0 acl req new) ⊎ ((k : ℕ) × (expand l km0 acl req new .answer ≡ permit k))
+
+expand-ways : (l : Ledger) (km0 acl req new : Bytes) → ExpandWays l km0 acl req new
 unfolding expand
 expand-ways l km0 acl req new = pick (expandFiles km0 acl req new) refl (judge l km0 (aclOf acl) (requestOf req)) refl
   where
-    pick : (f : Option ℕ) → expandFiles km0 acl req new ≡ f → (j : Judgement) → judge l km0 (aclOf acl) (requestOf req) ≡ j
-        → ((f : ℕ) × (near : Option ℕ) × (expand l km0 acl req new ≡ refusedNear l f near)) ⊎ ((k : ℕ) × (expand l km0 acl req new .answer ≡ permit k))
+    pick : (f : Option ℕ) → expandFiles km0 acl req new ≡ f → (j : Judgement) → judge l km0 (aclOf acl) (requestOf req) ≡ j → ExpandWays l km0 acl req new
     pick (some f) p j q = inl (f, none, rw p)
     pick none p (denied f) q = inl (numberOf f, nearest f, rw (p, q))
     pick none p (granted k g) q = inr (k, rw (p, q))
@@ -360,9 +369,7 @@ module _ (first : List Group) where
     unfolding outcome after
     put-request km0 req go = ways (request-ways (s .ledger) km0 (s .acl) req)
       where
-        ways : ((x : ℕ) × (near : Option ℕ) × (request (s .ledger) km0 (s .acl) req ≡ refusedNear (s .ledger) x near))
-            ⊎ ((k : ℕ) × (g : Group) × (requestFiles km0 (s .acl) req ≡ none) × (judge (s .ledger) km0 (aclOf (s .acl)) (requestOf req) ≡ granted k g) × (request (s .ledger) km0 (s .acl) req ≡ permitted k (charge (s .ledger) k g (requestOf req .time))))
-            → PutDown first a (requesting km0 req) next (request (s .ledger) km0 (s .acl) req .answer)
+        ways : RequestWays (s .ledger) km0 (s .acl) req → PutDown first a (requesting km0 req) next (request (s .ledger) km0 (s .acl) req .answer)
         ways (inl r) = rw (r .2) (go a os (rw (r .2) f))
         ways (inr r) =
             let n = fault-none-every _ (r .2) in
@@ -383,11 +390,7 @@ module _ (first : List Group) where
     unfolding outcome after
     put-narrow km0 req new hints go = ways (narrow-ways (s .ledger) km0 (s .acl) req new hints)
       where
-        ways : ((x : ℕ) × (near : Option ℕ) × (narrow (s .ledger) km0 (s .acl) req new hints ≡ refusedNear (s .ledger) x near))
-            ⊎ ((k : ℕ) × (g : Group) × (narrowFiles km0 (s .acl) req new hints ≡ none) × (judge (s .ledger) km0 (aclOf (s .acl)) (requestOf req) ≡ granted k g)
-            × (narrows (aclOf (s .acl)) (aclOf new) (hintsOf hints) ≡ true)
-            × (narrow (s .ledger) km0 (s .acl) req new hints ≡ permitted k (recounted (charge (s .ledger) k g (requestOf req .time)) (carried (charge (s .ledger) k g (requestOf req .time) .counts) (hintsOf hints)))))
-            → PutDown first a (narrowing km0 req new hints) next (narrow (s .ledger) km0 (s .acl) req new hints .answer)
+        ways : NarrowWays (s .ledger) km0 (s .acl) req new hints → PutDown first a (narrowing km0 req new hints) next (narrow (s .ledger) km0 (s .acl) req new hints .answer)
         ways (inl r) = rw (r .2) (go a os (rw (r .2) f))
         ways (inr r) =
             let n = fault-none-every _ (r .2) in
@@ -400,8 +403,7 @@ module _ (first : List Group) where
     unfolding outcome after
     put-expand km0 req new d go = ways (expand-ways (s .ledger) km0 (s .acl) req new)
       where
-        ways : ((x : ℕ) × (near : Option ℕ) × (expand (s .ledger) km0 (s .acl) req new ≡ refusedNear (s .ledger) x near)) ⊎ ((k : ℕ) × (expand (s .ledger) km0 (s .acl) req new .answer ≡ permit k))
-            → PutDown first a (expanding km0 req new) next (expand (s .ledger) km0 (s .acl) req new .answer)
+        ways : ExpandWays (s .ledger) km0 (s .acl) req new → PutDown first a (expanding km0 req new) next (expand (s .ledger) km0 (s .acl) req new .answer)
         ways (inl r) = rw (r .2) (go a os (rw (r .2) f))
         ways (inr r) = absurd (false≢true (sym (d (r .0) (r .1))))
 
