@@ -16,8 +16,9 @@ use Rattle.rules.specs.Ledger.{Ledger}
 use Rattle.rules.specs.Cabinet.{Slot, Cabinet, countsAndTimes, freshSlot, freshCabinet, emptySlot, slotAt, ledgerAt, CabinetOutcome, inSlot}
 use Rattle.theorems.specs.Demands.{outcome}
 use Rattle.theorems.specs.Cabinets.{CabinetCall, clearingAll, cabinetAfter, cabinetAfterAll, slotIn, lentIn, gateCall, gateOutcome}
+use Rattle.theorems.proofs.Lists.{every-set, every-getD, every-replicate}
 use Rattle.theorems.proofs.Tables.{fresh-sized, call-sized}
-use Rattle.theorems.proofs.Bounds.{Held, every-set, every-getD, every-replicate, fresh-bounded, call-bounded}
+use Rattle.theorems.proofs.Bounds.{Held, fresh-bounded, call-bounded}
 use Rattle.theorems.proofs.Slots.{kinds, in-slot, clears-everywhere, clear-slots, slots-kept}
 
 module _ {A : Type 0} (P : A → Type 0) where

@@ -1,13 +1,13 @@
 -- Request n: the grade is not too cautious. Of an accepted key with protection 1, 2 or 3 some blob request of exactly that protection is permitted just
 -- after a load. Two wrong products that this rules out: a desk that grades every key 1, and a desk that grades by a group which it does not check.
-use Prim.Native.Nat.{ℕ, zero, suc, _+_, _≤_, _<_, _^_, min}
+use Prim.Native.Nat.{ℕ, suc, _+_, _≤_, _<_, _^_, min}
 use native.Mathlib.Omega.{arith}
 use mathlib.Core.Path.{_≡_, refl, sym, _∙_, ap}
 use mathlib.Core.Logic.{_⊎_, inl, inr, _≢_}
 use mathlib.Core.List.{List, [], _∷_, map}
 use mathlib.Core.Option.{Option, none, some}
 use mathlib.Core.Bool.{Bool, true, false, not, _&&_, _||_, false≢true}
-use lib.ListN.{length, getD, getElem?, replicate, length-take, length-drop}
+use lib.ListN.{length, getElem?, length-take, length-drop}
 use lib.Dec.{eqb, leb}
 use borrow.Author.Tests.{eqb-false, leb-true, leb-false, le-ltb, eq-eqb, not-true, ne-eqb}
 use Rattle.rules.specs.Sizes.{hashBytes, groupsMax, aclRecords, bundleRecords, requestRecords, certificatesMax}
@@ -30,6 +30,7 @@ use Rattle.rules.proofs.Joined.{Whole}
 use Rattle.rules.proofs.Asking.{Decoded, file-records, file-fits, row-fault, row-request}
 use Rattle.rules.proofs.Rows.{records-sized}
 use Rattle.rules.proofs.Written.{wellFormed, TokenFits, parameters-laid-out, blob-whole, blob-time, blob-wanted, blob-alone, part-octets, token-octets, no-token-octets, blob-octets, certificate-octets, joined-octets, records-octets, number-below}
+use Rattle.theorems.proofs.Lists.{zero-at}
 use Rattle.theorems.proofs.AclFile.{ActionRead, GroupRead, acl-read}
 use Rattle.theorems.proofs.Permit.{Permitted, some-grants, permit-comes}
 use Rattle.theorems.proofs.Hints.{tighter-self}
@@ -275,15 +276,10 @@ desk-accepts bundle acl g e =
       graded = f .1;
     }
 
-zero-count : (n i : ℕ) → _≡_ {A = ℕ} (getD (replicate n 0) i 0) 0
-zero-count zero i = refl
-zero-count (suc n) zero = refl
-zero-count (suc n) (suc i) = zero-count n i
-
 -- a group without limits is unspent just after a load
 unspent-loaded : (l : Ledger) (loaded place : ℕ) (q : Request) (g : Group) → g .limits ≡ [] → unspent (loadedAt l loaded) place q g ≡ true
 unfolding all
-unspent-loaded l loaded place q g e = rw (e, zero-count groupsMax place)
+unspent-loaded l loaded place q g e = rw (e, zero-at groupsMax place)
 
 any-at : {A : Type 0} (p : A → Bool) (xs : List A) (i : ℕ) (x : A) → getElem? xs i ≡ some x → p x ≡ true → any p xs ≡ true
 any-at p xs i x e d = every-at (λ y. p y ≡ true → any p xs ≡ true) xs i x (any-here p xs) e d

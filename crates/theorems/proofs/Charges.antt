@@ -24,19 +24,14 @@ use Rattle.rules.proofs.Few.{narrow-few}
 use Rattle.theorems.specs.Demands.{names}
 use Rattle.theorems.specs.Sizes.{LimitFits, GroupFits}
 use Rattle.theorems.specs.Charges.{countCharged, counterCharged, AsCharged, Charged, Carried, Zeroed, Loaded, Cleared}
+use Rattle.theorems.proofs.Lists.{there-below, zero-at}
 use Rattle.theorems.proofs.Permit.{permit-needs, permit-comes, narrow-needs, narrow-comes, expand-needs, expand-comes}
 use Rattle.theorems.proofs.Counters.{raisedBy-length, raisedBy-at}
 use Rattle.theorems.proofs.Tables.{Sized, charge-sized, carried-sized}
 use Rattle.theorems.proofs.Hints.{narrows-shown}
 use Rattle.theorems.proofs.AclSizes.{acl-fits}
 
--- what stands at a place is within the list
-there-below : {A : Type 0} (xs : List A) (i : ℕ) (x : A) → getElem? xs i ≡ some x → i < length xs
-there-below [] i x e = absurd (never (cc))
-there-below (y ∷ ys) zero x e = omega arith
-there-below (y ∷ ys) (suc i) x e = let r = there-below ys i x e in omega arith
-
--- .. and what is within it stands at a place
+-- what is within a list stands at a place
 below-there : {A : Type 0} (xs : List A) (i : ℕ) → i < length xs → (x : A) × (getElem? xs i ≡ some x)
 below-there [] i h = absurd (omega arith)
 below-there (y ∷ ys) zero h = (y, refl)
@@ -116,12 +111,6 @@ request-charges l km0 acl req place s e =
     let t = r .1 .lowestGroup .there in
     let c = charge-charged l place g (requestOf req .time) s (place-below acl place g (n .1 .0) t) (group-sized acl place g (n .1 .0) t) in
     (g, t, rw (permit-comes l km0 acl req place g (r .1)) c)
-
--- zeros are zero at every place, past the end too
-zero-at : (n i : ℕ) → getD {A = ℕ} (replicate n 0) i 0 ≡ 0
-zero-at zero i = refl
-zero-at (suc n) zero = refl
-zero-at (suc n) (suc i) = zero-at n i
 
 -- The counts that a narrowing carries: at a hint's place its source's, past the last hint zero.
 carried-at : (counts : List ℕ) (n : ℕ) (hints : List Hint) (i : ℕ) (h : Hint) → getElem? hints i ≡ some h → getD (map (λ (x : Hint). getD counts (x .source) 0) hints ++ replicate n 0) i 0 ≡ getD counts (h .source) 0

@@ -6,7 +6,7 @@ use native.Mathlib.Nat.{add-zero, zero-add, suc-add, add-suc}
 use mathlib.Core.Path.{_≡_, refl, ap}
 use mathlib.Core.List.{List, [], _∷_, _++_}
 use mathlib.Core.Option.{Option, none, some}
-use mathlib.Core.Bool.{Bool, true, _&&_, _||_, false≢true}
+use mathlib.Core.Bool.{true, _&&_, _||_, false≢true}
 use lib.ListN.{length, getElem?, replicate}
 use lib.Dec.{eqb, leb, ltb}
 use borrow.Author.Tests.{eq-eqb, leb-true, le-leb, lt-ltb}
@@ -17,6 +17,7 @@ use Rattle.rules.specs.Request.{Hint}
 use Rattle.rules.specs.Grant.{tighter}
 use Rattle.rules.specs.Narrow.{kept, keptNumber, keptParameters, blobNoWider, archiveNoWider, keptDevices, fileNoWider, noWider, noWiderThan, actionsNoWider, answers, isAnswered, groupNarrows, narrowsSource, narrowsFrom, narrows}
 use Rattle.rules.proofs.Laws.{and-left, and-right, and-both, or-right, implication, allBelow-all, same-refl, every-at, any-here}
+use Rattle.theorems.proofs.Lists.{every-all}
 
 ruleset conj = (and-left, and-right, and-both)
 
@@ -149,11 +150,6 @@ pub all-zero : (n : ℕ) → allZero (replicate n 0) ≡ true
 unfolding allZero
 all-zero zero = refl
 all-zero (suc n) = all-zero n
-
-every-all : {A : Type 0} (p : A → Bool) (xs : List A) → Every (λ x. p x ≡ true) xs → all p xs ≡ true
-unfolding all
-every-all p [] h = refl
-every-all p (x ∷ xs) h = and-both (p x) (all p xs) (h .0) (every-all p xs (h .1))
 
 own-actions : (old : List Action) (place pad : ℕ) (xs : List Action) → StandsAt old place xs → actionsNoWider xs (places place xs ++ replicate pad 0) old ≡ true
 unfolding actionsNoWider places

@@ -8,7 +8,7 @@ use mathlib.Core.Path.{_≡_, refl, sym, _∙_, ap₂, subst}
 use mathlib.Core.Logic.{_⊎_, inl, inr}
 use mathlib.Core.List.{List, [], _∷_}
 use mathlib.Core.Option.{Option, none}
-use mathlib.Core.Bool.{Bool, true, false, _&&_, false≢true}
+use mathlib.Core.Bool.{Bool, true, false, _&&_}
 use lib.ListN.{length}
 use Rattle.rules.specs.Basics.{if_then_else_, Bytes, Every, same, bit}
 use Rattle.rules.specs.Acl.{Group, aclOf}
@@ -18,6 +18,7 @@ use Rattle.rules.specs.Grant.{groupAdmits, certified}
 use Rattle.rules.specs.Gate.{Outcome, lowest, Judgement, denied, early, ofCertified, judgedBy, tooEarly, admitsCertified, grants, judge, permitted, requestFiles, request, narrowFiles, narrowed, narrow, expandFiles, expanded, expand}
 use Rattle.rules.proofs.Laws.{not-both, decided, every-map, same-eq, eq-same}
 use Rattle.theorems.specs.Certification.{Member, Presents, Leads, Chain, ChainPresents, Vouched, Certified}
+use Rattle.theorems.proofs.Lists.{both-ways}
 use Rattle.theorems.proofs.Certification.{certified-is}
 use Rattle.theorems.proofs.Permit.{called}
 
@@ -63,12 +64,6 @@ module _ (q r : Request) (h : PresentsMore q r) where
 -- Two requests that present the same, in whatever order and however often.
 abbrev pub PresentsSame : Request → Request → Type 0
 PresentsSame q r = PresentsMore q r × PresentsMore r q
-
-both-ways : (a b : Bool) → (a ≡ true → b ≡ true) → (b ≡ true → a ≡ true) → a ≡ b
-both-ways true true f g = refl
-both-ways true false f g = absurd (false≢true (f refl))
-both-ways false true f g = absurd (false≢true (g refl))
-both-ways false false f g = refl
 
 pub certified-same : (q r : Request) (g : Group) → PresentsSame q r → certified q g ≡ certified r g
 certified-same q r g h = both-ways (certified q g) (certified r g) (certified-more q r (h .0) g) (certified-more r q (h .1) g)

@@ -20,6 +20,7 @@ use Rattle.rules.specs.Narrow.{kept, keptNumber, answers, isAnswered, groupNarr
 use Rattle.theorems.specs.Demands.{names}
 use Rattle.theorems.specs.Certification.{Presents, Vouched}
 use Rattle.rules.proofs.Laws.{never, and-left, and-right, and-both, every-map, any-here, any-some, same-eq}
+use Rattle.theorems.proofs.Lists.{every-all}
 use Rattle.theorems.proofs.Certification.{vouched-is}
 use Rattle.theorems.proofs.Monotone.{Known, Confined, actions-confined}
 
@@ -30,11 +31,6 @@ pub all-every : {A : Type 0} (p : A → Bool) (xs : List A) → all p xs ≡ tru
 unfolding all
 all-every p [] e = tt
 all-every p (x ∷ xs) e = (and-left (p x) (all p xs) e, all-every p xs (and-right (p x) (all p xs) e))
-
-pub every-all : {A : Type 0} (p : A → Bool) (xs : List A) → Every (λ x. p x ≡ true) xs → all p xs ≡ true
-unfolding all
-every-all p [] h = refl
-every-all p (x ∷ xs) h = and-both (p x) (all p xs) (h .0) (every-all p xs (h .1))
 
 any-mono : {A : Type 0} (p q : A → Bool) (xs : List A) → ((x : A) → p x ≡ true → q x ≡ true) → any p xs ≡ true → any q xs ≡ true
 any-mono p q xs f e = let s = any-some _ p xs (any-here q xs) e in s .1 (f (s .0) (s .2))

@@ -23,6 +23,7 @@ use Rattle.rules.specs.Gate.{Outcome, permit, load, numberOf, nearest, Judgemen
 use Rattle.theorems.specs.Demands.{Call, requesting, loading, clearing, narrowing, expanding, State, outcome, after, EveryPermit, names}
 use Rattle.theorems.specs.Account.{PutDown, AllPutDown, isExpansion}
 use Rattle.rules.proofs.Laws.{never, and-left, and-right, and-both, every-map, fault-none-every}
+use Rattle.theorems.proofs.Lists.{there-below, zero-at, every-all}
 use Rattle.theorems.proofs.Monotone.{Known}
 use Rattle.rules.proofs.Few.{narrow-few}
 use Rattle.theorems.proofs.AclFile.{acl-bound}
@@ -30,7 +31,7 @@ use Rattle.theorems.proofs.Hints.{limit-self}
 use Rattle.theorems.proofs.RequestFile.{known-request, use-wanted}
 use Rattle.theorems.proofs.Permit.{granted-is}
 use Rattle.theorems.proofs.Counters.{raisedBy-length, reading, raisedBy-at}
-use Rattle.theorems.proofs.Narrowing.{all-every, every-all, limit-left, admits-source, certified-source, left-source, names-source}
+use Rattle.theorems.proofs.Narrowing.{all-every, limit-left, admits-source, certified-source, left-source, names-source}
 
 ruleset conj = (and-left, and-right, and-both)
 
@@ -105,12 +106,6 @@ raised-lower a l ms ns p lower f c = pick (ltb c (length a)) refl
         let h = ltb-false c (length a) e in
         let z = raisedBy-length a ms a in
         rw (List·getD-eq-default (raisedBy a ms a) 0 {n = c} (omega arith)) (omega arith)
-
--- what stands at a place is within the list
-there-below : {A : Type 0} (xs : List A) (i : ℕ) (x : A) → getElem? xs i ≡ some x → i < length xs
-there-below [] i x e = absurd (never (cc))
-there-below (y ∷ ys) zero x e = omega arith
-there-below (y ∷ ys) (suc i) x e = let r = there-below ys i x e in omega arith
 
 -- A permit keeps the account following.
 charged-follows : (first : List Group) (a l : Ledger) (gs : List Group) (os : List ℕ) (k o : ℕ) (g f : Group) (t : ℕ) → Follows first a l gs os → k < groupsMax → getElem? os k ≡ some o → Covers g f → getD (a .counts) o 0 ≤ getD (l .counts) k 0 → Follows first (charge a o f t) (charge l k g t) gs os
@@ -318,11 +313,6 @@ clear-follows first a l gs os c f =
     both i false e =
         let n : i ≢ c = eqb-false i c e in
         rw (getD-set-other (a .counters) c i 0 0 n, getD-set-other (l .counters) c i 0 0 n) (f .lower i)
-
-zero-at : (n i : ℕ) → _≡_ {A = ℕ} (getD (replicate n 0) i 0) 0
-zero-at zero i = refl
-zero-at (suc n) zero = refl
-zero-at (suc n) (suc i) = zero-at n i
 
 load-follows : (first : List Group) (a l : Ledger) (gs : List Group) (os : List ℕ) (t : ℕ) → Follows first a l gs os → Follows first (loadedAt a t) (loadedAt l t) gs os
 load-follows first a l gs os t f =
