@@ -16,12 +16,7 @@ use Rattle.rules.specs.Request.{Token, WorkingBlob, RecoveryBlob, BlobFile, Wan
 use Rattle.rules.specs.Grant.{timeAnswers, tighter, meets, nullKey, admitsDirect, admitsToken, admitsKey, admitsUnder, admitsBlob, admitsArchive, admitsDevice, admitsTemplate, admitsFile, admits, admitsUse, admitsWorking, admitsRecovery}
 use Rattle.rules.specs.Narrow.{kept, keptParameters, blobNoWider, archiveNoWider, keptDevices, fileNoWider, noWider, noWiderThan, actionsNoWider, groupNarrows, narrowsSource, narrowsFrom}
 use Rattle.rules.proofs.Laws.{never, and-left, and-right, and-both, or-cases, or-left, or-right, implied, implication, every-at, allBelow-at, allBelow-all, same-eq, eq-same, bothSame-eq}
-
--- a permission that a request can name
-abbrev pub Known : Wanted → Type 0
-Known (operation p) = p < 16
-Known (workingBlob w f) = Unit {0}
-Known (recoveryBlob w f) = Unit {0}
+use Rattle.rules.proofs.Forms.{KnownUse}
 
 pub within-at : (k a b i : ℕ) → i < k → within k a b ≡ true → bit i a ≡ true → bit i b ≡ true
 unfolding within
@@ -151,7 +146,7 @@ file-wider (some n) (some o) (some f) e d =
     search conj
 
 -- What an action admits, a wider one admits.
-pub admits-wider : (km0 : Bytes) (w : Wanted) (n o : Action) → Known w → noWider n o ≡ true → admits km0 w n ≡ true → admits km0 w o ≡ true
+pub admits-wider : (km0 : Bytes) (w : Wanted) (n o : Action) → KnownUse w → noWider n o ≡ true → admits km0 w n ≡ true → admits km0 w o ≡ true
 unfolding admits admitsUse admitsWorking admitsRecovery noWider
 admits-wider km0 (operation p) (permissions n) (permissions o) k e d = within-at 16 n o p k e d
 admits-wider km0 (operation p) (permissions n) (makeBlob o h) k e d = e
@@ -179,7 +174,7 @@ admits-wider km0 (recoveryBlob w f) (makeArchive n g) (makeArchive o h) k e d =
 module _ (Good : Bytes → Wanted → Type 0) where
   -- all that an action admits is good
   abbrev pub Confined : Action → Type 0
-  Confined a = (km0 : Bytes) (w : Wanted) → Known w → admits km0 w a ≡ true → Good km0 w
+  Confined a = (km0 : Bytes) (w : Wanted) → KnownUse w → admits km0 w a ≡ true → Good km0 w
 
   pub actions-confined : (new : List Action) (hints : List ℕ) (old : List Action) → actionsNoWider new hints old ≡ true → Every Confined old → Every Confined new
   unfolding actionsNoWider

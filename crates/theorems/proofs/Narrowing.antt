@@ -20,9 +20,10 @@ use Rattle.rules.specs.Narrow.{kept, keptNumber, answers, isAnswered, groupNarr
 use Rattle.theorems.specs.Demands.{names}
 use Rattle.theorems.specs.Certification.{Presents, Vouched}
 use Rattle.rules.proofs.Laws.{never, and-left, and-right, and-both, every-map, any-here, any-some, same-eq}
+use Rattle.rules.proofs.Forms.{KnownUse}
 use Rattle.theorems.proofs.Lists.{every-all}
 use Rattle.theorems.proofs.Certification.{vouched-is}
-use Rattle.theorems.proofs.Monotone.{Known, Confined, actions-confined}
+use Rattle.theorems.proofs.Monotone.{Confined, actions-confined}
 
 ruleset conj = (and-left, and-right, and-both)
 
@@ -81,7 +82,7 @@ vouched-weaker q k m j d (inl p) = inl (presents-weaker (q .certificates) k m j 
 vouched-weaker q k m j d (inr c) = inr (c .0, c .1, (c .2 .0, c .2 .1, presents-weaker (q .certificates) (c .2 .0) m j d (c .2 .2)))
 
 module _ (n : Group) (hints : List ℕ) (o : Group) (narrower : groupNarrows n hints o ≡ true) where
-  pub admits-source : (km0 : Bytes) (q : Request) → Known (q .wanted) → groupAdmits km0 q n ≡ true → groupAdmits km0 q o ≡ true
+  pub admits-source : (km0 : Bytes) (q : Request) → KnownUse (q .wanted) → groupAdmits km0 q n ≡ true → groupAdmits km0 q o ≡ true
   admits-source km0 q k e =
       let old = every-swap (λ (y : Bytes × Wanted) a. admits (y .0) (y .1) a ≡ true → any (admits (y .0) (y .1)) (o .actions) ≡ true) (o .actions)
       (λ y. any-here (admits (y .0) (y .1)) (o .actions)) in

@@ -7,15 +7,13 @@ use mathlib.Core.List.{List}
 use mathlib.Core.Option.{Option, none, some}
 use mathlib.Core.Bool.{Bool, true, false, not}
 use lib.ListN.{length}
-use lib.Dec.{eqb}
 use lib.Pow.{pow-mono}
-use borrow.Author.Tests.{eqb-true, ltb-true}
+use borrow.Author.Tests.{eqb-true}
 use Rattle.rules.specs.Sizes.{recordBytes, setBits, runRecords, preparedRecords}
 use Rattle.rules.specs.Numbers.{malformed, otherForm}
-use Rattle.rules.specs.Basics.{Bytes, Every, byte, kind, setOf, number, unless, records}
-use Rattle.rules.specs.Layout.{useLaidOut}
+use Rattle.rules.specs.Basics.{Bytes, Every, setOf, number, unless, records}
 use Rattle.rules.specs.Acl.{Group, announcesFile, aclOf, aclFault}
-use Rattle.rules.specs.Request.{Certificate, wantedOf, requestLaidOut, standsAlone, requestRecordFault}
+use Rattle.rules.specs.Request.{Certificate, requestLaidOut, standsAlone, requestRecordFault}
 use Rattle.rules.specs.Ledger.{Ledger}
 use Rattle.rules.specs.Gate.{judge, permitted, unlessFault, settle}
 use Rattle.rules.specs.Runs.{requestWith, askGate, asked, runFault, runEnd, run}
@@ -23,21 +21,12 @@ use Rattle.rules.specs.Prepared.{Form, formOf, formJudge, askForm, sameForm, pr
 use Rattle.rules.proofs.Laws.{and-left, and-right, same-eq, unless-passed, fault-none-every}
 use Rattle.rules.proofs.Rows.{records-sized}
 use Rattle.rules.proofs.Sets.{set-bits}
-use Rattle.rules.proofs.Forms.{KnownUse, form-judge}
+use Rattle.rules.proofs.Forms.{form-judge}
 use Rattle.rules.proofs.Asking.{Decoded, Sound, ask-gate, run-sound, asked-alike}
+use Rattle.theorems.proofs.RequestFile.{known-wanted}
 use Rattle.theorems.proofs.AclSizes.{acl-fits}
 
 ruleset conj = (and-left, and-right)
-
--- a request record that is laid out asks for a permission that there is
-laid-out-known : (r : Bytes) → requestLaidOut r ≡ true → KnownUse (wantedOf r none)
-unfolding requestLaidOut wantedOf useLaidOut
-laid-out-known r e = pick (eqb (kind r) 6) refl (eqb (kind r) 7) refl
-  where
-    pick : (b : Bool) → eqb (kind r) 6 ≡ b → (c : Bool) → eqb (kind r) 7 ≡ c → KnownUse (wantedOf r none)
-    pick true p c q = let d : useLaidOut r ≡ true = rw p at e in rw p (ltb-true (byte 4 r) 16 (search conj))
-    pick false p true q = rw (p, q) tt
-    pick false p false q = rw (p, q) tt
 
 alone-laid-out : (r : Bytes) → standsAlone r ≡ true → requestLaidOut r ≡ true
 unfolding standsAlone
@@ -52,7 +41,7 @@ ask-form km0 acl row s l r n = pick (standsAlone r) refl ∙ sym (ask-gate km0 a
     pick : (b : Bool) → standsAlone r ≡ b
         → unlessFault l (unless (standsAlone r) malformed) (settle l (number 56 8 r) permitted (formJudge (formOf (aclOf acl)) l km0 (aclOf acl) (requestWith r row)))
         ≡ unlessFault l (unless (standsAlone r) malformed) (settle l (number 56 8 r) permitted (judge l km0 (aclOf acl) (requestWith r row)))
-    pick true e = rw (form-judge l km0 (aclOf acl) (requestWith r row) (laid-out-known r (alone-laid-out r e)))
+    pick true e = rw (form-judge l km0 (aclOf acl) (requestWith r row) (known-wanted r none (alone-laid-out r e)))
     pick false e = rw e
 
 -- forms that count as the same are the same

@@ -24,8 +24,8 @@ use Rattle.theorems.specs.Demands.{Call, requesting, loading, clearing, 
 use Rattle.theorems.specs.Account.{PutDown, AllPutDown, isExpansion}
 use Rattle.rules.proofs.Laws.{never, and-left, and-right, and-both, every-map, fault-none-every}
 use Rattle.theorems.proofs.Lists.{there-below, zero-at, every-all}
-use Rattle.theorems.proofs.Monotone.{Known}
 use Rattle.rules.proofs.Few.{narrow-few}
+use Rattle.rules.proofs.Forms.{KnownUse}
 use Rattle.theorems.proofs.AclFile.{acl-bound}
 use Rattle.theorems.proofs.Hints.{limit-self}
 use Rattle.theorems.proofs.RequestFile.{known-request, use-wanted}
@@ -37,7 +37,7 @@ ruleset conj = (and-left, and-right, and-both)
 
 -- A group covers another: what the first grants, the second grants under an account that counts no more.
 record Covers (g f : Group) : Type 0 where
-  admitted : (km0 : Bytes) (q : Request) → Known (q .wanted) → groupAdmits km0 q g ≡ true → groupAdmits km0 q f ≡ true
+  admitted : (km0 : Bytes) (q : Request) → KnownUse (q .wanted) → groupAdmits km0 q g ≡ true → groupAdmits km0 q f ≡ true
   certifies : (q : Request) → certified q g ≡ true → certified q f ≡ true
   leaves : (ledger account : List ℕ) (own own′ elapsed : ℕ) → own′ ≤ own → ((c : ℕ) → getD account c 0 ≤ getD ledger c 0) → limitsLeft ledger own elapsed (g .limits) ≡ true → limitsLeft account own′ elapsed (f .limits) ≡ true
   naming : (c : ℕ) → names c (f .limits) ≡ true → names c (g .limits) ≡ true
@@ -72,7 +72,7 @@ record Follows (first : List Group) (a l : Ledger) (gs : List Group) (os : List 
   origin : (k : ℕ) (g : Group) → getElem? gs k ≡ some g → (o : ℕ) × (f : Group) × (getElem? os k ≡ some o) × (getElem? first o ≡ some f) × Covers g f × (getD (a .counts) o 0 ≤ getD (l .counts) k 0)
 
 -- a permit of the ledger is one of the account
-grants-first : (first : List Group) (a l : Ledger) (km0 : Bytes) (q : Request) (k o : ℕ) (g f : Group) → a .loaded ≡ l .loaded → ((c : ℕ) → getD (a .counters) c 0 ≤ getD (l .counters) c 0) → Covers g f → getD (a .counts) o 0 ≤ getD (l .counts) k 0 → Known (q .wanted) → grants l km0 q k g ≡ true → grants a km0 q o f ≡ true
+grants-first : (first : List Group) (a l : Ledger) (km0 : Bytes) (q : Request) (k o : ℕ) (g f : Group) → a .loaded ≡ l .loaded → ((c : ℕ) → getD (a .counters) c 0 ≤ getD (l .counters) c 0) → Covers g f → getD (a .counts) o 0 ≤ getD (l .counts) k 0 → KnownUse (q .wanted) → grants l km0 q k g ≡ true → grants a km0 q o f ≡ true
 grants-first first a l km0 q k o g f loads lower c fewer known e =
     let x = c .admitted km0 q known (search conj) in
     let y = c .certifies q (search conj) in
@@ -335,7 +335,7 @@ clear-refused l c e = rw e
 
 module _ (first : List Group) where
   -- a permit of the group at a place is put down to its origin, and the account goes on following
-  put-permit : (a l : Ledger) (km0 acl : Bytes) (q : Request) (os : List ℕ) (k : ℕ) (g : Group) → Follows first a l (aclOf acl) os → aclFault (records acl) ≡ none → Known (q .wanted) → judge l km0 (aclOf acl) q ≡ granted k g
+  put-permit : (a l : Ledger) (km0 acl : Bytes) (q : Request) (os : List ℕ) (k : ℕ) (g : Group) → Follows first a l (aclOf acl) os → aclFault (records acl) ≡ none → KnownUse (q .wanted) → judge l km0 (aclOf acl) q ≡ granted k g
       → (o : ℕ) × (f : Group) × (getElem? first o ≡ some f) × (grants a km0 q o f ≡ true) × Follows first (charge a o f (q .time)) (charge l k g (q .time)) (aclOf acl) os
   put-permit a l km0 acl q os k g f e n j =
       let r = granted-is l km0 (aclOf acl) q k g j in
