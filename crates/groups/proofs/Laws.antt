@@ -5,90 +5,168 @@ use native.Mathlib.Nat.{add-zero}
 use mathlib.Core.Path.{_≡_, refl, sym, _∙_, ap}
 use mathlib.Core.List.{List, [], _∷_}
 use mathlib.Core.Option.{some}
-use mathlib.Core.Bool.{Bool, true, false, not}
+use mathlib.Core.Bool.{Bool, true, false, not, _||_, false≢true}
 use borrow.Author.Tests.{eq-eqb, ne-eqb, not-true, not-false}
 use lib.ListN.{length, take, drop, getD, length-drop, drop-of-length-le}
 use lib.Seq.{length-take-le, drop-nil, getD-drop, getD-take}
 use lib.Dec.{eqb}
-use Rattle.rules.specs.Basics.{Bytes, all, kind, records}
+use Rattle.rules.specs.Basics.{if_then_else_, Bytes, all, part, kind, records}
 use Rattle.rules.specs.Acl.{Limit, limitOf, limitsOf, fileRuleOf, fileRuleNext, actionOf, actionsOf, Group, groupOf, groupsOf}
 use Rattle.rules.specs.Request.{blobFileOf, blobFileNext}
 use Rattle.rules.proofs.Rows.{recordsFrom, rows-at, rows-end, rows-start, rows-rest, rows-lent, kind-at, lentRecord, lent-record, lentRest, lent-rest, first, no-rows}
-use Rattle.groups.specs.Parts.{actionPlace, groupPlace, NextAction, GroupAt, FromGroup, GroupBody, fileIn, blobIn, filePart, FilePart}
+use Rattle.groups.specs.Parts.{passedOver, partPlace, actionPlace, groupPlace, actionFrom, actionsFrom, NextPart, NextAction, GroupAt, FromGroup, GroupBody, fileIn, blobIn, filePart, FilePart}
 
--- The actions from a place on, where a group begins and where a limit stands.
-pub acts-group : (s : Bytes) (i : ℕ) → 64 ≤ length s - i → getD s i 0 ≡ 1 → actionsOf (recordsFrom s i) ≡ []
-unfolding actionsOf
-acts-group s i h e = ap actionsOf (rows-at s i h) ∙ rw (kind-at s i, eq-eqb (getD s i 0) 1 e)
+or-not-left : (a b : Bool) → (a || b) ≡ false → a ≡ false
+or-not-left true b e = e
+or-not-left false b e = refl
 
-pub acts-limit : (s : Bytes) (i : ℕ) → 64 ≤ length s - i → (getD s i 0 ≡ 1 → ⊥) → getD s i 0 ≡ 2 → actionsOf (recordsFrom s i) ≡ actionsOf (recordsFrom s (i + 64))
-unfolding actionsOf
-acts-limit s i h n e = ap actionsOf (rows-at s i h) ∙ rw (kind-at s i, ne-eqb (getD s i 0) 1 n, eq-eqb (getD s i 0) 2 e)
+or-not-right : (a b : Bool) → (a || b) ≡ false → b ≡ false
+or-not-right true b e = absurd (false≢true (sym e))
+or-not-right false b e = e
 
--- .. and where a record of kind 15 does
-pub acts-file : (s : Bytes) (i : ℕ) → 64 ≤ length s - i → (getD s i 0 ≡ 1 → ⊥) → (getD s i 0 ≡ 2 → ⊥) → getD s i 0 ≡ 15 → actionsOf (recordsFrom s i) ≡ actionsOf (recordsFrom s (i + 64))
-unfolding actionsOf
-acts-file s i h n m e = ap actionsOf (rows-at s i h) ∙ rw (kind-at s i, ne-eqb (getD s i 0) 1 n, ne-eqb (getD s i 0) 2 m, eq-eqb (getD s i 0) 15 e)
+-- A record that is passed over begins no group.
+over-no-group : (k : ℕ) → passedOver k ≡ true → k ≡ 1 → ⊥
+over-no-group k e d = false≢true (ap passedOver (sym d) ∙ e)
 
--- A loop up to the next action.
+-- What stands at a place: the actions from there on, the groups, the next group or action, the next action.
+module _ (s : Bytes) (i : ℕ) (h : 64 ≤ length s - i) where
+  pub acts-group : getD s i 0 ≡ 1 → actionsOf (recordsFrom s i) ≡ []
+  unfolding actionsOf
+  acts-group e = ap actionsOf (rows-at s i h) ∙ rw (kind-at s i, eq-eqb (getD s i 0) 1 e)
+
+  pub acts-here : (getD s i 0 ≡ 1 → ⊥) → passedOver (getD s i 0) ≡ false → actionsOf (records (drop i s)) ≡ actionsFrom s i
+  unfolding actionsOf recordsFrom
+  acts-here n p =
+      ap actionsOf (rows-at s i h)
+      ∙ rw (kind-at s i, ne-eqb (getD s i 0) 1 n, or-not-left (eqb (getD s i 0) 2) (eqb (getD s i 0) 15) p, or-not-right (eqb (getD s i 0) 2) (eqb (getD s i 0) 15) p)
+
+  place-group : getD s i 0 ≡ 1 → actionPlace (recordsFrom s i) i (length s) ≡ length s
+  unfolding actionPlace
+  place-group e = ap (λ (z : List Bytes). actionPlace z i (length s)) (rows-at s i h) ∙ rw (kind-at s i, eq-eqb (getD s i 0) 1 e)
+
+  place-action : (getD s i 0 ≡ 1 → ⊥) → passedOver (getD s i 0) ≡ false → actionPlace (recordsFrom s i) i (length s) ≡ i
+  unfolding actionPlace
+  place-action n p = ap (λ (z : List Bytes). actionPlace z i (length s)) (rows-at s i h) ∙ rw (kind-at s i, ne-eqb (getD s i 0) 1 n, p)
+
+  part-stands : passedOver (getD s i 0) ≡ false → partPlace (recordsFrom s i) i ≡ i
+  unfolding partPlace
+  part-stands p = ap (λ (z : List Bytes). partPlace z i) (rows-at s i h) ∙ rw (kind-at s i, p)
+
+  module _ (p : passedOver (getD s i 0) ≡ true) where
+    pub acts-over : actionsOf (recordsFrom s i) ≡ actionsOf (recordsFrom s (i + 64))
+    unfolding actionsOf
+    acts-over =
+        ap actionsOf (rows-at s i h)
+        ∙ rw (kind-at s i, ne-eqb (getD s i 0) 1 (over-no-group (getD s i 0) p))
+        (pick (eqb (getD s i 0) 2) (eqb (getD s i 0) 15) (actionsOf (recordsFrom s (i + 64))) (actionOf (part i 64 s) (fileRuleNext (recordsFrom s (i + 64))) ∷ actionsOf (recordsFrom s (i + 64))) p)
+      where
+        pick : {A : Type 0} (a b : Bool) (x y : A) → (a || b) ≡ true → (if a then x else if b then x else y) ≡ x
+        pick true b x y e = refl
+        pick false true x y e = refl
+        pick false false x y e = absurd (false≢true e)
+
+    pub groups-over : groupsOf (recordsFrom s i) ≡ groupsOf (recordsFrom s (i + 64))
+    unfolding groupsOf
+    groups-over = ap groupsOf (rows-at s i h) ∙ rw (kind-at s i, ne-eqb (getD s i 0) 1 (over-no-group (getD s i 0) p))
+
+    place-over : actionPlace (recordsFrom s i) i (length s) ≡ actionPlace (recordsFrom s (i + 64)) (i + 64) (length s)
+    unfolding actionPlace
+    place-over =
+        ap (λ (z : List Bytes). actionPlace z i (length s)) (rows-at s i h)
+        ∙ rw (kind-at s i, ne-eqb (getD s i 0) 1 (over-no-group (getD s i 0) p), p)
+
+    part-over : partPlace (recordsFrom s i) i ≡ partPlace (recordsFrom s (i + 64)) (i + 64)
+    unfolding partPlace
+    part-over = ap (λ (z : List Bytes). partPlace z i) (rows-at s i h) ∙ rw (kind-at s i, p)
+
+-- A loop up to the next group or action: what has been passed over so far changes nothing.
+pub record Passed (s : Bytes) (at i : ℕ) : Type 0 where
+  pub later : at ≤ i
+  pub exact : partPlace (recordsFrom s i) i ≡ partPlace (recordsFrom s at) at
+  pub place : actionPlace (recordsFrom s i) i (length s) ≡ actionPlace (recordsFrom s at) at (length s)
+  pub actions : actionsOf (recordsFrom s i) ≡ actionsOf (recordsFrom s at)
+  pub groups : groupsOf (recordsFrom s i) ≡ groupsOf (recordsFrom s at)
+
+pub passed-none : (s : Bytes) (at : ℕ) → Passed s at at
+passed-none s at = record { later = omega arith; exact = refl; place = refl; actions = refl; groups = refl }
+
+module _ (s : Bytes) (at i : ℕ) (m : Passed s at i) where
+  pub passed-more : (t : Bool) → 64 ≤ length s - i → t ≡ passedOver (getD s i 0) → not t ≡ false → Passed s at (i + 64)
+  passed-more t h e d =
+      let p : passedOver (getD s i 0) ≡ true = sym e ∙ not-false t d in
+      let l = m .later in
+      record {
+        later = omega arith;
+        exact = sym (part-over s i h p) ∙ m .exact;
+        place = sym (place-over s i h p) ∙ m .place;
+        actions = sym (acts-over s i h p) ∙ m .actions;
+        groups = sym (groups-over s i h p) ∙ m .groups;
+      }
+
+  pub part-here : (t : Bool) → i ≤ length s → 64 ≤ length s - i → t ≡ passedOver (getD s i 0) → not t ≡ true → NextPart s at i
+  unfolding recordsFrom
+  part-here t l h e d =
+      let p : passedOver (getD s i 0) ≡ false = sym e ∙ not-true t d in
+      record {
+        exact = sym (part-stands s i h p) ∙ m .exact;
+        place = m .place;
+        actions = m .actions;
+        groups = m .groups;
+        later = m .later;
+        inside = l;
+        stands = λ k. p;
+      }
+
+  pub part-none : i ≤ length s → length s - i < 64 → NextPart s at i
+  unfolding recordsFrom partPlace
+  part-none l h =
+      record {
+        exact = sym (ap (λ (z : List Bytes). partPlace z i) (rows-end s i h)) ∙ m .exact;
+        place = m .place;
+        actions = m .actions;
+        groups = m .groups;
+        later = m .later;
+        inside = l;
+        stands = λ k. absurd (omega arith);
+      }
+
+-- The next action: the next group or action, unless that is a group.
 pub no-actions-left : (s : Bytes) → actionsOf (records (drop (length s) s)) ≡ []
 unfolding actionsOf
 no-actions-left s = ap actionsOf (no-rows (drop (length s) s) (omega (arith, length-drop (length s) s)))
 
-module _ (s : Bytes) (i x : ℕ) (inv : actionPlace (recordsFrom s i) i (length s) ≡ x) where
-  pub act-group : 64 ≤ length s - i → getD s i 0 ≡ 1 → length s ≡ x
-  unfolding actionPlace
-  act-group h e = sym (ap (λ (z : List Bytes). actionPlace z i (length s)) (rows-at s i h) ∙ rw (kind-at s i, eq-eqb (getD s i 0) 1 e)) ∙ inv
-
-  pub act-none : length s - i < 64 → length s ≡ x
-  unfolding actionPlace
-  act-none h = sym (ap (λ (z : List Bytes). actionPlace z i (length s)) (rows-end s i h)) ∙ inv
-
-  pub act-skip : 64 ≤ length s - i → (getD s i 0 ≡ 1 → ⊥) → getD s i 0 ≡ 2 → actionPlace (recordsFrom s (i + 64)) (i + 64) (length s) ≡ x
-  unfolding actionPlace
-  act-skip h n e =
-      sym (ap (λ (z : List Bytes). actionPlace z i (length s)) (rows-at s i h) ∙ rw (kind-at s i, ne-eqb (getD s i 0) 1 n, eq-eqb (getD s i 0) 2 e)) ∙ inv
-
-  pub act-pass : 64 ≤ length s - i → (getD s i 0 ≡ 1 → ⊥) → (getD s i 0 ≡ 2 → ⊥) → getD s i 0 ≡ 15 → actionPlace (recordsFrom s (i + 64)) (i + 64) (length s) ≡ x
-  unfolding actionPlace
-  act-pass h n m e =
-      sym (ap (λ (z : List Bytes). actionPlace z i (length s)) (rows-at s i h) ∙ rw (kind-at s i, ne-eqb (getD s i 0) 1 n, ne-eqb (getD s i 0) 2 m, eq-eqb (getD s i 0) 15 e)) ∙ inv
-
-  pub act-here : 64 ≤ length s - i → (getD s i 0 ≡ 1 → ⊥) → (getD s i 0 ≡ 2 → ⊥) → (getD s i 0 ≡ 15 → ⊥) → i ≡ x
-  unfolding actionPlace
-  act-here h n m o =
-      sym (ap (λ (z : List Bytes). actionPlace z i (length s)) (rows-at s i h) ∙ rw (kind-at s i, ne-eqb (getD s i 0) 1 n, ne-eqb (getD s i 0) 2 m, ne-eqb (getD s i 0) 15 o)) ∙ inv
-
-module _ (s : Bytes) (at i : ℕ) (inv : actionsOf (recordsFrom s i) ≡ actionsOf (records (drop at s))) (k : at ≤ i) (l : i ≤ length s) where
-  at-end : [] ≡ actionsOf (records (drop at s)) → length s ≡ actionPlace (records (drop at s)) at (length s) → NextAction s at (length s)
-  at-end e p =
+module _ (s : Bytes) (at i : ℕ) (e : NextPart s at i) where
+  at-end : actionPlace (recordsFrom s i) i (length s) ≡ length s → actionsOf (recordsFrom s i) ≡ [] → NextAction s at (length s)
+  unfolding recordsFrom
+  at-end p n =
+      let l = e .later in
+      let k = e .inside in
       record {
-        exact = p;
-        same = no-actions-left s ∙ e;
+        exact = sym p ∙ e .place;
+        same = no-actions-left s ∙ sym n ∙ e .actions;
         later = omega arith;
         inside = omega arith;
-        no-group = λ h e. omega arith;
-        no-limit = λ h e. omega arith;
-        no-file = λ h e. omega arith;
+        action = λ h. absurd (omega arith);
       }
 
-  pub next-group : 64 ≤ length s - i → getD s i 0 ≡ 1 → length s ≡ actionPlace (records (drop at s)) at (length s) → NextAction s at (length s)
-  next-group h e p = at-end (sym (acts-group s i h e) ∙ inv) p
+  pub next-none : length s - i < 64 → NextAction s at (length s)
+  unfolding actionPlace actionsOf
+  next-none h = at-end (ap (λ (z : List Bytes). actionPlace z i (length s)) (rows-end s i h)) (ap actionsOf (rows-end s i h))
 
-  pub next-none : length s - i < 64 → length s ≡ actionPlace (records (drop at s)) at (length s) → NextAction s at (length s)
-  unfolding actionsOf
-  next-none h p = at-end (sym (ap actionsOf (rows-end s i h)) ∙ inv) p
+  pub next-group : 64 ≤ length s - i → getD s i 0 ≡ 1 → NextAction s at (length s)
+  next-group h k = at-end (place-group s i h k) (acts-group s i h k)
 
-  pub next-skip : 64 ≤ length s - i → (getD s i 0 ≡ 1 → ⊥) → getD s i 0 ≡ 2 → actionsOf (recordsFrom s (i + 64)) ≡ actionsOf (records (drop at s))
-  next-skip h n e = sym (acts-limit s i h n e) ∙ inv
-
-  pub next-pass : 64 ≤ length s - i → (getD s i 0 ≡ 1 → ⊥) → (getD s i 0 ≡ 2 → ⊥) → getD s i 0 ≡ 15 → actionsOf (recordsFrom s (i + 64)) ≡ actionsOf (records (drop at s))
-  next-pass h n m e = sym (acts-file s i h n m e) ∙ inv
-
-  pub next-here : (getD s i 0 ≡ 1 → ⊥) → (getD s i 0 ≡ 2 → ⊥) → (getD s i 0 ≡ 15 → ⊥) → i ≡ actionPlace (records (drop at s)) at (length s) → NextAction s at i
+  pub next-here : 64 ≤ length s - i → (getD s i 0 ≡ 1 → ⊥) → NextAction s at i
   unfolding recordsFrom
-  next-here n m o p =
-      record { exact = p; same = inv; later = k; inside = l; no-group = λ h e. n e; no-limit = λ h e. m e; no-file = λ h e. o e }
+  next-here h n =
+      let p = e .stands h in
+      record {
+        exact = sym (place-action s i h n p) ∙ e .place;
+        same = e .actions;
+        later = e .later;
+        inside = e .inside;
+        action = λ k. acts-here s i h n p;
+      }
 
 -- A loop up to a group.
 drop-more : {A : Type 0} (n : ℕ) (x : A) (xs : List A) → (n ≡ 0 → ⊥) → drop n (x ∷ xs) ≡ drop (n - 1) xs
@@ -169,15 +247,13 @@ module _ (acl : Bytes) (g : ℕ) (r : Bytes) (e : FromGroup acl g r) where
       let z : drop g (groupsOf (records acl)) ≡ groupOf (take 64 r) (recordsFrom r 64) ∷ groupsOf (recordsFrom r 64) = sym (e .same) ∙ ap groupsOf f ∙ rw k in
       record { exact = lent-rest r 64 ∙ ap (drop 64) (e .exact); limits = rw (b, z) }
 
--- What stands at a place of a group: an action, a limit, or the end of either.
-module _ (s : Bytes) (at : ℕ) where
-  pub acts-step : 64 ≤ length s - at → (getD s at 0 ≡ 1 → ⊥) → (getD s at 0 ≡ 2 → ⊥) → (getD s at 0 ≡ 15 → ⊥)
-      → actionsOf (recordsFrom s at) ≡ actionOf (lentRecord s at) (fileRuleNext (recordsFrom s (at + 64))) ∷ actionsOf (recordsFrom s (at + 64))
-  unfolding actionsOf
-  acts-step h n m o =
-      ap actionsOf (rows-lent s at h)
-      ∙ rw (lent-record s at, kind-at s at, ne-eqb (getD s at 0) 1 n, ne-eqb (getD s at 0) 2 m, ne-eqb (getD s at 0) 15 o)
+-- an action, as code lends its record and the records that follow it
+pub lent-action : (s : Bytes) (at : ℕ) → actionOf (lentRecord s at) (fileRuleNext (records (lentRest s (at + 64)))) ≡ actionFrom s at
+unfolding recordsFrom
+lent-action s at = rw (lent-record s at, rows-rest s (at + 64))
 
+-- What stands at a place of a group: a limit, or the end of limits or actions.
+module _ (s : Bytes) (at : ℕ) where
   pub acts-end : length s - at < 64 → actionsOf (recordsFrom s at) ≡ []
   unfolding actionsOf
   acts-end h = ap actionsOf (rows-end s at h)

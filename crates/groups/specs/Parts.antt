@@ -3,21 +3,27 @@ use Prim.Native.Nat.{ℕ, _+_, _-_, _≤_}
 use mathlib.Core.Path.{_≡_}
 use mathlib.Core.List.{List, [], _∷_}
 use mathlib.Core.Option.{Option, none, some}
+use mathlib.Core.Bool.{Bool, false, _||_}
 use lib.ListN.{length, getD, drop}
 use lib.Dec.{eqb}
 use Rattle.rules.specs.Sizes.{recordBytes}
-use Rattle.rules.specs.Basics.{if_then_else_, Bytes, kind, records}
-use Rattle.rules.specs.Acl.{Limit, limitsOf, FileRule, fileRuleOf, fileRuleNext, actionsOf, Group, groupsOf}
+use Rattle.rules.specs.Basics.{if_then_else_, Bytes, part, kind, records}
+use Rattle.rules.specs.Acl.{Limit, limitsOf, FileRule, fileRuleOf, fileRuleNext, Action, actionOf, actionsOf, Group, groupsOf}
 use Rattle.rules.specs.Request.{BlobFile, blobFileOf, blobFileNext}
+
+-- "2 limit"; "Kind 15 does not count as an action." Neither begins a group or an action.
+abbrev pub passedOver : ℕ → Bool
+passedOver k = eqb k 2 || eqb k 15
+
+-- Where the next group or action stands among records, the first of which begins at the byte `at`; where they end if there is none.
+unfoldable pub partPlace : List Bytes → ℕ → ℕ
+partPlace [] at = at
+partPlace (r ∷ rs) at = if passedOver (kind r) then partPlace rs (at + recordBytes) else at
 
 -- Where the next action stands among a group's records, the first of which begins at the byte `at`; the file's end where the group has no more.
 unfoldable pub actionPlace : List Bytes → ℕ → ℕ → ℕ
 actionPlace [] at end = end
-actionPlace (r ∷ rs) at end =
-    if eqb (kind r) 1 then end
-    else if eqb (kind r) 2 then actionPlace rs (at + recordBytes) end
-    else if eqb (kind r) 15 then actionPlace rs (at + recordBytes) end
-    else at
+actionPlace (r ∷ rs) at end = if eqb (kind r) 1 then end else if passedOver (kind r) then actionPlace rs (at + recordBytes) end else at
 
 -- Where group g begins, of those among the records of which the first begins at the byte `at`; the file's end where there are fewer.
 unfoldable pub groupPlace : ℕ → List Bytes → ℕ → ℕ → ℕ
@@ -28,15 +34,31 @@ groupPlace g (r ∷ rs) at end =
 
 -- Each answer below is one place, or one part of the file: `exact`. What else is said of it follows from that, and is what callers go by.
 
--- The place of a group's next action, from `at` on: the same actions are left from there, and a record that stands there is one.
+-- The action whose record stands at a place, with the record of kind 15 that may follow it; then the actions that are left after it.
+abbrev pub actionFrom : Bytes → ℕ → Action
+actionFrom s at = actionOf (part at recordBytes s) (fileRuleNext (records (drop (at + recordBytes) s)))
+
+abbrev pub actionsFrom : Bytes → ℕ → List Action
+actionsFrom s at = actionFrom s at ∷ actionsOf (records (drop (at + recordBytes) s))
+
+-- The place of the next group or action, from `at` on: the same groups and actions are left from there, and a record that stands there begins a group
+-- or is an action.
+pub record NextPart (s : Bytes) (at r : ℕ) : Type 0 where
+  pub exact : r ≡ partPlace (records (drop at s)) at
+  pub place : actionPlace (records (drop r s)) r (length s) ≡ actionPlace (records (drop at s)) at (length s)
+  pub actions : actionsOf (records (drop r s)) ≡ actionsOf (records (drop at s))
+  pub groups : groupsOf (records (drop r s)) ≡ groupsOf (records (drop at s))
+  pub later : at ≤ r
+  pub inside : r ≤ length s
+  pub stands : recordBytes ≤ length s - r → passedOver (getD s r 0) ≡ false
+
+-- The place of a group's next action, from `at` on: the same actions are left from there, and a record that stands there is the first of them.
 pub record NextAction (s : Bytes) (at r : ℕ) : Type 0 where
   pub exact : r ≡ actionPlace (records (drop at s)) at (length s)
   pub same : actionsOf (records (drop r s)) ≡ actionsOf (records (drop at s))
   pub later : at ≤ r
   pub inside : r ≤ length s
-  pub no-group : recordBytes ≤ length s - r → getD s r 0 ≡ 1 → ⊥
-  pub no-limit : recordBytes ≤ length s - r → getD s r 0 ≡ 2 → ⊥
-  pub no-file : recordBytes ≤ length s - r → getD s r 0 ≡ 15 → ⊥
+  pub action : recordBytes ≤ length s - r → actionsOf (records (drop r s)) ≡ actionsFrom s r
 
 -- The place of group g, of those from `at` on: what is left from there are the groups without the first g, and a record that stands there begins one.
 pub record GroupAt (acl : Bytes) (at g r : ℕ) : Type 0 where

@@ -1,8 +1,10 @@
 // Finding one's way in an ACL: a group by its number, the group's own records, its limits, its actions one after the other. Each is total: it goes
-// by whatever bytes stand there, and the file may or may not have been tested.
+// by whatever bytes stand there, and the file may or may not have been tested. Which kinds are neither a group nor an action is known here alone: other
+// crates walk by next_part and next_action, or ask is_passed_over.
 ghost use Prim.Native.Nat.{_≤_};
 ghost use lib.ListN.{length};
-ghost use Rattle.groups.specs.Parts.{NextAction, GroupAt, FromGroup, GroupBody, FilePart};
+ghost use mathlib.Core.Path.{_≡_};
+ghost use Rattle.groups.specs.Parts.{passedOver, NextPart, NextAction, GroupAt, FromGroup, GroupBody, FilePart};
 
 // Where group g stands, of those from the byte `at` on; the end of the file where there are fewer. A search can so go on where one before it ended.
 pub fn group_at(acl: &[u8], at: usize, g: usize) -> usize
@@ -44,27 +46,42 @@ pub fn group_body(acl: &[u8], g: usize) -> &[u8]
     &rest[sizes::RECORD..]
 }
 
-// Where the next action of a group stands, from the byte `at` on; the end of the file where the group has no more. A loop over a group's actions can
-// step by this alone.
-pub fn next_action(s: &[u8], at: usize) -> usize
+// Whether a kind is one that is passed over on the way to the next group or action: a limit, or a record of kind 15, which goes with the action before it.
+pub fn is_passed_over(kind: u8) -> bool
+    ensures { λ r. ⌜ r ≡ passedOver kind ⌝ }
+{
+    (kind == 2) | (kind == 15)
+}
+
+// Where the next group or action stands, from the byte `at` on; where fewer bytes than a record are left if there is none.
+pub fn next_part(s: &[u8], at: usize) -> usize
     requires { ⌜ at ≤ length (now s) ⌝ }
-    ensures { λ r. ⌜ NextAction (now (s .entry)) at r ⌝ }
+    ensures { λ r. ⌜ NextPart (now (s .entry)) at r ⌝ }
 {
     let mut i = at;
     while sizes::RECORD <= s.len() - i {
-        if s[i] == 1 {
-            return s.len();
-        }
-        if s[i] == 2 {
-            i += sizes::RECORD;
-            continue;
-        }
-        if s[i] != 15 {
+        if !is_passed_over(s[i]) {
             return i;
         }
         i += sizes::RECORD;
     }
-    s.len()
+    i
+}
+
+// Where the next action of a group stands, from the byte `at` on; the end of the file where the group has no more. From the end of an action's own
+// record it leads past the record of kind 15 that may follow, to where the next action begins: a loop over a group's actions steps by this alone.
+pub fn next_action(s: &[u8], at: usize) -> usize
+    requires { ⌜ at ≤ length (now s) ⌝ }
+    ensures { λ r. ⌜ NextAction (now (s .entry)) at r ⌝ }
+{
+    let i = next_part(s, at);
+    if s.len() - i < sizes::RECORD {
+        return s.len();
+    }
+    if s[i] == 1 {
+        return s.len();
+    }
+    i
 }
 
 // The record of kind 15 that comes next, of the records that follow an action or a request record; empty where none does.
