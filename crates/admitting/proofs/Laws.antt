@@ -7,15 +7,16 @@ use mathlib.Core.List.{List, [], _∷_}
 use mathlib.Core.Option.{Option, none}
 use mathlib.Core.Bool.{Bool, true, false, not, _&&_, _||_, false≢true}
 use borrow.Author.Tests.{eq-eqb, ne-eqb, eqb-true, eqb-false, not-true, not-false}
-use lib.ListN.{length, getD}
+use lib.ListN.{length, drop, getD}
 use lib.Dec.{eqb}
 use lib.Pow.{pow-mono}
 use Rattle.rules.specs.Basics.{Bytes, any, same, bit, part, number, byte, kind, flag, optional, present, matches, records}
 use Rattle.rules.specs.Acl.{Parameters, parametersOf, blobRuleOf, archiveRuleOf, FileRule, fileRuleNext, actionOf, Action, actionsOf}
 use Rattle.rules.specs.Request.{tokenOf, workingBlobOf, recoveryBlobOf, BlobFile, wantedOf}
 use Rattle.rules.specs.Grant.{tighter, meets, nullKey, admitsDirect, admitsToken, admitsKey, admitsBlob, admitsArchive, admitsFile, admitsUse, admitsWorking, admitsRecovery, admits}
-use Rattle.rules.proofs.Rows.{recordsFrom, rows-rest, lentRecord, lentRest, lent-record, kind-at}
-use Rattle.groups.proofs.Laws.{acts-step, acts-limit, acts-file, acts-group, acts-end}
+use Rattle.rules.proofs.Rows.{recordsFrom, lentRecord, lentRest, lent-record, kind-at}
+use Rattle.groups.specs.Parts.{passedOver, actionFrom, actionsFrom, NextAction}
+use Rattle.groups.proofs.Laws.{acts-group, acts-here, acts-over, acts-end, lent-action}
 
 -- a field that a flag announces: absent, or to be compared
 module _ (u : Bool) (h k : Bytes) where
@@ -57,6 +58,14 @@ pub token-is : (act key rec : Bytes) (f g m n z w : Bool) → f ≡ flag 3 act �
     → (m && n && (not z || w)) ≡ admitsToken (blobRuleOf act) key (tokenOf rec)
 token-is act key rec f g m n z w a b c d e h = rw (b, a, d, c, e, h)
 
+and-false : (a : Bool) → (a && false) ≡ false
+and-false true = refl
+and-false false = refl
+
+and-true : (a : Bool) → (a && true) ≡ a
+and-true true = refl
+and-true false = refl
+
 -- An action by its kind, against what a request record asks for.
 high-bit : (p n : ℕ) → n < 65536 → 16 ≤ p → bit p n ≡ false
 high-bit p n h k =
@@ -90,10 +99,18 @@ module _ (km0 rec : Bytes) (stored : Option BlobFile) (act : Bytes) (file : Opti
       pick true e = rw e
       pick false e = rw (e, ne-eqb (kind act) 4 n)
 
-  pub working-is : (r t : Bool) → kind act ≡ 4 → r ≡ admitsBlob km0 (blobRuleOf act) (workingBlobOf rec) → t ≡ admitsFile file stored
-      → (r && t) ≡ admitsWorking km0 (workingBlobOf rec) stored (actionOf act file)
-  unfolding admitsWorking actionOf
-  working-is r t e q d = rw (q, d) (sym (rw (ne-eqb (kind act) 3 (λ x. omega arith), eq-eqb (kind act) 4 e)))
+  module _ (t : Bool) (e : kind act ≡ 4) (d : t ≡ admitsFile file stored) where
+    pub working-elsewhere : not t ≡ true → false ≡ admitsWorking km0 (workingBlobOf rec) stored (actionOf act file)
+    unfolding admitsWorking actionOf
+    working-elsewhere y =
+        let f : admitsFile file stored ≡ false = sym d ∙ not-true t y in
+        sym (rw (ne-eqb (kind act) 3 (λ x. omega arith), eq-eqb (kind act) 4 e, f) (and-false (admitsBlob km0 (blobRuleOf act) (workingBlobOf rec))))
+
+    pub working-is : (r : Bool) → not t ≡ false → r ≡ admitsBlob km0 (blobRuleOf act) (workingBlobOf rec) → r ≡ admitsWorking km0 (workingBlobOf rec) stored (actionOf act file)
+    unfolding admitsWorking actionOf
+    working-is r y q =
+        let f : admitsFile file stored ≡ true = sym d ∙ not-false t y in
+        q ∙ sym (rw (ne-eqb (kind act) 3 (λ x. omega arith), eq-eqb (kind act) 4 e, f) (and-true (admitsBlob km0 (blobRuleOf act) (workingBlobOf rec))))
 
 module _ (rec : Bytes) (stored : Option BlobFile) (act : Bytes) (file : Option FileRule) where
   pub recovery-use : kind act ≡ 3 → false ≡ admitsRecovery (recoveryBlobOf rec) stored (actionOf act file)
@@ -129,39 +146,39 @@ module _ (km0 rec : Bytes) (stored : Option BlobFile) where
   unfolding admits wantedOf
   asks-recovery act file r n m q = q ∙ sym (rw (ne-eqb (kind rec) 6 n, ne-eqb (kind rec) 7 m))
 
--- A loop over a group's records: limits and kind 15 are passed over, the next group ends it.
+-- A loop over a group's actions.
 module _ (p : Action → Bool) (s : Bytes) (at : ℕ) (x : Bool) (inv : any p (actionsOf (recordsFrom s at)) ≡ x) where
-  here : 64 ≤ length s - at → (getD s at 0 ≡ 1 → ⊥) → (getD s at 0 ≡ 2 → ⊥) → (getD s at 0 ≡ 15 → ⊥)
-      → actionsOf (recordsFrom s at) ≡ actionOf (lentRecord s at) (fileRuleNext (records (lentRest s (at + 64)))) ∷ actionsOf (recordsFrom s (at + 64))
-  here h n m o =
-      acts-step s at h n m o
-      ∙ ap (λ (l : List Bytes). actionOf (lentRecord s at) (fileRuleNext l) ∷ actionsOf (recordsFrom s (at + 64))) (sym (rows-rest s (at + 64)))
+  module _ (t : Bool) (step : actionsOf (records (drop at s)) ≡ actionsFrom s at) (e : t ≡ p (actionFrom s at)) where
+    one-found : t ≡ true → true ≡ x
+    unfolding any recordsFrom
+    one-found y = sym (ap (any p) step ∙ rw (sym e ∙ y)) ∙ inv
 
-  module _ (t : Bool) (h : 64 ≤ length s - at) (n : getD s at 0 ≡ 1 → ⊥) (m : getD s at 0 ≡ 2 → ⊥) (o : getD s at 0 ≡ 15 → ⊥)
+    one-more : t ≡ false → any p (actionsOf (recordsFrom s (at + 64))) ≡ x
+    unfolding any recordsFrom
+    one-more y = sym (ap (any p) step ∙ rw (sym e ∙ y)) ∙ inv
+
+  module _ (t : Bool) (h : 64 ≤ length s - at) (step : 64 ≤ length s - at → actionsOf (records (drop at s)) ≡ actionsFrom s at)
       (e : t ≡ p (actionOf (lentRecord s at) (fileRuleNext (records (lentRest s (at + 64)))))) where
     pub acts-found : t ≡ true → true ≡ x
-    unfolding any
-    acts-found y = sym (ap (any p) (here h n m o) ∙ rw (sym e ∙ y)) ∙ inv
+    acts-found y = one-found t (step h) (e ∙ ap p (lent-action s at)) y
 
-    pub acts-next : t ≡ false → any p (actionsOf (recordsFrom s (at + 64))) ≡ x
-    unfolding any
-    acts-next y = sym (ap (any p) (here h n m o) ∙ rw (sym e ∙ y)) ∙ inv
-
-  pub acts-pass : 64 ≤ length s - at → (getD s at 0 ≡ 1 → ⊥) → getD s at 0 ≡ 2 → any p (actionsOf (recordsFrom s (at + 64))) ≡ x
-  acts-pass h n e = sym (ap (any p) (acts-limit s at h n e)) ∙ inv
-
-  pub acts-skip : 64 ≤ length s - at → (getD s at 0 ≡ 1 → ⊥) → (getD s at 0 ≡ 2 → ⊥) → getD s at 0 ≡ 15 → any p (actionsOf (recordsFrom s (at + 64))) ≡ x
-  acts-skip h n m e = sym (ap (any p) (acts-file s at h n m e)) ∙ inv
-
-  pub acts-stop : 64 ≤ length s - at → getD s at 0 ≡ 1 → false ≡ x
-  unfolding any
-  acts-stop h e = sym (ap (any p) (acts-group s at h e)) ∙ inv
+    pub acts-next : t ≡ false → (r : ℕ) → NextAction s (at + 64) r → any p (actionsOf (recordsFrom s r)) ≡ x
+    unfolding recordsFrom
+    acts-next y r n = ap (any p) (n .same) ∙ one-more t (step h) (e ∙ ap p (lent-action s at)) y
 
   pub acts-none : length s - at < 64 → false ≡ x
   unfolding any
   acts-none h = sym (ap (any p) (acts-end s at h)) ∙ inv
 
--- .. for a use: a limit and a record of kind 15 admit none, and are passed over as an action that does not
+  pub acts-stop : 64 ≤ length s - at → getD s at 0 ≡ 1 → false ≡ x
+  unfolding any
+  acts-stop h e = sym (ap (any p) (acts-group s at h e)) ∙ inv
+
+pub acts-first : (p : Action → Bool) (s : Bytes) (at : ℕ) → NextAction s 0 at → any p (actionsOf (recordsFrom s at)) ≡ any p (actionsOf (records s))
+unfolding recordsFrom
+acts-first p s at e = ap (any p) (e .same)
+
+-- .. for a use: what is passed over on the way to an action admits none, and neither does an action of another kind
 module _ (p : ℕ) (s : Bytes) (at : ℕ) (x : Bool) (inv : any (admitsUse p) (actionsOf (recordsFrom s at)) ≡ x) (t : Bool) (h : 64 ≤ length s - at) (n : getD s at 0 ≡ 1 → ⊥)
     (e : (file : Option FileRule) → t ≡ admitsUse p (actionOf (lentRecord s at) file)) where
   kind-is : kind (lentRecord s at) ≡ getD s at 0
@@ -170,19 +187,19 @@ module _ (p : ℕ) (s : Bytes) (at : ℕ) (x : Bool) (inv : any (admitsUse p) (a
   other-none : (getD s at 0 ≡ 3 → ⊥) → t ≡ false
   other-none m = e none ∙ sym (use-other p (lentRecord s at) none (λ k. m (sym kind-is ∙ k)))
 
+  here : t ≡ admitsUse p (actionFrom s at)
+  here = let f = fileRuleNext (records (drop (at + 64) s)) in e f ∙ ap (λ (r : Bytes). admitsUse p (actionOf r f)) (lent-record s at)
+
   pub uses-found : t ≡ true → true ≡ x
   uses-found y = pick (eqb (getD s at 0) 3) refl
     where
       pick : (b : Bool) → eqb (getD s at 0) 3 ≡ b → true ≡ x
-      pick true d =
-          let k = eqb-true (getD s at 0) 3 d in
-          acts-found (admitsUse p) s at x inv t h n (λ z. omega arith) (λ z. omega arith) (e _) y
+      pick true d = one-found (admitsUse p) s at x inv t (acts-here s at h n (ap passedOver (eqb-true (getD s at 0) 3 d))) here y
       pick false d = absurd (false≢true (sym (other-none (eqb-false (getD s at 0) 3 d)) ∙ y))
 
   pub uses-next : t ≡ false → any (admitsUse p) (actionsOf (recordsFrom s (at + 64))) ≡ x
-  uses-next y = pick (eqb (getD s at 0) 2) (eqb (getD s at 0) 15) refl refl
+  uses-next y = pick (passedOver (getD s at 0)) refl
     where
-      pick : (b d : Bool) → eqb (getD s at 0) 2 ≡ b → eqb (getD s at 0) 15 ≡ d → any (admitsUse p) (actionsOf (recordsFrom s (at + 64))) ≡ x
-      pick true d i j = acts-pass (admitsUse p) s at x inv h n (eqb-true (getD s at 0) 2 i)
-      pick false true i j = acts-skip (admitsUse p) s at x inv h n (eqb-false (getD s at 0) 2 i) (eqb-true (getD s at 0) 15 j)
-      pick false false i j = acts-next (admitsUse p) s at x inv t h n (eqb-false (getD s at 0) 2 i) (eqb-false (getD s at 0) 15 j) (e _) y
+      pick : (b : Bool) → passedOver (getD s at 0) ≡ b → any (admitsUse p) (actionsOf (recordsFrom s (at + 64))) ≡ x
+      pick true d = sym (ap (any (admitsUse p)) (acts-over s at h d)) ∙ inv
+      pick false d = one-more (admitsUse p) s at x inv t (acts-here s at h n d) here y

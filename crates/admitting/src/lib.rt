@@ -123,7 +123,8 @@ fn admits_use(p: u8, act: &[u8]) -> bool
     fields::bit_of(p as u16, bits)
 }
 
-// Whether an action admits a working blob, by the records that follow the request record and those that follow the action.
+// Whether an action admits a working blob, by the records that follow the request record and those that follow the action. These are compared first, for
+// that costs less.
 fn admits_working(km0: &[u8], rec: &[u8], rest: &[u8], act: &[u8], after: &[u8]) -> bool
     requires { ⌜ (length (now act) ≡ recordBytes) × (length (now rec) ≡ recordBytes) ⌝ }
     ensures { λ r. ⌜ r ≡ admitsWorking (now (km0 .entry)) (workingBlobOf (now (rec .entry))) (blobFileNext (records (now (rest .entry)))) (actionOf (now (act .entry)) (fileRuleNext (records (now (after .entry))))) ⌝ }
@@ -131,7 +132,10 @@ fn admits_working(km0: &[u8], rec: &[u8], rest: &[u8], act: &[u8], after: &[u8])
     if act[0] != 4 {
         return false;
     }
-    admits_blob(km0, act, rec) & storing::admits_place(rest, after)
+    if !storing::admits_place(rest, after) {
+        return false;
+    }
+    admits_blob(km0, act, rec)
 }
 
 // Whether an action admits a recovery blob.
@@ -165,19 +169,8 @@ fn admits_some_blob(km0: &[u8], rec: &[u8], rest: &[u8], body: &[u8]) -> bool
     requires { ⌜ (length (now rec) ≡ recordBytes) × (kind (now rec) ≡ 6 → ⊥) ⌝ }
     ensures { λ r. ⌜ r ≡ any (admits (now (km0 .entry)) (wantedOf (now (rec .entry)) (blobFileNext (records (now (rest .entry)))))) (actionsOf (records (now (body .entry)))) ⌝ }
 {
-    let mut at = 0;
+    let mut at = groups::next_action(body, 0);
     while sizes::RECORD <= body.len() - at {
-        if body[at] == 1 {
-            return false;
-        }
-        if body[at] == 2 {
-            at += sizes::RECORD;
-            continue;
-        }
-        if body[at] == 15 {
-            at += sizes::RECORD;
-            continue;
-        }
         if action_admits(
             km0,
             rec,
@@ -187,12 +180,13 @@ fn admits_some_blob(km0: &[u8], rec: &[u8], rest: &[u8], body: &[u8]) -> bool
         ) {
             return true;
         }
-        at += sizes::RECORD;
+        at = groups::next_action(body, at + sizes::RECORD);
     }
     false
 }
 
-// Whether a group admits a use of permission p. A limit and a record of kind 15 admit none, so that they need no look of their own.
+// Whether a group admits a use of permission p. What is passed over on the way to an action is of another kind and admits none, so that this loop goes by
+// every record and asks nothing of it but its own tests.
 fn admits_some_use(p: u8, body: &[u8]) -> bool
     ensures { λ r. ⌜ r ≡ any (admitsUse p) (actionsOf (records (now (body .entry)))) ⌝ }
 {

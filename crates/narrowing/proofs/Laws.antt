@@ -4,20 +4,20 @@ use native.Mathlib.Omega.{arith}
 use native.Mathlib.Numerals.{add-one}
 use mathlib.Core.Path.{_≡_, refl, sym, _∙_, ap}
 use mathlib.Core.List.{List, [], _∷_}
-use mathlib.Core.Option.{Option, some}
-use mathlib.Core.Bool.{Bool, true, false, not, _&&_}
-use borrow.Author.Tests.{eq-eqb, ne-eqb, eqb-true, eqb-false, not-true, not-false}
+use mathlib.Core.Option.{Option, none, some}
+use mathlib.Core.Bool.{Bool, true, false, not, _&&_, false≢true}
+use borrow.Author.Tests.{eq-eqb, ne-eqb, eqb-true, eqb-false, ltb-true, ltb-false, le-leb, lt-leb, not-true, not-false}
 use lib.ListN.{length, take, drop, getD, getElem?, length-drop, drop-of-length-le}
-use lib.Seq.{drop-cons, drop-drop, take-all}
-use lib.Dec.{eqb}
+use lib.Seq.{drop-cons, drop-drop, drop-nil, take-all}
+use lib.Dec.{eqb, ltb}
 use Rattle.rules.specs.Basics.{Bytes, any, all, allZero, same, within, part, number, kind, flag, optional, records}
 use Rattle.rules.specs.Acl.{blobRuleOf, archiveRuleOf, FileRule, fileRuleNext, Action, permissions, makeBlob, makeArchive, actionOf, actionsOf, Limit, limitOf, limitsOf}
 use Rattle.rules.specs.Narrow.{keptBy, kept, keptNumber, blobNoWider, archiveNoWider, fileNoWider, noWider, noWiderThan, actionsNoWider, isAnswered}
-use Rattle.rules.proofs.Rows.{recordsFrom, rows-rest, lentRecord, lent-record, lentRest, lent-rest}
+use Rattle.rules.proofs.Rows.{recordsFrom, lentRecord, lentRest}
 use Rattle.fields.proofs.Laws.{lent}
-use Rattle.groups.specs.Parts.{NextAction}
-use Rattle.groups.proofs.Laws.{acts-step, acts-end, acts-group, acts-limit, acts-file, limits-step, limits-stop, limits-end}
-use Rattle.narrowing.specs.Groups.{actionFrom, actionIn, certifierKept, recordsNarrow}
+use Rattle.groups.specs.Parts.{actionFrom, actionsFrom, NextAction}
+use Rattle.groups.proofs.Laws.{acts-end, lent-action, limits-step, limits-stop, limits-end}
+use Rattle.narrowing.specs.Groups.{actionIn, ActionAt, certifierKept, recordsNarrow}
 
 -- "kept or added", by what the flags say
 module _ {A : Type 0} (test : A → A → Bool) (has had : Bool) (n o : A) where
@@ -84,104 +84,144 @@ module _ (n : Bytes) (nf : Option FileRule) (o : Bytes) (of : Option FileRule) w
   unfolding noWider
   blobs-compared r t e d f g = rw (f, g) (sym (rw (action-4 n nf e, action-4 o of d)))
 
--- The action at a place, by counting down.
-in-action : (r : Bytes) → 0 < length r → actionIn r ≡ some (actionFrom r)
-in-action [] h = absurd (omega arith)
-in-action (b ∷ bs) h = refl
+-- The first of what is left of a list after some, and what is left after that.
+get-first : {A : Type 0} (xs : List A) (n : ℕ) (y : A) (ys : List A) → drop n xs ≡ y ∷ ys → getElem? xs n ≡ some y
+get-first [] zero y ys e = ap (λ (l : List A). getElem? l 0) e
+get-first [] (suc n) y ys e = ap (λ (l : List A). getElem? l 0) e
+get-first (x ∷ xs) zero y ys e = ap (λ (l : List A). getElem? l 0) e
+get-first (x ∷ xs) (suc n) y ys e = get-first xs n y ys e
 
--- .. at the front of the records from there on
-rest-action : (s : Bytes) (at : ℕ) → actionFrom (lentRest s at) ≡ actionOf (lentRecord s at) (fileRuleNext (recordsFrom s (at + 64)))
-unfolding recordsFrom
-rest-action s at =
-    ap actionFrom (lent-rest s at)
-    ∙ ap (λ (l : List Bytes). actionOf (take 64 (drop at s)) (fileRuleNext l)) (rows-rest (drop at s) 64 ∙ ap records (drop-drop 64 at s))
-    ∙ ap (λ (r : Bytes). actionOf r (fileRuleNext (recordsFrom s (at + 64)))) (sym (lent-record s at))
+get-none : {A : Type 0} (xs : List A) (n : ℕ) → drop n xs ≡ [] → getElem? xs n ≡ none
+get-none [] n e = refl
+get-none (x ∷ xs) zero e = ap (λ (l : List A). getElem? l 0) e
+get-none (x ∷ xs) (suc n) e = get-none xs n e
 
-get-more : {A : Type 0} (x : A) (xs : List A) (n : ℕ) → (n ≡ 0 → ⊥) → getElem? (x ∷ xs) n ≡ getElem? xs (n - 1)
-get-more x xs zero h = absurd (h refl)
-get-more x xs (suc n) h = let e : n ≡ suc n - 1 = omega arith in ap (getElem? xs) e
+drop-more : {A : Type 0} (n : ℕ) (x : A) (xs : List A) → (n ≡ 0 → ⊥) → drop n (x ∷ xs) ≡ drop (n - 1) xs
+drop-more zero x xs h = absurd (h refl)
+drop-more (suc n) x xs h = let e : n ≡ suc n - 1 = omega arith in ap (λ (k : ℕ). drop k xs) e
 
--- the length of the records from a place on, as code lends them
-pub rest-length : (s : Bytes) (at : ℕ) → 64 ≤ length s - at → 64 ≤ length (lentRest s at)
-rest-length s at h = omega (arith, ap length (lent-rest s at), length-drop at s)
+in-some : (s : Bytes) (at : ℕ) → 64 ≤ length s - at → actionIn s at ≡ some (actionFrom s at)
+unfolding actionIn
+in-some s at h = rw (le-leb 64 (length s - at) h)
 
-module _ (s : Bytes) (at left : ℕ) (x : Option Action) (inv : getElem? (actionsOf (recordsFrom s at)) left ≡ x) where
-  pub at-found : 64 ≤ length s - at → (getD s at 0 ≡ 1 → ⊥) → (getD s at 0 ≡ 2 → ⊥) → (getD s at 0 ≡ 15 → ⊥) → left ≡ 0 → actionIn (lentRest s at) ≡ x
-  at-found h n m o e =
-      in-action (lentRest s at) (omega (arith, rest-length s at h))
-      ∙ ap some (rest-action s at)
-      ∙ sym (ap (λ (z : List Action). getElem? z left) (acts-step s at h n m o) ∙ rw e)
-      ∙ inv
+in-none : (s : Bytes) (at : ℕ) → length s - at < 64 → actionIn s at ≡ none
+unfolding actionIn
+in-none s at h = rw (lt-leb 64 (length s - at) h)
 
-  pub at-next : 64 ≤ length s - at → (getD s at 0 ≡ 1 → ⊥) → (getD s at 0 ≡ 2 → ⊥) → (getD s at 0 ≡ 15 → ⊥) → (left ≡ 0 → ⊥)
-      → getElem? (actionsOf (recordsFrom s (at + 64))) (left - 1) ≡ x
-  at-next h n m o e =
-      sym (ap (λ (z : List Action). getElem? z left) (acts-step s at h n m o)
-      ∙ get-more (actionOf (lentRecord s at) (fileRuleNext (recordsFrom s (at + 64)))) (actionsOf (recordsFrom s (at + 64))) left e)
-      ∙ inv
+-- A search for action h: `left` more actions from the byte i on.
+pub record Sought (s : Bytes) (h left i : ℕ) : Type 0 where
+  pub same : drop left (actionsOf (records (drop i s))) ≡ drop h (actionsOf (records s))
+  pub action : 64 ≤ length s - i → actionsOf (records (drop i s)) ≡ actionsFrom s i
 
-  pub at-limit : 64 ≤ length s - at → (getD s at 0 ≡ 1 → ⊥) → getD s at 0 ≡ 2 → getElem? (actionsOf (recordsFrom s (at + 64))) left ≡ x
-  at-limit h n e = sym (ap (λ (z : List Action). getElem? z left) (acts-limit s at h n e)) ∙ inv
+pub sought-from : (s : Bytes) (low from h q p i : ℕ) → actionsOf (records (drop from s)) ≡ drop low (actionsOf (records s)) → (h < low → q ≡ 0) → (low ≤ h → q ≡ low) → (h < low → p ≡ 0)
+    → (low ≤ h → p ≡ from) → NextAction s p i → Sought s h (h - q) i
+sought-from s low from h q p i e a b c d n = record { same = pick (ltb h low) refl; action = n .action }
+  where
+    pick : (t : Bool) → ltb h low ≡ t → drop (h - q) (actionsOf (records (drop i s))) ≡ drop h (actionsOf (records s))
+    pick true t =
+        let k = ltb-true h low t in
+        let f : h - q ≡ h = omega (arith, a k) in
+        ap (drop (h - q)) (n .same ∙ ap (λ (m : ℕ). actionsOf (records (drop m s))) (c k)) ∙ ap (λ (m : ℕ). drop m (actionsOf (records s))) f
+    pick false t =
+        let k = ltb-false h low t in
+        let f : low + (h - q) ≡ h = omega (arith, b k) in
+        ap (drop (h - q)) (n .same ∙ ap (λ (m : ℕ). actionsOf (records (drop m s))) (d k) ∙ e)
+        ∙ drop-drop (h - q) low (actionsOf (records s))
+        ∙ ap (λ (m : ℕ). drop m (actionsOf (records s))) f
 
-  pub at-file : 64 ≤ length s - at → (getD s at 0 ≡ 1 → ⊥) → (getD s at 0 ≡ 2 → ⊥) → getD s at 0 ≡ 15 → getElem? (actionsOf (recordsFrom s (at + 64))) left ≡ x
-  at-file h n m e = sym (ap (λ (z : List Action). getElem? z left) (acts-file s at h n m e)) ∙ inv
+module _ (s : Bytes) (h left i : ℕ) (m : Sought s h left i) where
+  pub sought-more : (j : ℕ) → 64 ≤ length s - i → (left ≡ 0 → ⊥) → NextAction s (i + 64) j → Sought s h (left - 1) j
+  sought-more j k n e =
+      record {
+        same =
+          ap (drop (left - 1)) (e .same)
+          ∙ sym (ap (drop left) (m .action k) ∙ drop-more left (actionFrom s i) (actionsOf (records (drop (i + 64) s))) n)
+          ∙ m .same;
+        action = e .action;
+      }
 
-  pub at-group : 64 ≤ length s - at → getD s at 0 ≡ 1 → actionIn [] ≡ x
-  at-group h e = sym (ap (λ (z : List Action). getElem? z left) (acts-group s at h e)) ∙ inv
+  pub sought-found : i ≤ length s → 64 ≤ length s - i → left ≡ 0 → ActionAt s h i
+  sought-found l k z =
+      let e : drop h (actionsOf (records s)) ≡ actionsFrom s i = sym (m .same) ∙ ap (λ (n : ℕ). drop n (actionsOf (records (drop i s)))) z ∙ m .action k in
+      record {
+        found = in-some s i k ∙ sym (get-first (actionsOf (records s)) h (actionFrom s i) (actionsOf (records (drop (i + 64) s))) e);
+        next = λ n. sym (ap (drop 1) e) ∙ drop-drop 1 h (actionsOf (records s));
+        inside = l;
+      }
 
-  pub at-none : length s - at < 64 → actionIn [] ≡ x
-  at-none h = sym (ap (λ (z : List Action). getElem? z left) (acts-end s at h)) ∙ inv
+  pub sought-none : length s - i < 64 → ActionAt s h (length s)
+  unfolding recordsFrom
+  sought-none k =
+      let e : drop h (actionsOf (records s)) ≡ [] = sym (m .same) ∙ ap (drop left) (acts-end s i k) ∙ drop-nil left in
+      record {
+        found = in-none s (length s) (omega arith) ∙ sym (get-none (actionsOf (records s)) h e);
+        next = λ n. absurd (omega arith);
+        inside = omega arith;
+      }
 
 -- .. compared with the action that a hint names
-module _ (n : Action) (old : Bytes) (x : Option Action) (e : actionIn old ≡ x) where
-  pub hint-nothing : ((length old ≡ 0 → ⊥) → 64 ≤ length old) → length old < 64 → false ≡ noWiderThan n x
-  hint-nothing f h = pick old f h e
-    where
-      pick : (r : Bytes) → ((length r ≡ 0 → ⊥) → 64 ≤ length r) → length r < 64 → actionIn r ≡ x → false ≡ noWiderThan n x
-      pick [] f h e = ap (noWiderThan n) e
-      pick (b ∷ bs) f h e = let l : 64 ≤ length (b ∷ bs) = f (λ z. omega arith) in absurd (omega arith)
+pub hint-nothing : (n : Action) (old : Bytes) (place : ℕ) → length old - place < 64 → (false ≡ noWiderThan n (actionIn old place)) × (false ≡ true → 64 ≤ length old - place)
+hint-nothing n old place h = (sym (ap (noWiderThan n) (in-none old place h)), λ e. absurd (false≢true e))
 
-  pub hint-compared : (r : Bool) → 64 ≤ length old → r ≡ noWider n (actionFrom old) → r ≡ noWiderThan n x
-  hint-compared r h p = p ∙ ap (noWiderThan n) (sym (in-action old (omega arith)) ∙ e)
+pub hint-compared : (new : Bytes) (at : ℕ) (old : Bytes) (place : ℕ) (r : Bool) → 64 ≤ length old - place
+    → r ≡ noWider (actionOf (lentRecord new at) (fileRuleNext (records (lentRest new (at + 64))))) (actionOf (lentRecord old place) (fileRuleNext (records (lentRest old (place + 64)))))
+    → (r ≡ noWiderThan (actionFrom new at) (actionIn old place)) × (r ≡ true → 64 ≤ length old - place)
+hint-compared new at old place r h e =
+    (e
+    ∙ ap (λ (a : Action). noWider a (actionOf (lentRecord old place) (fileRuleNext (records (lentRest old (place + 64)))))) (lent-action new at)
+    ∙ ap (noWider (actionFrom new at)) (lent-action old place)
+    ∙ sym (ap (noWiderThan (actionFrom new at)) (in-some old place h)), λ t. h)
 
--- A loop over the actions of a new group and the bytes of its hint.
-module _ (s hints : Bytes) (olds : List Action) (at i : ℕ) (x : Bool) (inv : actionsNoWider (actionsOf (recordsFrom s at)) (drop i hints) olds ≡ x) where
-  module _ (h : 64 ≤ length s - at) (n : getD s at 0 ≡ 1 → ⊥) (m : getD s at 0 ≡ 2 → ⊥) (o : getD s at 0 ≡ 15 → ⊥) where
-    abbrev here : Action
-    here = actionOf (lentRecord s at) (fileRuleNext (records (lentRest s (at + 64))))
+-- A loop over the actions of a new group and the bytes of its hint: what is left has the whole's answer, and the search for old actions can go on from
+-- action `low`.
+pub record Comparing (new hints old : Bytes) (at i low from : ℕ) : Type 0 where
+  pub action : 64 ≤ length new - at → actionsOf (records (drop at new)) ≡ actionsFrom new at
+  pub source : actionsOf (records (drop from old)) ≡ drop low (actionsOf (records old))
+  pub rest : actionsNoWider (actionsOf (records (drop at new))) (drop i hints) (actionsOf (records old)) ≡ actionsNoWider (actionsOf (records new)) hints (actionsOf (records old))
 
-    acts-here : actionsOf (recordsFrom s at) ≡ here ∷ actionsOf (recordsFrom s (at + 64))
-    acts-here =
-        acts-step s at h n m o
-        ∙ ap (λ (l : List Bytes). actionOf (lentRecord s at) (fileRuleNext l) ∷ actionsOf (recordsFrom s (at + 64))) (sym (rows-rest s (at + 64)))
+pub compare-first : (new hints old : Bytes) (at : ℕ) → NextAction new 0 at → Comparing new hints old at 0 0 0
+compare-first new hints old at e =
+    record { action = e .action; source = refl; rest = ap (λ (z : List Action). actionsNoWider z hints (actionsOf (records old))) (e .same) }
 
-    pub hints-short : length hints ≤ i → false ≡ x
+module _ (new hints old : Bytes) (at i low from : ℕ) (m : Comparing new hints old at i low from) where
+  abbrev answer : Bool
+  answer = actionsNoWider (actionsOf (records new)) hints (actionsOf (records old))
+
+  module _ (h : 64 ≤ length new - at) where
+    pub hints-short : length hints ≤ i → false ≡ answer
     unfolding actionsNoWider
     hints-short l =
-        sym (ap (λ (z : List Action). actionsNoWider z (drop i hints) olds) acts-here ∙ rw (drop-of-length-le hints {i = i} l)) ∙ inv
+        sym (ap (λ (z : List Action). actionsNoWider z (drop i hints) (actionsOf (records old))) (m .action h) ∙ rw (drop-of-length-le hints {i = i} l)) ∙ m .rest
 
-    module _ (l : i < length hints) (t : Bool) (e : t ≡ noWiderThan here (getElem? olds (getD hints i 0))) where
-      step : (noWiderThan here (getElem? olds (getD hints i 0)) && actionsNoWider (actionsOf (recordsFrom s (at + 64))) (drop (i + 1) hints) olds) ≡ x
+    module _ (n place : ℕ) (t : Bool) (l : i < length hints) (d : n ≡ getD hints i 0) (f : ActionAt old n place) (e : t ≡ noWiderThan (actionFrom new at) (actionIn old place)) where
+      named : noWiderThan (actionFrom new at) (getElem? (actionsOf (records old)) (getD hints i 0)) ≡ t
+      named = sym (e ∙ ap (noWiderThan (actionFrom new at)) (f .found ∙ ap (getElem? (actionsOf (records old))) d))
+
+      step : (t && actionsNoWider (actionsOf (records (drop (at + 64) new))) (drop (i + 1) hints) (actionsOf (records old))) ≡ answer
       unfolding actionsNoWider
-      step = sym (ap (λ (z : List Action). actionsNoWider z (drop i hints) olds) acts-here ∙ rw (drop-cons hints i 0 l, ← (add-one i))) ∙ inv
+      step =
+          sym (ap (λ (z : List Action). actionsNoWider z (drop i hints) (actionsOf (records old))) (m .action h)
+          ∙ rw (drop-cons hints i 0 l, ← (add-one i), named))
+          ∙ m .rest
 
-      pub action-wider : not t ≡ true → false ≡ x
-      action-wider y = let q : noWiderThan here (getElem? olds (getD hints i 0)) ≡ false = sym e ∙ not-true t y in rw q at step
+      pub action-wider : not t ≡ true → false ≡ answer
+      action-wider y = rw (not-true t y) at step
 
-      pub action-kept : (r : ℕ) → not t ≡ false → actionsOf (records (drop r s)) ≡ actionsOf (records (drop (at + 64) s))
-          → actionsNoWider (actionsOf (recordsFrom s r)) (drop (i + 1) hints) olds ≡ x
-      unfolding recordsFrom
-      action-kept r y d =
-          let q : noWiderThan here (getElem? olds (getD hints i 0)) ≡ true = sym e ∙ not-false t y in
-          ap (λ (z : List Action). actionsNoWider z (drop (i + 1) hints) olds) d ∙ rw q at step
+      pub action-kept : (r : ℕ) → not t ≡ false → 64 ≤ length old - place → NextAction new (at + 64) r → Comparing new hints old r (i + 1) (n + 1) (place + 64)
+      action-kept r y k a =
+          record {
+            action = a .action;
+            source = f .next k;
+            rest = ap (λ (z : List Action). actionsNoWider z (drop (i + 1) hints) (actionsOf (records old))) (a .same) ∙ rw (not-false t y) at step;
+          }
 
-  pub hints-over : (r : Bool) → length s - at < 64 → r ≡ allZero (take (length hints - i) (drop i hints)) → r ≡ x
-  unfolding actionsNoWider
+  pub hints-over : (r : Bool) → length new - at < 64 → r ≡ allZero (take (length hints - i) (drop i hints)) → r ≡ answer
+  unfolding actionsNoWider recordsFrom
   hints-over r h e =
       e
       ∙ ap allZero (take-all (length hints - i) (drop i hints) (omega (arith, length-drop i hints)))
-      ∙ sym (ap (λ (z : List Action). actionsNoWider z (drop i hints) olds) (acts-end s at h))
-      ∙ inv
+      ∙ sym (ap (λ (z : List Action). actionsNoWider z (drop i hints) (actionsOf (records old))) (acts-end new at h))
+      ∙ m .rest
 
 -- A loop over new limits for one that answers.
 module _ (p : Limit → Bool) (s : Bytes) (at : ℕ) (x : Bool) (inv : any p (limitsOf (recordsFrom s at)) ≡ x) where
@@ -207,13 +247,10 @@ pub certifier-is : (n o : Bytes) (a b f g : Bool) (x y : ℕ) → a ≡ kept (op
 unfolding certifierKept
 certifier-is n o a b f g x y p q r s t u = rw (p, u, q, r, s, t)
 
-pub group-is : (n : Bytes) (ns : List Bytes) (hints : Bytes) (o os : Bytes) (i : ℕ) (a b c : Bool) → NextAction os 0 i → a ≡ certifierKept n o
-    → b ≡ all (isAnswered (limitsOf ns)) (limitsOf (records os)) → c ≡ actionsNoWider (actionsOf ns) hints (actionsOf (records (lentRest os i)))
-    → (a && b && c) ≡ recordsNarrow n ns hints o (records os)
-unfolding certifierKept recordsNarrow recordsFrom
-group-is n ns hints o os i a b c e p q r =
-    let f : actionsOf (records (lentRest os i)) ≡ actionsOf (records os) = ap actionsOf (rows-rest os i) ∙ e .same in
-    rw (p, q, r, f)
+pub group-is : (n : Bytes) (ns : List Bytes) (hints : Bytes) (o os : Bytes) (a b c : Bool) → a ≡ certifierKept n o → b ≡ all (isAnswered (limitsOf ns)) (limitsOf (records os))
+    → c ≡ actionsNoWider (actionsOf ns) hints (actionsOf (records os)) → (a && b && c) ≡ recordsNarrow n ns hints o (records os)
+unfolding certifierKept recordsNarrow
+group-is n ns hints o os a b c p q r = rw (p, q, r)
 
 -- a hash at an offset, as code lends it
 pub hash-is : (f at : ℕ) (n o : Bytes) (a b r : Bool) → a ≡ flag f n → b ≡ flag f o

@@ -1,22 +1,26 @@
 -- Actions and groups by their records, as the code compares them.
-use Prim.Native.Nat.{_-_}
-use mathlib.Core.List.{List, [], _∷_}
+use Prim.Native.Nat.{ℕ, _+_, _-_, _≤_}
+use mathlib.Core.Path.{_≡_}
+use mathlib.Core.List.{List}
 use mathlib.Core.Option.{Option, none, some}
 use mathlib.Core.Bool.{Bool, _&&_}
-use lib.ListN.{length, take, drop}
+use lib.ListN.{length, drop, getElem?}
+use lib.Dec.{leb}
 use Rattle.rules.specs.Sizes.{recordBytes, hashBytes}
-use Rattle.rules.specs.Basics.{Bytes, part, number, flag, optional, records}
-use Rattle.rules.specs.Acl.{fileRuleNext, Action, actionOf, groupOf}
+use Rattle.rules.specs.Basics.{if_then_else_, Bytes, part, number, flag, optional, records}
+use Rattle.rules.specs.Acl.{Action, actionsOf, groupOf}
 use Rattle.rules.specs.Narrow.{kept, keptNumber, groupNarrows}
+use Rattle.groups.specs.Parts.{actionFrom}
 
--- The action at the front of some records, with the record of kind 15 that may follow it.
-abbrev pub actionFrom : Bytes → Action
-actionFrom s = actionOf (take recordBytes s) (fileRuleNext (records (take (length s - recordBytes) (drop recordBytes s))))
+-- The action whose record stands at a place of a group's records, with the record of kind 15 that may follow it; none where no record does.
+unfoldable pub actionIn : Bytes → ℕ → Option Action
+actionIn s at = if leb recordBytes (length s - at) then some (actionFrom s at) else none
 
--- .. none where the part is empty
-abbrev pub actionIn : Bytes → Option Action
-actionIn [] = none
-actionIn (b ∷ bs) = some (actionFrom (b ∷ bs))
+-- The place of action h of a group: what stands there is that action, and what is left after it are the actions from the next one on.
+pub record ActionAt (s : Bytes) (h r : ℕ) : Type 0 where
+  pub found : actionIn s r ≡ getElem? (actionsOf (records s)) h
+  pub next : recordBytes ≤ length s - r → actionsOf (records (drop (r + recordBytes) s)) ≡ drop (h + 1) (actionsOf (records s))
+  pub inside : r ≤ length s
 
 -- "a new group keeps any certifier and mechanism", by the groups' first records
 unfoldable pub certifierKept : Bytes → Bytes → Bool

@@ -1,12 +1,14 @@
 // Whether hints show that a new ACL is a narrowing of an old one. Each function decodes whatever bytes stand there.
 ghost use mathlib.Core.Path.{_≡_};
-ghost use Prim.Native.Nat.{_+_, _≤_, _<_};
-ghost use lib.ListN.{length, getD, getElem?};
+ghost use Prim.Native.Nat.{_+_, _-_, _≤_, _<_};
+ghost use mathlib.Core.Bool.{true};
+ghost use lib.ListN.{length, drop, getD, getElem?};
 ghost use Rattle.rules.specs.Sizes.{recordBytes, hashBytes};
 ghost use Rattle.rules.specs.Basics.{all, implies, part, flag, optional, records};
 ghost use Rattle.rules.specs.Acl.{parametersOf, blobRuleOf, archiveRuleOf, fileRuleNext, limitOf, limitsOf, actionOf, actionsOf, groupOf, aclOf};
 ghost use Rattle.rules.specs.Request.{hintsOf};
-ghost use Rattle.narrowing.specs.Groups.{actionIn, certifierKept, recordsNarrow};
+ghost use Rattle.groups.specs.Parts.{actionFrom};
+ghost use Rattle.narrowing.specs.Groups.{actionIn, ActionAt, certifierKept, recordsNarrow};
 ghost use Rattle.rules.specs.Narrow.{kept, keptNumber, keptParameters, blobNoWider, archiveNoWider, noWider, noWiderThan, actionsNoWider, answers, isAnswered, narrowsSource, narrows};
 
 // A hash against the old one: kept equal or added.
@@ -133,43 +135,48 @@ fn action_no_wider(new: &[u8], after: &[u8], old: &[u8], behind: &[u8]) -> bool
     archive_no_wider(new, old) & storing::place_no_wider(after, behind)
 }
 
-// The records of a group from its action h on, of those that follow the group's first one; empty where there is none.
-fn action_at(body: &[u8], h: u8) -> &[u8]
-    ensures { λ r. ⌜ (actionIn (now r) ≡ getElem? (actionsOf (records (now (body .entry)))) h) × ((length (now r) ≡ 0 → ⊥) → recordBytes ≤ length (now r)) ⌝ }
+// Where a search for action h goes on from, and which action is the next there; from the group's start if action `low`, before which one stood, is past it.
+fn resumed(low: usize, h: usize, n: usize) -> usize
+    ensures { λ r. ⌜ (r ≤ n) × (n ≤ low → r ≤ h) × (h < low → r ≡ 0) × (low ≤ h → r ≡ n) ⌝ }
 {
-    let mut left = h;
-    let mut at = 0;
-    while sizes::RECORD <= body.len() - at {
-        if body[at] == 1 {
-            return &body[0..0];
-        }
-        if body[at] == 2 {
-            at += sizes::RECORD;
-            continue;
-        }
-        if body[at] == 15 {
-            at += sizes::RECORD;
-            continue;
-        }
-        if left == 0 {
-            return &body[at..];
-        }
-        left -= 1;
-        at += sizes::RECORD;
+    if h < low {
+        return 0;
     }
-    &body[0..0]
+    n
 }
 
-// A new action, which `after` follows, against the old one that its hint names.
-fn hinted_no_wider(new: &[u8], after: &[u8], body: &[u8], h: u8) -> bool
-    requires { ⌜ length (now new) ≡ recordBytes ⌝ }
-    ensures { λ r. ⌜ r ≡ noWiderThan (actionOf (now (new .entry)) (fileRuleNext (records (now (after .entry))))) (getElem? (actionsOf (records (now (body .entry)))) h) ⌝ }
+// Where action h of a group stands, of the records that follow the group's first one; the end where there is none. The actions from the byte `from` on
+// are those from action `low` on: hints mostly rise, and then the search goes on where the one before it ended.
+fn action_at(body: &[u8], low: usize, from: usize, h: usize) -> usize
+    requires { ⌜ (from ≤ length (now body)) × (actionsOf (records (drop from (now body))) ≡ drop low (actionsOf (records (now body)))) ⌝ }
+    ensures { λ r. ⌜ ActionAt (now (body .entry)) h r ⌝ }
 {
-    let old = action_at(body, h);
-    if old.len() < sizes::RECORD {
+    let mut left = h - resumed(low, h, low);
+    let mut i = groups::next_action(body, resumed(low, h, from));
+    while sizes::RECORD <= body.len() - i {
+        if left == 0 {
+            return i;
+        }
+        left -= 1;
+        i = groups::next_action(body, i + sizes::RECORD);
+    }
+    body.len()
+}
+
+// The new action at a place against the old one that its hint names, which stands at `place`; nothing where no record does.
+fn hinted_no_wider(new: &[u8], at: usize, old: &[u8], place: usize) -> bool
+    requires { ⌜ (recordBytes ≤ length (now new) - at) × (place ≤ length (now old)) ⌝ }
+    ensures { λ r. ⌜ (r ≡ noWiderThan (actionFrom (now (new .entry)) at) (actionIn (now (old .entry)) place)) × (r ≡ true → recordBytes ≤ length (now (old .entry)) - place) ⌝ }
+{
+    if old.len() - place < sizes::RECORD {
         return false;
     }
-    action_no_wider(new, after, &old[0..sizes::RECORD], &old[sizes::RECORD..])
+    action_no_wider(
+        &new[at..at + sizes::RECORD],
+        &new[at + sizes::RECORD..],
+        &old[place..place + sizes::RECORD],
+        &old[place + sizes::RECORD..],
+    )
 }
 
 // The actions of a new group against those of its source, by the hint's bytes; those that are not used are zero.
@@ -177,20 +184,21 @@ fn actions_no_wider(new: &[u8], hints: &[u8], old: &[u8]) -> bool
     ensures { λ r. ⌜ r ≡ actionsNoWider (actionsOf (records (now (new .entry)))) (now (hints .entry)) (actionsOf (records (now (old .entry)))) ⌝ }
 {
     let mut i = 0;
+    let mut low = 0;
+    let mut from = 0;
     let mut at = groups::next_action(new, 0);
     while sizes::RECORD <= new.len() - at {
         if hints.len() <= i {
             return false;
         }
-        if !hinted_no_wider(
-            &new[at..at + sizes::RECORD],
-            &new[at + sizes::RECORD..],
-            old,
-            hints[i],
-        ) {
+        let h = wide(hints[i]) as usize;
+        let place = action_at(old, low, from, h);
+        if !hinted_no_wider(new, at, old, place) {
             return false;
         }
         i += 1;
+        low = h + 1;
+        from = place + sizes::RECORD;
         at = groups::next_action(new, at + sizes::RECORD);
     }
     fields::all_zero(&hints[i..])
@@ -253,15 +261,14 @@ fn certifier_kept(new: &[u8], old: &[u8]) -> bool
         )
 }
 
-// A new group against its source: first records, and the records that follow them. The source's limits are passed over once, not for each action.
+// A new group against its source: first records, and the records that follow them.
 fn group_narrows(new: &[u8], new_body: &[u8], hints: &[u8], old: &[u8], old_body: &[u8]) -> bool
     requires { ⌜ (length (now new) ≡ recordBytes) × (length (now old) ≡ recordBytes) ⌝ }
     ensures { λ r. ⌜ r ≡ recordsNarrow (now (new .entry)) (records (now («new_body» .entry))) (now (hints .entry)) (now (old .entry)) (records (now («old_body» .entry))) ⌝ }
 {
-    let first = groups::next_action(old_body, 0);
     certifier_kept(new, old)
         & limits_answered(new_body, old_body)
-        & actions_no_wider(new_body, hints, &old_body[first..])
+        & actions_no_wider(new_body, hints, old_body)
 }
 
 // A new group against its source, the first of what is left of the old ACL; nothing where the hint names no group.

@@ -1,4 +1,4 @@
-use Rattle.admitting.proofs.Laws.{working-other, working-is}
+use Rattle.admitting.proofs.Laws.{working-other, working-elsewhere, working-is}
 use borrow.Author.Needs.{needs}
 use Rattle.admitting.proofs.admits_working.Statement.{statement}
 use Rattle.admitting.proofs.admits_working.Tie as tie
@@ -9,16 +9,25 @@ shared-slice-read-if1 c = search needs
 returns : tie.Need-returns
 returns c = search (needs, working-other)
 
-admits-blob-requires : tie.Need-admits-blob-requires
-admits-blob-requires c κs = search needs
-
 admits-place-requires : tie.Need-admits-place-requires
 admits-place-requires c κs = search needs
 
 returns-2 : tie.Need-returns-2
-returns-2 c = search (needs, working-is)
+returns-2 c = search (needs, working-elsewhere)
+
+admits-blob-requires : tie.Need-admits-blob-requires
+admits-blob-requires c κs = search needs
+
+returns-3 : tie.Need-returns-3
+returns-3 c = search (needs, working-is)
 
 pub admits-working-spec : {M : Type 1} → statement M
 admits-working-spec =
     tie.close
-    (tie.spec shared-slice-read-if1 returns admits-blob-requires admits-place-requires returns-2)
+    (tie.spec
+    shared-slice-read-if1
+    returns
+    admits-place-requires
+    returns-2
+    admits-blob-requires
+    returns-3)
