@@ -6,18 +6,18 @@ use mathlib.Core.Path.{_≡_, refl, sym, _∙_, ap}
 use mathlib.Core.List.{List, [], _∷_}
 use mathlib.Core.Option.{Option, none, some}
 use mathlib.Core.Bool.{Bool, true, false, not, _&&_, false≢true}
-use borrow.Author.Tests.{eq-eqb, ne-eqb, eqb-true, eqb-false, ltb-true, ltb-false, le-leb, lt-leb, not-true, not-false}
+use borrow.Author.Tests.{eq-eqb, ne-eqb, eqb-true, eqb-false, ltb-false, lt-ltb, le-ltb, le-leb, lt-leb, not-true, not-false}
 use lib.ListN.{length, take, drop, getD, getElem?, length-drop, drop-of-length-le}
 use lib.Seq.{drop-cons, drop-drop, drop-nil, take-all}
 use lib.Dec.{eqb, ltb}
-use Rattle.rules.specs.Basics.{Bytes, any, all, allZero, same, within, part, number, kind, flag, optional, records}
+use Rattle.rules.specs.Basics.{if_then_else_, Bytes, any, all, allZero, same, within, part, number, kind, flag, optional, records}
 use Rattle.rules.specs.Acl.{blobRuleOf, archiveRuleOf, FileRule, fileRuleNext, Action, permissions, makeBlob, makeArchive, actionOf, actionsOf, Limit, limitOf, limitsOf}
 use Rattle.rules.specs.Narrow.{keptBy, kept, keptNumber, blobNoWider, archiveNoWider, fileNoWider, noWider, noWiderThan, actionsNoWider, isAnswered}
 use Rattle.rules.proofs.Rows.{recordsFrom, lentRecord, lentRest}
 use Rattle.fields.proofs.Laws.{lent}
 use Rattle.groups.specs.Parts.{actionFrom, actionsFrom, NextAction}
 use Rattle.groups.proofs.Laws.{acts-end, lent-action, limits-step, limits-stop, limits-end}
-use Rattle.narrowing.specs.Groups.{actionIn, ActionAt, certifierKept, recordsNarrow}
+use Rattle.narrowing.specs.Groups.{actionIn, resumedFrom, ActionAt, certifierKept, recordsNarrow}
 
 -- "kept or added", by what the flags say
 module _ {A : Type 0} (test : A → A → Bool) (has had : Bool) (n o : A) where
@@ -86,14 +86,14 @@ module _ (n : Bytes) (nf : Option FileRule) (o : Bytes) (of : Option FileRule) w
 
 -- The first of what is left of a list after some, and what is left after that.
 get-first : {A : Type 0} (xs : List A) (n : ℕ) (y : A) (ys : List A) → drop n xs ≡ y ∷ ys → getElem? xs n ≡ some y
-get-first [] zero y ys e = ap (λ (l : List A). getElem? l 0) e
-get-first [] (suc n) y ys e = ap (λ (l : List A). getElem? l 0) e
-get-first (x ∷ xs) zero y ys e = ap (λ (l : List A). getElem? l 0) e
+get-first {A = A} [] zero y ys e = ap (λ (l : List A). getElem? l 0) e
+get-first {A = A} [] (suc n) y ys e = ap (λ (l : List A). getElem? l 0) e
+get-first {A = A} (x ∷ xs) zero y ys e = ap (λ (l : List A). getElem? l 0) e
 get-first (x ∷ xs) (suc n) y ys e = get-first xs n y ys e
 
 get-none : {A : Type 0} (xs : List A) (n : ℕ) → drop n xs ≡ [] → getElem? xs n ≡ none
 get-none [] n e = refl
-get-none (x ∷ xs) zero e = ap (λ (l : List A). getElem? l 0) e
+get-none {A = A} (x ∷ xs) zero e = ap (λ (l : List A). getElem? l 0) e
 get-none (x ∷ xs) (suc n) e = get-none xs n e
 
 drop-more : {A : Type 0} (n : ℕ) (x : A) (xs : List A) → (n ≡ 0 → ⊥) → drop n (x ∷ xs) ≡ drop (n - 1) xs
@@ -113,21 +113,46 @@ pub record Sought (s : Bytes) (h left i : ℕ) : Type 0 where
   pub same : drop left (actionsOf (records (drop i s))) ≡ drop h (actionsOf (records s))
   pub action : 64 ≤ length s - i → actionsOf (records (drop i s)) ≡ actionsFrom s i
 
-pub sought-from : (s : Bytes) (low from h q p i : ℕ) → actionsOf (records (drop from s)) ≡ drop low (actionsOf (records s)) → (h < low → q ≡ 0) → (low ≤ h → q ≡ low) → (h < low → p ≡ 0)
-    → (low ≤ h → p ≡ from) → NextAction s p i → Sought s h (h - q) i
-sought-from s low from h q p i e a b c d n = record { same = pick (ltb h low) refl; action = n .action }
-  where
-    pick : (t : Bool) → ltb h low ≡ t → drop (h - q) (actionsOf (records (drop i s))) ≡ drop h (actionsOf (records s))
-    pick true t =
-        let k = ltb-true h low t in
-        let f : h - q ≡ h = omega (arith, a k) in
-        ap (drop (h - q)) (n .same ∙ ap (λ (m : ℕ). actionsOf (records (drop m s))) (c k)) ∙ ap (λ (m : ℕ). drop m (actionsOf (records s))) f
-    pick false t =
-        let k = ltb-false h low t in
-        let f : low + (h - q) ≡ h = omega (arith, b k) in
-        ap (drop (h - q)) (n .same ∙ ap (λ (m : ℕ). actionsOf (records (drop m s))) (d k) ∙ e)
-        ∙ drop-drop (h - q) low (actionsOf (records s))
-        ∙ ap (λ (m : ℕ). drop m (actionsOf (records s))) f
+pub resumed-back : (low h n : ℕ) → h < low → 0 ≡ resumedFrom low h n
+unfolding resumedFrom
+resumed-back low h n l = sym (rw (lt-ltb h low l))
+
+pub resumed-on : (low h n : ℕ) → low ≤ h → n ≡ resumedFrom low h n
+unfolding resumedFrom
+resumed-on low h n l = sym (rw (le-ltb h low l))
+
+module _ (low h : ℕ) where
+  pub resumed-below : (q : ℕ) → q ≡ resumedFrom low h low → q ≤ h
+  unfolding resumedFrom
+  resumed-below q e = pick (ltb h low) refl e
+    where
+      pick : (t : Bool) → ltb h low ≡ t → q ≡ (if t then 0 else low) → q ≤ h
+      pick true t e = omega arith
+      pick false t e = let k = ltb-false h low t in omega arith
+
+  pub resumed-inside : (s : Bytes) (from p : ℕ) → from ≤ length s → p ≡ resumedFrom low h from → p ≤ length s
+  unfolding resumedFrom
+  resumed-inside s from p l e = pick (ltb h low) e
+    where
+      pick : (t : Bool) → p ≡ (if t then 0 else from) → p ≤ length s
+      pick true e = omega arith
+      pick false e = omega arith
+
+  pub sought-from : (s : Bytes) (from q p i : ℕ) → actionsOf (records (drop from s)) ≡ drop low (actionsOf (records s)) → q ≡ resumedFrom low h low → p ≡ resumedFrom low h from → NextAction s p i
+      → Sought s h (h - q) i
+  unfolding resumedFrom
+  sought-from s from q p i e a b n = record { same = pick (ltb h low) refl a b; action = n .action }
+    where
+      pick : (t : Bool) → ltb h low ≡ t → q ≡ (if t then 0 else low) → p ≡ (if t then 0 else from) → drop (h - q) (actionsOf (records (drop i s))) ≡ drop h (actionsOf (records s))
+      pick true t a b =
+          let f : h - q ≡ h = omega arith in
+          ap (drop (h - q)) (n .same ∙ ap (λ (m : ℕ). actionsOf (records (drop m s))) b) ∙ ap (λ (m : ℕ). drop m (actionsOf (records s))) f
+      pick false t a b =
+          let k = ltb-false h low t in
+          let f : low + (h - q) ≡ h = omega arith in
+          ap (drop (h - q)) (n .same ∙ ap (λ (m : ℕ). actionsOf (records (drop m s))) b ∙ e)
+          ∙ drop-drop (h - q) low (actionsOf (records s))
+          ∙ ap (λ (m : ℕ). drop m (actionsOf (records s))) f
 
 module _ (s : Bytes) (h left i : ℕ) (m : Sought s h left i) where
   pub sought-more : (j : ℕ) → 64 ≤ length s - i → (left ≡ 0 → ⊥) → NextAction s (i + 64) j → Sought s h (left - 1) j

@@ -5,7 +5,7 @@ use mathlib.Core.List.{List}
 use mathlib.Core.Option.{Option, none, some}
 use mathlib.Core.Bool.{Bool, _&&_}
 use lib.ListN.{length, drop, getElem?}
-use lib.Dec.{leb}
+use lib.Dec.{leb, ltb}
 use Rattle.rules.specs.Sizes.{recordBytes, hashBytes}
 use Rattle.rules.specs.Basics.{if_then_else_, Bytes, part, number, flag, optional, records}
 use Rattle.rules.specs.Acl.{Action, actionsOf, groupOf}
@@ -15,6 +15,10 @@ use Rattle.groups.specs.Parts.{actionFrom}
 -- The action whose record stands at a place of a group's records, with the record of kind 15 that may follow it; none where no record does.
 unfoldable pub actionIn : Bytes → ℕ → Option Action
 actionIn s at = if leb recordBytes (length s - at) then some (actionFrom s at) else none
+
+-- Where a search for action h goes on, `low` being the next action there: where that stands, or from the start if it is past h.
+unfoldable pub resumedFrom : ℕ → ℕ → ℕ → ℕ
+resumedFrom low h n = if ltb h low then 0 else n
 
 -- The place of action h of a group: what stands there is that action, and what is left after it are the actions from the next one on.
 pub record ActionAt (s : Bytes) (h r : ℕ) : Type 0 where

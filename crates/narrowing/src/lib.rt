@@ -8,7 +8,7 @@ ghost use Rattle.rules.specs.Basics.{all, implies, part, flag, optional, record
 ghost use Rattle.rules.specs.Acl.{parametersOf, blobRuleOf, archiveRuleOf, fileRuleNext, limitOf, limitsOf, actionOf, actionsOf, groupOf, aclOf};
 ghost use Rattle.rules.specs.Request.{hintsOf};
 ghost use Rattle.groups.specs.Parts.{actionFrom};
-ghost use Rattle.narrowing.specs.Groups.{actionIn, ActionAt, certifierKept, recordsNarrow};
+ghost use Rattle.narrowing.specs.Groups.{actionIn, resumedFrom, ActionAt, certifierKept, recordsNarrow};
 ghost use Rattle.rules.specs.Narrow.{kept, keptNumber, keptParameters, blobNoWider, archiveNoWider, noWider, noWiderThan, actionsNoWider, answers, isAnswered, narrowsSource, narrows};
 
 // A hash against the old one: kept equal or added.
@@ -135,9 +135,9 @@ fn action_no_wider(new: &[u8], after: &[u8], old: &[u8], behind: &[u8]) -> bool
     archive_no_wider(new, old) & storing::place_no_wider(after, behind)
 }
 
-// Where a search for action h goes on from, and which action is the next there; from the group's start if action `low`, before which one stood, is past it.
+// Where a search for action h goes on, or which action is the next there: that of action `low`, which is `n`, or the group's start if `low` is past h.
 fn resumed(low: usize, h: usize, n: usize) -> usize
-    ensures { λ r. ⌜ (r ≤ n) × (n ≤ low → r ≤ h) × (h < low → r ≡ 0) × (low ≤ h → r ≡ n) ⌝ }
+    ensures { λ r. ⌜ r ≡ resumedFrom low h n ⌝ }
 {
     if h < low {
         return 0;
