@@ -16,8 +16,7 @@ use Rattle.rules.specs.Basics.{if_then_else_, Bytes, implies, bit, allBelow, pa
 use Rattle.rules.specs.Acl.{blobRuleOf, archiveRuleOf, parametersAt, FileRule, Action, permissions, makeBlob, makeArchive, actionOf}
 use Rattle.rules.specs.Bundle.{Policy}
 use Rattle.rules.specs.Suites.{suiteMechanism}
-use Rattle.rules.specs.Numbers.{notKept}
-use Rattle.rules.specs.Desk.{Step, Class, classOf, policyAdmits, ACLV3, WB1, WB2, WB3, WB6, permissionsFailure, blobFailure, isMechanism, actionProtection, softParameters, isArchive}
+use Rattle.rules.specs.Desk.{Step, Class, classOf, policyAdmits, ACLV3, WB1, WB2, WB3, WB6, permissionsFailure, blobFailure, isMechanism, softParameters}
 use Rattle.rules.proofs.Laws.{and-both, allBelow-at, allBelow-all, not-both, decided}
 use Rattle.evidence.specs.Given.{given}
 use Rattle.evidence.proofs.Laws.{given-some}
@@ -159,26 +158,6 @@ by-kind f r file x e = pick (eqb (kind r) 3) refl (eqb (kind r) 4) refl
     pick true q b p = rw q (rw q at e)
     pick false q true p = rw (q, p) (rw (q, p) at e)
     pick false q false p = rw (q, p) (rw (q, p) at e)
-
-pub kept-by-blob : (r : Bytes) (file : Option FileRule) (x : ℕ) → getD r 0 0 ≡ 4 → x ≡ actionProtection (makeBlob (blobRuleOf r) none) → x ≡ actionProtection (actionOf r file)
-unfolding actionProtection
-kept-by-blob r file x h e = by-kind actionProtection r file x (rw (ne-eqb (kind r) 3 (λ z. omega arith), eq-eqb (kind r) 4 h) e)
-
-pub kept-by-none : (r : Bytes) (file : Option FileRule) → (getD r 0 0 ≡ 4 → ⊥) → notKept ≡ actionProtection (actionOf r file)
-unfolding actionProtection
-kept-by-none r file n = by-kind actionProtection r file notKept (rw (ne-eqb (kind r) 4 n) (either (eqb (kind r) 3)))
-  where
-    either : (t : Bool) → notKept ≡ (if t then notKept else notKept)
-    either true = refl
-    either false = refl
-
-pub archive-is : (r : Bytes) (file : Option FileRule) → (not (eqb (kind r) 3) && not (eqb (kind r) 4)) ≡ isArchive (actionOf r file)
-archive-is r file = by-kind isArchive r file (not (eqb (kind r) 3) && not (eqb (kind r) 4)) (each (eqb (kind r) 3) (eqb (kind r) 4))
-  where
-    each : (a b : Bool) → (not a && not b) ≡ (if a then false else if b then false else true)
-    each true b = refl
-    each false true = refl
-    each false false = refl
 
 -- "if ktparams has AllowSoftSlots"
 pub soft-is : (rec : Bytes) (r s : Bool) (n : ℕ) → r ≡ flag 4 rec → s ≡ bit 0 n → n ≡ number 44 2 rec → (r && s) ≡ softParameters (optional (flag 4 rec) (parametersAt 44 rec))

@@ -1,4 +1,4 @@
-// One action of an ACL: the attestation step that it fails, its protection, whether it is for recovery. Each decodes whatever bytes stand in the
+// One action of an ACL: the attestation step that it fails, its protection. Each decodes whatever bytes stand in the
 // record; the file may or may not have been tested. A record of kind 15 after the action changes nothing here.
 ghost use mathlib.Core.Path.{_≡_};
 ghost use mathlib.Core.Option.{Option, none};
@@ -8,7 +8,7 @@ ghost use Rattle.rules.specs.Sizes.{recordBytes, hashBytes};
 ghost use Rattle.rules.specs.Basics.{allBelow, bothSame, part, number, flag, optional};
 ghost use Rattle.rules.specs.Acl.{blobRuleOf, archiveRuleOf, FileRule, makeBlob, actionOf};
 ghost use Rattle.rules.specs.Suites.{suiteMechanism};
-ghost use Rattle.rules.specs.Desk.{classOf, policyAdmits, permissionsFailure, blobFailure, isMechanism, archiveFailure, failureUnder, actionProtection, isArchive};
+ghost use Rattle.rules.specs.Desk.{classOf, policyAdmits, permissionsFailure, blobFailure, isMechanism, archiveFailure, failureUnder, actionProtection};
 ghost use Rattle.facts.specs.Found.{policyAs};
 ghost use Rattle.evidence.specs.Given.{given};
 ghost use Rattle.steps.specs.Steps.{failureOf};
@@ -115,7 +115,7 @@ pub fn names_key(key: &[u8], f: u16, off: usize, rec: &[u8]) -> bool
 }
 
 // OpPermissions: no permission that is forbidden, or that the policy lacks.
-fn permission_step(policy: Policy, rec: &[u8]) -> Failure
+pub fn permission_step(policy: Policy, rec: &[u8]) -> Failure
     requires { ⌜ length (now rec) ≡ recordBytes ⌝ }
     ensures { λ r. ⌜ failureOf r ≡ permissionsFailure (policyAs policy) (number 4 2 (now (rec .entry))) ⌝ }
 {
@@ -134,7 +134,7 @@ fn under_module_key(hkm: &[u8], rec: &[u8]) -> bool
 }
 
 // MakeBlob: protected by the module or a token, under the trusted module key, never the null key, and a token with its parameters.
-fn blob_steps(hkm: &[u8], rec: &[u8]) -> Failure
+pub fn blob_steps(hkm: &[u8], rec: &[u8]) -> Failure
     requires { ⌜ length (now rec) ≡ recordBytes ⌝ }
     ensures { λ r. ⌜ failureOf r ≡ blobFailure (given (now (hkm .entry))) (blobRuleOf (now (rec .entry))) ⌝ }
 {
@@ -174,7 +174,7 @@ fn under_recovery_key(hkre: &[u8], rec: &[u8]) -> bool
 }
 
 // MakeArchiveBlob: under the trusted recovery key, by the suite's mechanism.
-fn archive_steps(policy: Policy, hkre: &[u8], rec: &[u8]) -> Failure
+pub fn archive_steps(policy: Policy, hkre: &[u8], rec: &[u8]) -> Failure
     requires { ⌜ length (now rec) ≡ recordBytes ⌝ }
     ensures { λ r. ⌜ failureOf r ≡ archiveFailure (policyAs policy) (given (now (hkre .entry))) (archiveRuleOf (now (rec .entry))) ⌝ }
 {
@@ -206,7 +206,7 @@ pub fn action_steps(policy: Policy, hkm: &[u8], hkre: &[u8], rec: &[u8]) -> Fail
 }
 
 // The protection of a MakeBlob action.
-fn blob_protection(rec: &[u8]) -> u8
+pub fn blob_protection(rec: &[u8]) -> u8
     requires { ⌜ length (now rec) ≡ recordBytes ⌝ }
     ensures { λ r. ⌜ r ≡ actionProtection (makeBlob (blobRuleOf (now (rec .entry))) none) ⌝ }
 {
@@ -217,25 +217,4 @@ fn blob_protection(rec: &[u8]) -> u8
         return BY_SOFTCARD;
     }
     BY_CARDSET
-}
-
-// The protection of an action; one that is no MakeBlob keeps nothing.
-pub fn action_protection(rec: &[u8]) -> u8
-    requires { ⌜ length (now rec) ≡ recordBytes ⌝ }
-    ensures { λ r. ⌜ ((file : Option FileRule) → r ≡ actionProtection (actionOf (now (rec .entry)) file)) ⌝ }
-{
-    let kind = rec[0];
-    if kind != 4 {
-        return NOT_KEPT;
-    }
-    blob_protection(rec)
-}
-
-// Whether an action is for recovery, a MakeArchiveBlob.
-pub fn is_archive(rec: &[u8]) -> bool
-    requires { ⌜ length (now rec) ≡ recordBytes ⌝ }
-    ensures { λ r. ⌜ ((file : Option FileRule) → r ≡ isArchive (actionOf (now (rec .entry)) file)) ⌝ }
-{
-    let kind = rec[0];
-    (kind != 3) & (kind != 4)
 }

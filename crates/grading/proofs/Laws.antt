@@ -1,22 +1,46 @@
 -- The turns of the loop over the records of an ACL, and what the parts say of the whole.
 use Prim.Native.Nat.{ℕ, _+_, _-_, _≤_, _<_, min}
 use native.Mathlib.Omega.{arith}
-use mathlib.Core.Path.{_≡_, refl, sym, _∙_, ap, subst}
+use mathlib.Core.Path.{_≡_, refl, sym, _∙_, ap}
 use mathlib.Core.List.{List, [], _∷_, map}
 use mathlib.Core.Option.{Option, none, some}
-use mathlib.Core.Bool.{Bool, true, false, not, _||_}
-use borrow.Author.Tests.{eq-eqb, ne-eqb, eqb-true, eqb-false}
-use lib.ListN.{length, getD}
-use lib.Dec.{T, eqb}
+use mathlib.Core.Bool.{Bool, true, false, not, _||_, false≢true}
+use borrow.Author.Tests.{eq-eqb, ne-eqb}
+use lib.ListN.{length, drop, getD}
+use lib.Dec.{eqb}
 use Rattle.rules.specs.Numbers.{notKept}
 use Rattle.rules.specs.Sizes.{hashBytes}
-use Rattle.rules.specs.Basics.{if_then_else_, Bytes, any, kind, flag, part, optional, bothSame, orNext, firstFault, records}
-use Rattle.rules.specs.Acl.{FileRule, fileRuleNext, Action, actionOf, actionsOf, Group, groupOf, groupsOf}
+use Rattle.rules.specs.Basics.{if_then_else_, Bytes, any, kind, flag, part, number, optional, bothSame, orNext, firstFault, records}
+use Rattle.rules.specs.Acl.{blobRuleOf, archiveRuleOf, FileRule, fileRuleNext, Action, makeBlob, actionOf, actionsOf, Group, groupOf, groupsOf}
 use Rattle.rules.specs.Bundle.{field, Policy, policyOf}
-use Rattle.rules.specs.Desk.{moduleKey, recoveryKey, failureUnder, officersGroup, aclFailure, smallest, isArchive, keyProtection, recoverableKey}
+use Rattle.rules.specs.Desk.{Step, permissionsFailure, blobFailure, archiveFailure, moduleKey, recoveryKey, failureUnder, officersGroup, aclFailure, actionProtection, smallest, isArchive, keyProtection, recoverableKey}
 use Rattle.rules.proofs.Rows.{recordsFrom, rows-at, rows-lent, rows-end, lentRecord, lent-record, kind-at}
-use Rattle.groups.proofs.Laws.{acts-group, acts-limit, acts-file, acts-step, acts-end}
+use Rattle.groups.specs.Parts.{passedOver, actionFrom, NextPart}
+use Rattle.groups.proofs.Laws.{acts-group, acts-here, acts-end}
+use Rattle.actions.proofs.Laws.{by-kind}
 use Rattle.grading.specs.Grades.{Graded, both, noActions, inOrder, actionGraded, actionsGraded, groupGraded, groupsGraded, aclGraded}
+
+-- An action by its kind: what it fails, what it protects by, whether it is for recovery.
+module _ (policy : Policy) (hkm hkre : Option Bytes) (r : Bytes) (file : Option FileRule) (failure : Option Step) where
+  pub graded-permissions : kind r ≡ 3 → failure ≡ permissionsFailure policy (number 4 2 r)
+      → record { failure = failure; protection = notKept; recoverable = false } ≡ actionGraded policy hkm hkre (actionOf r file)
+  unfolding actionGraded failureUnder actionProtection
+  graded-permissions e p =
+      by-kind (actionGraded policy hkm hkre) r file (record { failure = failure; protection = notKept; recoverable = false }) (rw (eq-eqb (kind r) 3 e, p))
+
+  pub graded-blob : (protection : ℕ) → kind r ≡ 4 → failure ≡ blobFailure hkm (blobRuleOf r) → protection ≡ actionProtection (makeBlob (blobRuleOf r) none)
+      → record { failure = failure; protection = protection; recoverable = false } ≡ actionGraded policy hkm hkre (actionOf r file)
+  unfolding actionGraded failureUnder actionProtection
+  graded-blob protection e p q =
+      by-kind (actionGraded policy hkm hkre) r file (record { failure = failure; protection = protection; recoverable = false })
+      (rw (ne-eqb (kind r) 3 (λ z. omega arith), eq-eqb (kind r) 4 e, p, q))
+
+  pub graded-archive : (kind r ≡ 3 → ⊥) → (kind r ≡ 4 → ⊥) → failure ≡ archiveFailure policy hkre (archiveRuleOf r)
+      → record { failure = failure; protection = notKept; recoverable = true } ≡ actionGraded policy hkm hkre (actionOf r file)
+  unfolding actionGraded failureUnder actionProtection
+  graded-archive n m p =
+      by-kind (actionGraded policy hkm hkre) r file (record { failure = failure; protection = notKept; recoverable = true })
+      (rw (ne-eqb (kind r) 3 n, ne-eqb (kind r) 4 m, p))
 
 -- The groups from a place on: a record that begins none is passed over.
 groups-past : (s : Bytes) (at : ℕ) → 64 ≤ length s - at → (getD s at 0 ≡ 1 → ⊥) → groupsOf (recordsFrom s at) ≡ groupsOf (recordsFrom s (at + 64))
@@ -93,7 +117,7 @@ module _ (officer : Option Bytes) (policy : Policy) (hkm hkre : Option Bytes) wh
       let m : min notKept (min notKept (inOrder (groupGraded officer policy hkm hkre) (groupsOf (records s)) .protection)) ≡ inOrder (groupGraded officer policy hkm hkre) (groupsOf (records s)) .protection = omega arith in
       rw m
 
-  pub left-first : (s : Bytes) (found : Graded) → found ≡ noActions false → both found (left false s 0) ≡ groupsGraded officer policy hkm hkre (groupsOf (records s))
+  left-first : (s : Bytes) (found : Graded) → found ≡ noActions false → both found (left false s 0) ≡ groupsGraded officer policy hkm hkre (groupsOf (records s))
   left-first s found e = ap (λ (z : Graded). both z (left false s 0)) e ∙ left-start s
 
   none-left : (checked : Bool) → actionsLeft checked [] ≡ noActions false
@@ -118,51 +142,62 @@ module _ (officer : Option Bytes) (policy : Policy) (hkm hkre : Option Bytes) wh
   regroup true found acts rest = sym (both-assoc found (noActions true) (both (noActions false) rest))
   regroup false found acts rest = sym (both-assoc found (noActions false) (both acts rest))
 
-  past-left : (s : Bytes) (at : ℕ) (c : Bool) → 64 ≤ length s - at → (getD s at 0 ≡ 1 → ⊥) → (not c || eqb (getD s at 0) 2) ≡ true → left c s (at + 64) ≡ left c s at
+  past-left : (s : Bytes) (at : ℕ) (c : Bool) → 64 ≤ length s - at → (getD s at 0 ≡ 1 → ⊥) → not c ≡ true → left c s (at + 64) ≡ left c s at
   unfolding left
-  past-left s at true h n p = rw (acts-limit s at h n (eqb-true (getD s at 0) 2 p), groups-past s at h n)
+  past-left s at true h n p = absurd (false≢true p)
   past-left s at false h n p = rw (groups-past s at h n)
 
-  file-left : (s : Bytes) (at : ℕ) (c : Bool) → 64 ≤ length s - at → (getD s at 0 ≡ 1 → ⊥) → (not c || eqb (getD s at 0) 2) ≡ false → getD s at 0 ≡ 15
-      → left c s (at + 64) ≡ left c s at
-  unfolding left
-  file-left s at true h n p e = rw (acts-file s at h n (eqb-false (getD s at 0) 2 p) e, groups-past s at h n)
-  file-left s at false h n p e = absurd (subst T p tt)
-
-  action-left : (s : Bytes) (at : ℕ) (c : Bool) → 64 ≤ length s - at → (getD s at 0 ≡ 1 → ⊥) → (not c || eqb (getD s at 0) 2) ≡ false → (getD s at 0 ≡ 15 → ⊥)
-      → left c s at ≡ both (actionGraded policy hkm hkre (actionOf (lentRecord s at) (fileRuleNext (recordsFrom s (at + 64))))) (left c s (at + 64))
-  unfolding left actionsGraded inOrder
+  action-left : (s : Bytes) (at : ℕ) (c : Bool) → 64 ≤ length s - at → (getD s at 0 ≡ 1 → ⊥) → not c ≡ false → passedOver (getD s at 0) ≡ false
+      → left c s at ≡ both (actionGraded policy hkm hkre (actionFrom s at)) (left c s (at + 64))
+  unfolding left actionsGraded inOrder recordsFrom
   action-left s at true h n p o =
-      rw (acts-step s at h n (eqb-false (getD s at 0) 2 p) o, groups-past s at h n)
-      (sym (both-assoc (actionGraded policy hkm hkre (actionOf (lentRecord s at) (fileRuleNext (recordsFrom s (at + 64))))) (inOrder (actionGraded policy hkm hkre) (actionsOf (recordsFrom s (at + 64)))) (groupsGraded officer policy hkm hkre (groupsOf (recordsFrom s (at + 64))))))
-  action-left s at false h n p o = absurd (subst T p tt)
+      rw (acts-here s at h n o, groups-past s at h n)
+      (sym (both-assoc (actionGraded policy hkm hkre (actionFrom s at)) (inOrder (actionGraded policy hkm hkre) (actionsOf (records (drop (at + 64) s)))) (groupsGraded officer policy hkm hkre (groupsOf (records (drop (at + 64) s))))))
+  action-left s at false h n p o = absurd (false≢true (sym p))
+
+  -- what is passed over on the way to the next group or action changes nothing
+  part-left : (s : Bytes) (at r : ℕ) (c : Bool) → NextPart s at r → left c s r ≡ left c s at
+  unfolding left recordsFrom
+  part-left s at r c e = rw (e .actions, e .groups)
+
+  pub left-begun : (s : Bytes) (found : Graded) (r : ℕ) → found ≡ noActions false → NextPart s 0 r → both found (left false s r) ≡ groupsGraded officer policy hkm hkre (groupsOf (records s))
+  left-begun s found r e q = ap (both found) (part-left s 0 r false q) ∙ left-first s found e
 
   -- The turns of the loop: what was found, and what is left.
   module _ (s : Bytes) (at : ℕ) (checked : Bool) (found x : Graded) (inv : both found (left checked s at) ≡ x) where
-    pub left-group : (officers : Bool) (one next : Graded) → 64 ≤ length s - at → getD s at 0 ≡ 1
-        → officers ≡ bothSame officer (optional (flag 0 (lentRecord s at)) (part 4 hashBytes (lentRecord s at))) → one ≡ noActions officers
-        → next ≡ both found one → both next (left (not officers) s (at + 64)) ≡ x
+    group-next : (officers : Bool) → 64 ≤ length s - at → getD s at 0 ≡ 1 → officers ≡ bothSame officer (optional (flag 0 (lentRecord s at)) (part 4 hashBytes (lentRecord s at)))
+        → both (both found (noActions officers)) (left (not officers) s (at + 64)) ≡ x
     unfolding left
-    left-group officers one next h e is o n =
-        ap (λ (z : Graded). both z (left (not officers) s (at + 64))) (n ∙ ap (both found) o)
-        ∙ regroup officers found (actionsGraded policy hkm hkre (actionsOf (recordsFrom s (at + 64)))) (groupsGraded officer policy hkm hkre (groupsOf (recordsFrom s (at + 64))))
+    group-next officers h e is =
+        regroup officers found (actionsGraded policy hkm hkre (actionsOf (recordsFrom s (at + 64)))) (groupsGraded officer policy hkm hkre (groupsOf (recordsFrom s (at + 64))))
         ∙ sym (ap (both found) (group-left s at checked officers h e is))
         ∙ inv
 
-    -- a limit, or what is not checked
-    pub left-past : 64 ≤ length s - at → (getD s at 0 ≡ 1 → ⊥) → (not checked || eqb (getD s at 0) 2) ≡ true → both found (left checked s (at + 64)) ≡ x
-    left-past h n t = ap (both found) (past-left s at checked h n t) ∙ inv
+    pub left-group : (officers : Bool) (one next : Graded) → 64 ≤ length s - at → getD s at 0 ≡ 1
+        → officers ≡ bothSame officer (optional (flag 0 (lentRecord s at)) (part 4 hashBytes (lentRecord s at))) → one ≡ noActions officers
+        → next ≡ both found one → (r : ℕ) → NextPart s (at + 64) r → both next (left (not officers) s r) ≡ x
+    left-group officers one next h e is o n r q =
+        ap (λ (z : Graded). both z (left (not officers) s r)) (n ∙ ap (both found) o)
+        ∙ ap (both (both found (noActions officers))) (part-left s (at + 64) r (not officers) q)
+        ∙ group-next officers h e is
 
-    -- a record of kind 15
-    pub left-file : 64 ≤ length s - at → (getD s at 0 ≡ 1 → ⊥) → (not checked || eqb (getD s at 0) 2) ≡ false → getD s at 0 ≡ 15 → both found (left checked s (at + 64)) ≡ x
-    left-file h n t e = ap (both found) (file-left s at checked h n t e) ∙ inv
+    -- what is not checked
+    pub left-past : 64 ≤ length s - at → (getD s at 0 ≡ 1 → ⊥) → not checked ≡ true → (r : ℕ) → NextPart s (at + 64) r → both found (left checked s r) ≡ x
+    left-past h n t r q = ap (both found) (part-left s (at + 64) r checked q ∙ past-left s at checked h n t) ∙ inv
 
     -- an action that is checked
-    pub left-action : (one next : Graded) → 64 ≤ length s - at → (getD s at 0 ≡ 1 → ⊥) → (not checked || eqb (getD s at 0) 2) ≡ false → (getD s at 0 ≡ 15 → ⊥)
-        → ((file : Option FileRule) → one ≡ actionGraded policy hkm hkre (actionOf (lentRecord s at) file)) → next ≡ both found one → both next (left checked s (at + 64)) ≡ x
-    left-action one next h n t o is e =
-        let a = actionGraded policy hkm hkre (actionOf (lentRecord s at) (fileRuleNext (recordsFrom s (at + 64)))) in
-        rw (e, is (fileRuleNext (recordsFrom s (at + 64)))) (sym (both-assoc found a (left checked s (at + 64))) ∙ sym (ap (both found) (action-left s at checked h n t o)) ∙ inv)
+    pub left-action : (one next : Graded) → 64 ≤ length s - at → (getD s at 0 ≡ 1 → ⊥) → not checked ≡ false → (64 ≤ length s - at → passedOver (getD s at 0) ≡ false)
+        → ((file : Option FileRule) → one ≡ actionGraded policy hkm hkre (actionOf (lentRecord s at) file)) → next ≡ both found one → (r : ℕ) → NextPart s (at + 64) r
+        → both next (left checked s r) ≡ x
+    left-action one next h n t o is e r q =
+        let f = fileRuleNext (records (drop (at + 64) s)) in
+        let a = actionGraded policy hkm hkre (actionFrom s at) in
+        let k : one ≡ a = is f ∙ ap (λ (b : Bytes). actionGraded policy hkm hkre (actionOf b f)) (lent-record s at) in
+        ap (λ (z : Graded). both z (left checked s r)) (e ∙ ap (both found) k)
+        ∙ ap (both (both found a)) (part-left s (at + 64) r checked q)
+        ∙ sym (both-assoc found a (left checked s (at + 64)))
+        ∙ sym (ap (both found) (action-left s at checked h n t (o h)))
+        ∙ inv
 
     pub left-done : found .protection ≤ notKept → length s - at < 64 → found ≡ x
     left-done m h = sym (both-none found m) ∙ sym (ap (both found) (end-left s at checked h)) ∙ inv

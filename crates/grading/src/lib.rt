@@ -44,15 +44,31 @@ fn joined(a: Grade, b: Grade) -> Grade
     }
 }
 
-// What an action comes to, under a policy and the keys that are trusted; an empty part for one that is not.
+// What an action comes to, under a policy and the keys that are trusted; an empty part for one that is not. Only a MakeBlob protects, only a
+// MakeArchiveBlob makes the key recoverable. The kind is looked at once for all three.
 fn action_grade(policy: Policy, hkm: &[u8], hkre: &[u8], rec: &[u8]) -> Grade
     requires { ⌜ length (now rec) ≡ recordBytes ⌝ }
     ensures { λ r. ⌜ ((file : Option FileRule) → gradedAs r ≡ actionGraded (policyAs policy) (given (now (hkm .entry))) (given (now (hkre .entry))) (actionOf (now (rec .entry)) file)) ⌝ }
 {
+    let kind = rec[0];
+    if kind == 3 {
+        return Grade {
+            failure: actions::permission_step(policy, rec),
+            protection: actions::NOT_KEPT,
+            recoverable: false,
+        };
+    }
+    if kind == 4 {
+        return Grade {
+            failure: actions::blob_steps(hkm, rec),
+            protection: actions::blob_protection(rec),
+            recoverable: false,
+        };
+    }
     Grade {
-        failure: actions::action_steps(policy, hkm, hkre, rec),
-        protection: actions::action_protection(rec),
-        recoverable: actions::is_archive(rec),
+        failure: actions::archive_steps(policy, hkre, rec),
+        protection: actions::NOT_KEPT,
+        recoverable: true,
     }
 }
 
@@ -67,33 +83,29 @@ fn no_actions(recoverable: bool) -> Grade
     }
 }
 
-// What the groups of an ACL come to, record by record. `checked` says whether actions that stand here are checked: not before the first group, and not
-// in a group that the officer's key certifies, which marks the key recoverable. The certifier's mechanism does not matter.
+// What the groups of an ACL come to, by one walk over groups and actions. `checked` says whether actions that stand here are checked: not before the first
+// group, and not in a group that the officer's key certifies, which marks the key recoverable. The certifier's mechanism does not matter.
 fn groups_grade(officer: &[u8], policy: Policy, hkm: &[u8], hkre: &[u8], acl: &[u8]) -> Grade
     ensures { λ r. ⌜ gradedAs r ≡ groupsGraded (given (now (officer .entry))) (policyAs policy) (given (now (hkm .entry))) (given (now (hkre .entry))) (aclOf (now (acl .entry))) ⌝ }
 {
     let mut found = no_actions(false);
     let mut checked = false;
-    let mut at = 0;
+    let mut at = groups::next_part(acl, 0);
     while sizes::RECORD <= acl.len() - at {
         let rec = &acl[at..at + sizes::RECORD];
         if acl[at] == 1 {
             let officers = actions::names_key(officer, 0, 4, rec);
             found = joined(found, no_actions(officers));
             checked = !officers;
-            at += sizes::RECORD;
+            at = groups::next_part(acl, at + sizes::RECORD);
             continue;
         }
-        if !checked | (acl[at] == 2) {
-            at += sizes::RECORD;
-            continue;
-        }
-        if acl[at] == 15 {
-            at += sizes::RECORD;
+        if !checked {
+            at = groups::next_part(acl, at + sizes::RECORD);
             continue;
         }
         found = joined(found, action_grade(policy, hkm, hkre, rec));
-        at += sizes::RECORD;
+        at = groups::next_part(acl, at + sizes::RECORD);
     }
     found
 }
