@@ -22,6 +22,7 @@ use Rattle.rules.specs.Prepared.{isBlobAction, useSet, useSets, formOf}
 use Rattle.rules.proofs.Rows.{recordsFrom, rows-start, rows-end, rows-lent, lentRecord}
 use Rattle.rules.proofs.Sets.{set-bits}
 use Rattle.rules.proofs.GroupSets.{bit-zero, bit-suc, bit-or}
+use Rattle.groups.specs.Parts.{passedOver}
 use Rattle.prepared.specs.Forms.{doubled, bitsWith, bitsOf}
 
 -- neither of two
@@ -160,7 +161,7 @@ module _ (acl : Bytes) (k : ℕ) (pos : 0 < k) (inside : k * 64 ≤ length acl) 
   abbrev action-here : Action
   action-here = actionOf here (fileRuleNext (recordsFrom acl (k * 64)))
 
-  actions-skip : (kind here ≡ 1 → ⊥) → (eqb (kind here) 2 || eqb (kind here) 15) ≡ true → actionsFrom acl (k - 1) ≡ actionsFrom acl k
+  actions-skip : (kind here ≡ 1 → ⊥) → passedOver (kind here) ≡ true → actionsFrom acl (k - 1) ≡ actionsFrom acl k
   unfolding actionsFrom actionsOf
   actions-skip n e = ap actionsOf rows-here ∙ rw (ne-eqb (kind here) 1 n) (pick (eqb (kind here) 2) (eqb (kind here) 15) e)
     where
@@ -169,7 +170,7 @@ module _ (acl : Bytes) (k : ℕ) (pos : 0 < k) (inside : k * 64 ≤ length acl) 
       pick false true e = refl
       pick false false e = absurd (false≢true e)
 
-  actions-more : (kind here ≡ 1 → ⊥) → (eqb (kind here) 2 || eqb (kind here) 15) ≡ false → actionsFrom acl (k - 1) ≡ action-here ∷ actionsFrom acl k
+  actions-more : (kind here ≡ 1 → ⊥) → passedOver (kind here) ≡ false → actionsFrom acl (k - 1) ≡ action-here ∷ actionsFrom acl k
   unfolding actionsFrom actionsOf
   actions-more n e = ap actionsOf rows-here ∙ rw (ne-eqb (kind here) 1 n, or-not-left (eqb (kind here) 2) (eqb (kind here) 15) e, or-not-right (eqb (kind here) 2) (eqb (kind here) 15) e)
 
@@ -307,15 +308,15 @@ module _ (acl : Bytes) (k : ℕ) (uses : List ℕ) (working recovery bits blob a
           }
 
       -- a limit, or a record of kind 15
-      pub made-over : (eqb (kind at-hand) 2 || eqb (kind at-hand) 15) ≡ true → Made acl (k - 1) uses working recovery bits blob archive
-      made-over e = made-skip (actions-skip acl k pos (m .inside) no-group e)
+      pub made-over : (t : Bool) → t ≡ passedOver (kind at-hand) → t ≡ true → Made acl (k - 1) uses working recovery bits blob archive
+      made-over t d e = made-skip (actions-skip acl k pos (m .inside) no-group (sym d ∙ e))
 
-      module _ (is-action : (eqb (kind at-hand) 2 || eqb (kind at-hand) 15) ≡ false) where
+      module _ (t : Bool) (d : t ≡ passedOver (kind at-hand)) (is-action : t ≡ false) where
         abbrev action : Action
         action = action-here acl k pos (m .inside)
 
         more : actionsFrom acl (k - 1) ≡ action ∷ actionsFrom acl k
-        more = actions-more acl k pos (m .inside) no-group is-action
+        more = actions-more acl k pos (m .inside) no-group (sym d ∙ is-action)
 
         made-action : (b c d : ℕ) → b ≡ bitsWith action bits → c ≡ digit (isBlobAction action || any isBlobAction (actionsFrom acl k))
             → d ≡ digit (isArchive action || any isArchive (actionsFrom acl k)) → Made acl (k - 1) uses working recovery b c d

@@ -62,7 +62,8 @@ fn double_uses(uses: &mut [u64; sizes::PERMISSIONS], bits: u64)
     }
 }
 
-// The form of an ACL that has no more groups than a set has bits. `bits`, `blob` and `archive` are what the actions set that were passed since the last
+// The form of an ACL that has no more groups than a set has bits. The records are passed from the last to the first, so that this loop asks of each what
+// the walk over groups and actions passes over. `bits`, `blob` and `archive` are what the actions set that were passed since the last
 // group record.
 pub fn form_of(acl: &[u8]) -> Prepared
     requires { ⌜ length (aclOf (now acl)) ≤ setBits ⌝ }
@@ -88,7 +89,7 @@ pub fn form_of(acl: &[u8]) -> Prepared
             archive = 0;
             continue;
         }
-        if (kind == 2) | (kind == 15) {
+        if groups::is_passed_over(kind) {
             continue;
         }
         if kind == 3 {

@@ -54,6 +54,9 @@ loop-less c = search needs
 loop-again : tie.Need-loop-again Inv-loop μ-loop
 loop-again c = (search needs, search (needs, made-group))
 
+is-passed-over-requires : tie.Need-is-passed-over-requires Inv-loop μ-loop
+is-passed-over-requires c κs = search needs
+
 loop-less-2 : tie.Need-loop-less-2 Inv-loop μ-loop
 loop-less-2 c = search needs
 
@@ -110,6 +113,7 @@ form-of-spec =
     with-digit-requires-2
     loop-less
     loop-again
+    is-passed-over-requires
     loop-less-2
     loop-again-2
     be16-requires
