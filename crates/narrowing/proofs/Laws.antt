@@ -75,6 +75,10 @@ module _ (n : Bytes) (nf : Option FileRule) (o : Bytes) (of : Option FileRule) w
     unfolding noWider
     archives-compared r t h k e d = rw (e, d) (sym (rw (action-5 n nf f g, action-5 o of h k)))
 
+  -- .. with what blobfile says of both
+  pub rules-compared : (r t : Bool) → ((f g : Option FileRule) → (r && fileNoWider f g) ≡ noWider (actionOf n f) (actionOf o g)) → t ≡ fileNoWider nf of → (r && t) ≡ noWider (actionOf n nf) (actionOf o of)
+  rules-compared r t e d = ap (λ (b : Bool). r && b) d ∙ e nf of
+
   -- .. and of its own
   pub bits-compared : (x y : ℕ) (r : Bool) → kind n ≡ 3 → kind o ≡ 3 → x ≡ number 4 2 n → y ≡ number 4 2 o → r ≡ within 16 x y → r ≡ noWider (actionOf n nf) (actionOf o of)
   unfolding noWider

@@ -1,15 +1,16 @@
 // Whether hints show that a new ACL is a narrowing of an old one. Each function decodes whatever bytes stand there.
 ghost use mathlib.Core.Path.{_≡_};
 ghost use Prim.Native.Nat.{_+_, _-_, _≤_, _<_};
-ghost use mathlib.Core.Bool.{true};
+ghost use mathlib.Core.Option.{Option};
+ghost use mathlib.Core.Bool.{true, _&&_};
 ghost use lib.ListN.{length, drop, getD, getElem?};
 ghost use Rattle.rules.specs.Sizes.{recordBytes, hashBytes};
-ghost use Rattle.rules.specs.Basics.{all, implies, part, flag, optional, records};
-ghost use Rattle.rules.specs.Acl.{parametersOf, blobRuleOf, archiveRuleOf, fileRuleNext, limitOf, limitsOf, actionOf, actionsOf, groupOf, aclOf};
+ghost use Rattle.rules.specs.Basics.{all, implies, part, kind, flag, optional, records};
+ghost use Rattle.rules.specs.Acl.{parametersOf, blobRuleOf, archiveRuleOf, FileRule, fileRuleNext, limitOf, limitsOf, actionOf, actionsOf, groupOf, aclOf};
 ghost use Rattle.rules.specs.Request.{hintsOf};
 ghost use Rattle.groups.specs.Parts.{actionFrom};
 ghost use Rattle.narrowing.specs.Groups.{actionIn, resumedFrom, ActionAt, certifierKept, recordsNarrow};
-ghost use Rattle.rules.specs.Narrow.{kept, keptNumber, keptParameters, blobNoWider, archiveNoWider, noWider, noWiderThan, actionsNoWider, answers, isAnswered, narrowsSource, narrows};
+ghost use Rattle.rules.specs.Narrow.{kept, keptNumber, keptParameters, blobNoWider, archiveNoWider, fileNoWider, noWider, noWiderThan, actionsNoWider, answers, isAnswered, narrowsSource, narrows};
 
 // A hash against the old one: kept equal or added.
 fn kept_hash(has: bool, new: &[u8], had: bool, old: &[u8]) -> bool
@@ -106,25 +107,19 @@ fn archive_no_wider(new: &[u8], old: &[u8]) -> bool
     (fields::be16(new, 24) == fields::be16(old, 24)) & hash_kept(0, 4, new, old)
 }
 
-// An action against another: of the same kind and no wider. `after` and `behind` follow the new and the old action. What is neither of kind 3 nor of
+// A MakeBlob or MakeArchiveBlob action against another, whatever blobfile says of them: of the same kind and no wider. What is neither of kind 3 nor of
 // kind 4 is decoded as one of kind 5.
-fn action_no_wider(new: &[u8], after: &[u8], old: &[u8], behind: &[u8]) -> bool
-    requires { ⌜ (length (now new) ≡ recordBytes) × (length (now old) ≡ recordBytes) ⌝ }
-    ensures { λ r. ⌜ r ≡ noWider (actionOf (now (new .entry)) (fileRuleNext (records (now (after .entry))))) (actionOf (now (old .entry)) (fileRuleNext (records (now (behind .entry))))) ⌝ }
+fn rule_no_wider(new: &[u8], old: &[u8]) -> bool
+    requires { ⌜ (length (now new) ≡ recordBytes) × (length (now old) ≡ recordBytes) × (kind (now new) ≡ 3 → ⊥) ⌝ }
+    ensures { λ r. ⌜ ((f g : Option FileRule) → (r && fileNoWider f g) ≡ noWider (actionOf (now (new .entry)) f) (actionOf (now (old .entry)) g)) ⌝ }
 {
     let kind = new[0];
     let was = old[0];
-    if kind == 3 {
-        if was != 3 {
-            return false;
-        }
-        return fields::subset16(fields::be16(new, 4), fields::be16(old, 4));
-    }
     if kind == 4 {
         if was != 4 {
             return false;
         }
-        return blob_no_wider(new, old) & storing::place_no_wider(after, behind);
+        return blob_no_wider(new, old);
     }
     if was == 3 {
         return false;
@@ -132,7 +127,21 @@ fn action_no_wider(new: &[u8], after: &[u8], old: &[u8], behind: &[u8]) -> bool
     if was == 4 {
         return false;
     }
-    archive_no_wider(new, old) & storing::place_no_wider(after, behind)
+    archive_no_wider(new, old)
+}
+
+// An action against another: of the same kind and no wider. `after` and `behind` follow the new and the old action.
+fn action_no_wider(new: &[u8], after: &[u8], old: &[u8], behind: &[u8]) -> bool
+    requires { ⌜ (length (now new) ≡ recordBytes) × (length (now old) ≡ recordBytes) ⌝ }
+    ensures { λ r. ⌜ r ≡ noWider (actionOf (now (new .entry)) (fileRuleNext (records (now (after .entry))))) (actionOf (now (old .entry)) (fileRuleNext (records (now (behind .entry))))) ⌝ }
+{
+    if new[0] == 3 {
+        if old[0] != 3 {
+            return false;
+        }
+        return fields::subset16(fields::be16(new, 4), fields::be16(old, 4));
+    }
+    rule_no_wider(new, old) & storing::place_no_wider(after, behind)
 }
 
 // Where a search for action h goes on, or which action is the next there: that of action `low`, which is `n`, or the group's start if `low` is past h.
