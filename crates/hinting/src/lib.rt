@@ -52,7 +52,8 @@ impl Hint {
         self
     }
 
-    // The hint after a record that begins no group. A limit or a record of kind 15 has no place among the actions.
+    // The hint after a record that begins no group. A limit or a record of kind 15 has no place among the actions: it is told here, and not by the walk
+    // over actions, for the trimming tool asks of each record of an ACL what becomes of it.
     fn after(
         self,
         places: &[usize; facts::ENTRIES],

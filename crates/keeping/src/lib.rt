@@ -126,7 +126,8 @@ fn file_fate(kept: bool) -> Fate
     Fate::Dropped
 }
 
-// What becomes of a record: `checked` says whether actions are checked here, `kept` whether the last one stayed.
+// What becomes of a record, limits and records of kind 15 among them: they are copied or dropped, so that the tool goes by every record and not by the
+// walk over actions. `checked` says whether actions are checked here, `kept` whether the last one stayed.
 pub fn record_fate(
     places: &[usize; facts::ENTRIES],
     bundle: &[u8],

@@ -163,9 +163,9 @@ module _ (s : Bytes) (h left i : ℕ) (m : Sought s h left i) where
   sought-more j k n e =
       record {
         same =
-          ap (drop (left - 1)) (e .same)
-          ∙ sym (ap (drop left) (m .action k) ∙ drop-more left (actionFrom s i) (actionsOf (records (drop (i + 64) s))) n)
-          ∙ m .same;
+            ap (drop (left - 1)) (e .same)
+            ∙ sym (ap (drop left) (m .action k) ∙ drop-more left (actionFrom s i) (actionsOf (records (drop (i + 64) s))) n)
+            ∙ m .same;
         action = e .action;
       }
 
@@ -195,11 +195,13 @@ hint-nothing n old place h = (sym (ap (noWiderThan n) (in-none old place h)), λ
 pub hint-compared : (new : Bytes) (at : ℕ) (old : Bytes) (place : ℕ) (r : Bool) → 64 ≤ length old - place
     → r ≡ noWider (actionOf (lentRecord new at) (fileRuleNext (records (lentRest new (at + 64))))) (actionOf (lentRecord old place) (fileRuleNext (records (lentRest old (place + 64)))))
     → (r ≡ noWiderThan (actionFrom new at) (actionIn old place)) × (r ≡ true → 64 ≤ length old - place)
-hint-compared new at old place r h e =
-    (e
-    ∙ ap (λ (a : Action). noWider a (actionOf (lentRecord old place) (fileRuleNext (records (lentRest old (place + 64)))))) (lent-action new at)
-    ∙ ap (noWider (actionFrom new at)) (lent-action old place)
-    ∙ sym (ap (noWiderThan (actionFrom new at)) (in-some old place h)), λ t. h)
+hint-compared new at old place r h e = (
+  e
+      ∙ ap (λ (a : Action). noWider a (actionOf (lentRecord old place) (fileRuleNext (records (lentRest old (place + 64)))))) (lent-action new at)
+      ∙ ap (noWider (actionFrom new at)) (lent-action old place)
+      ∙ sym (ap (noWiderThan (actionFrom new at)) (in-some old place h)),
+  λ t. h,
+)
 
 -- A loop over the actions of a new group and the bytes of its hint: what is left has the whole's answer, and the search for old actions can go on from
 -- action `low`.

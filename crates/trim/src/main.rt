@@ -80,18 +80,14 @@ fn print_gone(places: &[usize; facts::ENTRIES], bundle: &[u8], rec: &[u8])
     print_record(rec);
 }
 
-// The record of kind 15, if one stands at a place: it goes with its action.
-fn print_file(acl: &[u8], at: usize, group: usize, action: usize, step: Step)
-    requires { ⌜ at ≤ length (now acl) ⌝ }
-{
-    if acl.len() - at < sizes::RECORD {
-        return;
-    }
-    if acl[at] != 15 {
+// The record of kind 15, if it comes next after an action: it goes with it.
+fn print_file(rest: &[u8], group: usize, action: usize, step: Step) {
+    let file = groups::file_part(rest);
+    if file.len() < sizes::RECORD {
         return;
     }
     print_place(group, action, step);
-    print_record(&acl[at..at + sizes::RECORD]);
+    print_record(&file[0..sizes::RECORD]);
 }
 
 // What is gone of the action at a place, with the step that it fails.
@@ -112,7 +108,7 @@ fn print_action(
         Failure::At(s) => {
             print_place(group, action, s);
             print_gone(places, bundle, rec);
-            print_file(acl, at + sizes::RECORD, group, action, s);
+            print_file(&acl[at + sizes::RECORD..], group, action, s);
         }
     }
 }
@@ -125,23 +121,23 @@ fn print_removed(places: &[usize; facts::ENTRIES], bundle: &[u8], acl: &[u8])
     let mut group = 0;
     let mut next = 0;
     let mut place = 0;
-    let mut at = 0;
+    let mut at = groups::next_part(acl, 0);
     while sizes::RECORD <= acl.len() - at {
         if acl[at] == 1 {
             checked = keeping::is_checked(places, bundle, &acl[at..at + sizes::RECORD]);
             group = next;
             next += 1;
             place = 0;
-            at += sizes::RECORD;
+            at = groups::next_part(acl, at + sizes::RECORD);
             continue;
         }
-        if !checked | (acl[at] == 2) | (acl[at] == 15) {
-            at += sizes::RECORD;
+        if !checked {
+            at = groups::next_part(acl, at + sizes::RECORD);
             continue;
         }
         print_action(places, bundle, acl, at, group, place);
         place += 1;
-        at += sizes::RECORD;
+        at = groups::next_part(acl, at + sizes::RECORD);
     }
 }
 
