@@ -13,12 +13,13 @@ use files::Checked;
 use refusals::Refusal;
 
 // Where reading stands: groups begun; of the last group whether it is open (it has no certifier), the limits, the actions; whether a record of kind 15 is
-// due; and the sort and counter of each limit. The row stands last: what follows it would be kept in memory with it.
+// due; and the sort and counter of each limit. The fields leave no gap, for a gap's bytes would be carried along with them, and the row stands last: what
+// follows it would be kept in memory with it.
 pub struct Place {
-    pub groups: usize,
+    pub groups: u16,
+    pub limits: u16,
+    pub actions: u16,
     pub opened: bool,
-    pub limits: usize,
-    pub actions: usize,
     pub file_due: bool,
     pub keys: [u16; sizes::LIMITS],
 }
@@ -89,7 +90,7 @@ impl Place {
         ensures { λ r. ⌜ r ≡ limitInPlace (placeOf self) key ⌝ }
     {
         let keys = self.keys;
-        let n = self.limits;
+        let n = self.limits as usize;
         (0 < self.groups) & (self.actions == 0) & !is_among(key, &keys[..n])
     }
 
@@ -132,15 +133,15 @@ impl Place {
     {
         let kind = rec[0];
         if kind == 1 {
-            return self.groups < sizes::GROUPS;
+            return (self.groups as usize) < sizes::GROUPS;
         }
         if kind == 2 {
-            return self.limits < sizes::LIMITS;
+            return (self.limits as usize) < sizes::LIMITS;
         }
         if kind == 15 {
             return true;
         }
-        self.actions < sizes::ACTIONS
+        (self.actions as usize) < sizes::ACTIONS
     }
 
     // Whether a record is none that opens the key to any recovery key: a MakeArchiveBlob action without kahash in an open group.
@@ -157,9 +158,9 @@ impl Place {
         requires { ⌜ self .limits < limitsMax ⌝ }
         ensures { λ r. ⌜ (placeOf r ≡ limitAdded (placeOf self) key) × (r .limits ≤ limitsMax) ⌝ }
     {
-        let n = self.limits;
+        let n = self.limits as usize;
         self.keys[n] = key;
-        self.limits = n + 1;
+        self.limits += 1;
         self
     }
 

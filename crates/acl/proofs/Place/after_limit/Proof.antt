@@ -3,6 +3,9 @@ use borrow.Author.Needs.{needs}
 use Rattle.acl.proofs.Place.after_limit.Statement.{statement}
 use Rattle.acl.proofs.Place.after_limit.Tie as tie
 
+cast-n : tie.Need-cast-n
+cast-n c = search needs
+
 mul-self : tie.Need-mul-self
 mul-self c = search needs
 
@@ -16,4 +19,4 @@ returns : tie.Need-returns
 returns c = search (needs, place-added)
 
 pub after-limit-spec : {M : Type 1} → statement M
-after-limit-spec = tie.close (tie.spec mul-self element-write-self add-self returns)
+after-limit-spec = tie.close (tie.spec cast-n mul-self element-write-self add-self returns)

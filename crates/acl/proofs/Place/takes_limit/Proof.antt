@@ -4,6 +4,9 @@ use borrow.Author.Needs.{needs}
 use Rattle.acl.proofs.Place.takes_limit.Statement.{statement}
 use Rattle.acl.proofs.Place.takes_limit.Tie as tie
 
+cast-n : tie.Need-cast-n
+cast-n c = search needs
+
 array-share-prefix-keys : tie.Need-array-share-prefix-keys
 array-share-prefix-keys c = search (needs, row-holds)
 
@@ -19,4 +22,4 @@ returns c = cc
 
 pub takes-limit-spec : {M : Type 1} → statement M
 takes-limit-spec =
-    tie.close (tie.spec array-share-prefix-keys slice-aggregate-is-among is-among-requires returns)
+    tie.close (tie.spec cast-n array-share-prefix-keys slice-aggregate-is-among is-among-requires returns)
