@@ -11,10 +11,13 @@ use lib.Seq.{set-getD}
 use lib.Dec.{ltb}
 use Rattle.rules.specs.Sizes.{slotsMax}
 use Rattle.rules.specs.Numbers.{noSlot}
+use Rattle.rules.specs.Acl.{Group}
 use Rattle.rules.specs.Ledger.{Ledger}
-use Rattle.rules.specs.Gate.{Answer, refuse, Outcome, refused}
+use Rattle.rules.specs.Gate.{Answer, refuse, Outcome}
 use Rattle.rules.proofs.Choices.{pick-ge, pick-lt}
 use Rattle.rules.specs.Cabinet as rules
+use Rattle.gate.specs.Outcomes.{Settles}
+use Rattle.gate.proofs.Settling.{settles-refused}
 use Rattle.cabinet.specs.declared.Slot.{Slot}
 use Rattle.cabinet.specs.Kept.{slotOf, placeOf, ifThere}
 
@@ -25,13 +28,13 @@ place-of slot r h e = (rw e h, e ∙ sym (rw (lt-ltb slot slotsMax h)))
 pub place-past : (slot r : ℕ) → slotsMax ≤ slot → r ≡ 0 → (r < slotsMax) × (r ≡ placeOf slot)
 place-past slot r h e = (omega (arith, e), e ∙ sym (rw (le-ltb slot slotsMax h)))
 
--- a call where there is a slot, and where there is none
-module _ (l : Ledger) (o r : Outcome) (there : Bool) where
-  pub not-there : not there ≡ true → r ≡ refused l noSlot → r ≡ ifThere there l o
-  not-there h p = p ∙ sym (rw (not-true there h))
+-- a call where there is a slot, and where there is none: that one charges nothing
+module _ (l : Ledger) (gs : List Group) (time : ℕ) (after : Answer → List ℕ → List ℕ) (o : Outcome) (there : Bool) where
+  pub not-there : after (refuse noSlot none) (l .counts) ≡ l .counts → not there ≡ true → Settles l gs time after (refuse noSlot none) (ifThere there l o)
+  not-there k h = settles-refused l gs time after (ifThere there l o) noSlot k (sym (rw (not-true there h)))
 
-  pub is-there : not there ≡ false → r ≡ o → r ≡ ifThere there l o
-  is-there h p = p ∙ sym (rw (not-false there h))
+  pub is-there : (a : Answer) → not there ≡ false → Settles l gs time after a o → Settles l gs time after a (ifThere there l o)
+  is-there a h s = rw (not-false there h) s
 
 -- the ledger made of a slot and the counters
 pub ledger-made : (xs : List Slot) (counters : List ℕ) (k : ℕ)
@@ -53,10 +56,11 @@ ledger-handed xs counters after k x = ap (λ (ss : List rules.Slot). let r : rul
 abbrev outcome : Answer → List rules.Slot → List ℕ → rules.CabinetOutcome
 outcome answer slots counters = record { answer = answer; cabinet = record { slots = slots; counters = counters } }
 
-pub handed : (xs : List Slot) (counters : List ℕ) (k : ℕ) (x : Slot) (answer : Answer)
-    → outcome answer (map slotOf (set xs k x)) counters
-    ≡ rules.asGate (record { slots = map slotOf xs; counters = counters }) k (record { answer = answer; ledger = rules.ledgerWith (slotOf x) counters })
-handed xs counters k x answer = ap (λ (ss : List rules.Slot). outcome answer ss counters) (slot-written xs k x)
+pub handed : (xs : List Slot) (counters after charged : List ℕ) (k : ℕ) (x : Slot) (answer : Answer) → after ≡ charged
+    → outcome answer (map slotOf (set xs k x)) after
+    ≡ rules.asGate (record { slots = map slotOf xs; counters = counters }) k (record { answer = answer; ledger = rules.ledgerWith (slotOf x) charged })
+handed xs counters after charged k x answer e =
+    ap (λ (ss : List rules.Slot). outcome answer ss after) (slot-written xs k x) ∙ ap (outcome answer (set (map slotOf xs) k (slotOf x))) e
 
 -- a slot's ledger put back as it was
 put-back : (c : rules.Cabinet) (k : ℕ) → rules.putBack c k (rules.ledgerAt c k) ≡ c
@@ -72,15 +76,20 @@ in-place c slot f = pick (ltb slot slotsMax) refl
     pick true e = rw e
     pick false e = rw e (ap (λ (d : rules.Cabinet). let r : rules.CabinetOutcome = record { answer = refuse noSlot none; cabinet = d } in r) (put-back c 0))
 
-pub slot-called : (xs : List Slot) (counters : List ℕ) (slot at : ℕ) (there : Bool) (f : Ledger → Outcome) (o : Outcome) (r : rules.CabinetOutcome)
+pub slot-called : (xs : List Slot) (counts counters : List ℕ) (slot at : ℕ) (there : Bool) (f : Ledger → Outcome) (o : Outcome) (r : rules.CabinetOutcome)
     → let c : rules.Cabinet = record { slots = map slotOf xs; counters = counters } in
-    let l : Ledger = rules.ledgerWith (slotOf (getD xs at (record { counts = []; loaded = 0; last = 0 }))) counters in
-    there ≡ ltb slot slotsMax → at ≡ placeOf slot → o ≡ ifThere there l (f l) → r ≡ rules.asGate c at o
+    let s : Slot = getD xs at (record { counts = []; loaded = 0; last = 0 }) in
+    let l : Ledger = record { counts = counts; counters = counters; loaded = s .loaded; last = s .last } in
+    there ≡ ltb slot slotsMax → at ≡ placeOf slot → counts ≡ s .counts → o ≡ ifThere there l (f l) → r ≡ rules.asGate c at o
     → r ≡ rules.inSlot c slot (f (rules.ledgerAt c slot))
-slot-called xs counters slot at there f o r t a d p =
+slot-called xs counts counters slot at there f o r t a k d p =
     let c : rules.Cabinet = record { slots = map slotOf xs; counters = counters } in
+    let s : Slot = getD xs at (record { counts = []; loaded = 0; last = 0 }) in
     p
-    ∙ ap (λ (x : Outcome). rules.asGate c at x) (d ∙ ap (λ (l : Ledger). ifThere there l (f l)) (ledger-made xs counters at))
+    ∙ ap (λ (x : Outcome). rules.asGate c at x)
+    (d
+    ∙ ap (λ (cs : List ℕ). let l : Ledger = record { counts = cs; counters = counters; loaded = s .loaded; last = s .last } in ifThere there l (f l)) k
+    ∙ ap (λ (l : Ledger). ifThere there l (f l)) (ledger-made xs counters at))
     ∙ rw (t, a) (in-place c slot f)
 
 -- a load of a slot that is not there, and of one that is

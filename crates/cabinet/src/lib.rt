@@ -2,17 +2,19 @@
 // slot's counts and times and the shared counters. Of the cabinet that is handed in, a call copies one slot's counts, and lends them and the counters.
 ghost use mathlib.Core.Path.{_≡_};
 ghost use Prim.Native.Nat.{_<_};
+ghost use lib.ListN.{length};
 ghost use lib.Dec.{ltb};
-ghost use Rattle.rules.specs.Sizes.{slotsMax};
+ghost use Rattle.rules.specs.Sizes.{groupsMax, slotsMax};
 ghost use Rattle.rules.specs.Gate.{request, narrow, expand};
 ghost use Rattle.rules.specs.Cabinet.{freshCabinet, ledgerAt, putBack, asGate, cabinetRefused, cabinetLoad, cabinetClear, cabinetRequest, cabinetNarrow, cabinetExpand};
 ghost use Rattle.judging.specs.Standings.{tablesOf};
-ghost use Rattle.gate.specs.Outcomes.{ledgerOf, settledOf};
+ghost use Rattle.gate.specs.Outcomes.{ledgerOf, answerOf, CountersRoom, countersCharged, countsCharged, countsAfter, noCounts, narrowedCounts, Settles};
+ghost use Rattle.rules.specs.Acl.{aclOf};
+ghost use Rattle.rules.specs.Request.{requestOf, hintsOf};
 ghost use Rattle.refusals.specs.Refusals.{refusalNumber};
 ghost use Rattle.cabinet.specs.Kept.{placeOf, ifThere, cabinetOf, cabinetOutcomeOf};
 use gate::Ledger;
 use gate::Reply;
-use gate::Settled;
 use refusals::Refusal;
 
 // What a slot has of a ledger: group counts, the load time and the last time.
@@ -54,30 +56,37 @@ fn place(slot: usize) -> usize
     slot
 }
 
-// A request, where there is the slot that it is made to; else 13, before anything else is looked at.
-fn request_in(
+// The counts of a slot, as many as there may be groups.
+fn counts_of(s: Slot) -> [u32; Ledger::GROUPS]
+    ensures { λ r. ⌜ (r ≡ s .counts) × (length r ≡ groupsMax) ⌝ }
+{
+    s.counts
+}
+
+// The reply to a request, where there is the slot that it is made to; else 13, before anything else is looked at.
+fn request_in<'a>(
     there: bool,
-    counts: &mut [u32; Ledger::GROUPS],
-    counters: &mut [u32; Ledger::COUNTERS],
+    counts: &'a [u32; Ledger::GROUPS],
+    counters: &'a [u32; Ledger::COUNTERS],
     loaded: u64,
     last: u64,
     km0: &[u8],
     acl: &[u8],
     req: &[u8],
-) -> Settled
-    ensures { λ r. ⌜ settledOf r (now (counts .exit)) (now (counters .exit)) loaded ≡ ifThere there (tablesOf (now (counts .entry)) (now (counters .entry)) loaded last) (request (tablesOf (now (counts .entry)) (now (counters .entry)) loaded last) (now (km0 .entry)) (now (acl .entry)) (now (req .entry))) ⌝ }
+) -> Reply
+    ensures { λ r. ⌜ Settles (tablesOf (now (counts .entry)) (now (counters .entry)) loaded last) (aclOf (now (acl .entry))) (requestOf (now (req .entry)) .time) countsCharged (answerOf r) (ifThere there (tablesOf (now (counts .entry)) (now (counters .entry)) loaded last) (request (tablesOf (now (counts .entry)) (now (counters .entry)) loaded last) (now (km0 .entry)) (now (acl .entry)) (now (req .entry)))) ⌝ }
 {
     if !there {
-        return gate::refuse_on(Refusal::NoSlot, last);
+        return Reply::Refuse(Refusal::NoSlot);
     }
-    gate::request_on(counts, counters, loaded, last, km0, acl, req)
+    gate::request_reply(counts, counters, loaded, last, km0, acl, req)
 }
 
-// A narrowing, in the same way.
-fn narrow_in(
+// .. to a narrowing.
+fn narrow_in<'a>(
     there: bool,
-    counts: &mut [u32; Ledger::GROUPS],
-    counters: &mut [u32; Ledger::COUNTERS],
+    counts: &'a [u32; Ledger::GROUPS],
+    counters: &'a [u32; Ledger::COUNTERS],
     loaded: u64,
     last: u64,
     km0: &[u8],
@@ -85,33 +94,33 @@ fn narrow_in(
     req: &[u8],
     new: &[u8],
     hints: &[u8],
-) -> Settled
-    ensures { λ r. ⌜ settledOf r (now (counts .exit)) (now (counters .exit)) loaded ≡ ifThere there (tablesOf (now (counts .entry)) (now (counters .entry)) loaded last) (narrow (tablesOf (now (counts .entry)) (now (counters .entry)) loaded last) (now (km0 .entry)) (now (acl .entry)) (now (req .entry)) (now (new .entry)) (now (hints .entry))) ⌝ }
+) -> Reply
+    ensures { λ r. ⌜ Settles (tablesOf (now (counts .entry)) (now (counters .entry)) loaded last) (aclOf (now (acl .entry))) (requestOf (now (req .entry)) .time) (narrowedCounts (hintsOf (now (hints .entry)))) (answerOf r) (ifThere there (tablesOf (now (counts .entry)) (now (counters .entry)) loaded last) (narrow (tablesOf (now (counts .entry)) (now (counters .entry)) loaded last) (now (km0 .entry)) (now (acl .entry)) (now (req .entry)) (now (new .entry)) (now (hints .entry)))) ⌝ }
 {
     if !there {
-        return gate::refuse_on(Refusal::NoSlot, last);
+        return Reply::Refuse(Refusal::NoSlot);
     }
-    gate::narrow_on(counts, counters, loaded, last, km0, acl, req, new, hints)
+    gate::narrow_reply(counts, counters, loaded, last, km0, acl, req, new, hints)
 }
 
-// An expansion, in the same way.
-fn expand_in(
+// .. to an expansion.
+fn expand_in<'a>(
     there: bool,
-    counts: &mut [u32; Ledger::GROUPS],
-    counters: &mut [u32; Ledger::COUNTERS],
+    counts: &'a [u32; Ledger::GROUPS],
+    counters: &'a [u32; Ledger::COUNTERS],
     loaded: u64,
     last: u64,
     km0: &[u8],
     acl: &[u8],
     req: &[u8],
     new: &[u8],
-) -> Settled
-    ensures { λ r. ⌜ settledOf r (now (counts .exit)) (now (counters .exit)) loaded ≡ ifThere there (tablesOf (now (counts .entry)) (now (counters .entry)) loaded last) (expand (tablesOf (now (counts .entry)) (now (counters .entry)) loaded last) (now (km0 .entry)) (now (acl .entry)) (now (req .entry)) (now (new .entry))) ⌝ }
+) -> Reply
+    ensures { λ r. ⌜ Settles (tablesOf (now (counts .entry)) (now (counters .entry)) loaded last) (aclOf (now (acl .entry))) (requestOf (now (req .entry)) .time) (countsAfter noCounts) (answerOf r) (ifThere there (tablesOf (now (counts .entry)) (now (counters .entry)) loaded last) (expand (tablesOf (now (counts .entry)) (now (counters .entry)) loaded last) (now (km0 .entry)) (now (acl .entry)) (now (req .entry)) (now (new .entry)))) ⌝ }
 {
     if !there {
-        return gate::refuse_on(Refusal::NoSlot, last);
+        return Reply::Refuse(Refusal::NoSlot);
     }
-    gate::expand_on(counts, counters, loaded, last, km0, acl, req, new)
+    gate::expand_reply(counts, counters, loaded, last, km0, acl, req, new)
 }
 
 impl Cabinet {
@@ -176,22 +185,25 @@ impl Cabinet {
         }
     }
 
-    // What a call came to, put into its places; the counters stand there already.
+    // What a call came to, put into its places: the slot's counts and times, and the counters charged by the reply. Nothing else writes to the cabinet in a
+    // call, so that it is copied in and out once.
     fn hand_back(
         mut self,
         at: usize,
         counts: [u32; Ledger::GROUPS],
         loaded: u64,
-        settled: Settled,
+        after: u64,
+        reply: Reply,
+        acl: &[u8],
     ) -> CabinetOutcome
-        requires { ⌜ at < slotsMax ⌝ }
-        ensures { λ r. ⌜ cabinetOutcomeOf r ≡ asGate (cabinetOf self) at (settledOf settled counts (self .counters) loaded) ⌝ }
+        requires { ⌜ (at < slotsMax) × CountersRoom (self .counters) (aclOf (now acl)) (answerOf reply) ⌝ }
+        ensures { λ r. ⌜ cabinetOutcomeOf r ≡ asGate (cabinetOf self) at (record { answer = answerOf reply; ledger = tablesOf counts (countersCharged (aclOf (now (acl .entry))) (answerOf reply) (self .counters)) loaded after }) ⌝ }
     {
-        let reply = settled.reply;
+        gate::charge_counters(&mut self.counters, reply, acl);
         let s = Slot {
             counts,
             loaded,
-            last: settled.last,
+            last: after,
         };
         self.slots[at] = s;
         CabinetOutcome {
@@ -234,31 +246,24 @@ impl Cabinet {
     }
 
     // A request to a slot. A refusal hands the cabinet back as it was.
-    pub fn request(mut self, slot: usize, km0: &[u8], acl: &[u8], req: &[u8]) -> CabinetOutcome
+    pub fn request(self, slot: usize, km0: &[u8], acl: &[u8], req: &[u8]) -> CabinetOutcome
         ensures { λ r. ⌜ cabinetOutcomeOf r ≡ cabinetRequest (cabinetOf self) slot (now (km0 .entry)) (now (acl .entry)) (now (req .entry)) ⌝ }
     {
         let there = is_slot(slot);
         let at = place(slot);
         let s = self.slots[at];
-        let mut counts = s.counts;
+        let mut counts = counts_of(s);
         let loaded = s.loaded;
         let last = s.last;
-        let settled = request_in(
-            there,
-            &mut counts,
-            &mut self.counters,
-            loaded,
-            last,
-            km0,
-            acl,
-            req,
-        );
-        self.hand_back(at, counts, loaded, settled)
+        let reply = request_in(there, &counts, &self.counters, loaded, last, km0, acl, req);
+        gate::charge_count(&mut counts, reply);
+        let after = gate::last_after(reply, last, request::time(req));
+        self.hand_back(at, counts, loaded, after, reply, acl)
     }
 
     // A narrowing in a slot.
     pub fn narrow(
-        mut self,
+        self,
         slot: usize,
         km0: &[u8],
         acl: &[u8],
@@ -271,13 +276,13 @@ impl Cabinet {
         let there = is_slot(slot);
         let at = place(slot);
         let s = self.slots[at];
-        let mut counts = s.counts;
+        let mut counts = counts_of(s);
         let loaded = s.loaded;
         let last = s.last;
-        let settled = narrow_in(
+        let reply = narrow_in(
             there,
-            &mut counts,
-            &mut self.counters,
+            &counts,
+            &self.counters,
             loaded,
             last,
             km0,
@@ -286,12 +291,15 @@ impl Cabinet {
             new,
             hints,
         );
-        self.hand_back(at, counts, loaded, settled)
+        gate::charge_count(&mut counts, reply);
+        gate::carry_counts(&mut counts, reply, hints);
+        let after = gate::last_after(reply, last, request::time(req));
+        self.hand_back(at, counts, loaded, after, reply, acl)
     }
 
     // An expansion in a slot.
     pub fn expand(
-        mut self,
+        self,
         slot: usize,
         km0: &[u8],
         acl: &[u8],
@@ -303,13 +311,13 @@ impl Cabinet {
         let there = is_slot(slot);
         let at = place(slot);
         let s = self.slots[at];
-        let mut counts = s.counts;
+        let mut counts = counts_of(s);
         let loaded = s.loaded;
         let last = s.last;
-        let settled = expand_in(
+        let reply = expand_in(
             there,
-            &mut counts,
-            &mut self.counters,
+            &counts,
+            &self.counters,
             loaded,
             last,
             km0,
@@ -317,6 +325,8 @@ impl Cabinet {
             req,
             new,
         );
-        self.hand_back(at, counts, loaded, settled)
+        gate::zero_counts(&mut counts, reply);
+        let after = gate::last_after(reply, last, request::time(req));
+        self.hand_back(at, counts, loaded, after, reply, acl)
     }
 }

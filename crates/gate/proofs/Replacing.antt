@@ -9,16 +9,23 @@ use lib.ListN.{length}
 use Rattle.rules.specs.Sizes.{groupsMax, aclRecords, hintRecords}
 use Rattle.rules.specs.Numbers.{badLength, notNarrower}
 use Rattle.rules.specs.Basics.{if_then_else_, Bytes, orNext, firstFault, fits, records}
-use Rattle.rules.specs.Acl.{Group, aclFault}
-use Rattle.rules.specs.Request.{Request, Hint, hintsOf, useOf, reduceAcl, expandAcl}
+use Rattle.rules.specs.Acl.{Group, aclOf, aclFault}
+use Rattle.rules.specs.Request.{Request, requestOf, Hint, hintsOf, useOf, reduceAcl, expandAcl}
 use Rattle.rules.specs.Ledger.{Ledger, charge, recounted, carried}
 use Rattle.rules.specs.Narrow.{narrows}
-use Rattle.rules.specs.Gate.{Answer, Outcome, Judgement, granted, denied, judge, settle, refused, permitted, narrowed, expanded, lengthsFit, narrowFiles, expandFiles}
+use Rattle.rules.specs.Gate.{Answer, done, permit, refuse, Outcome, Judgement, granted, denied, judge, settle, refused, permitted, narrowed, expanded, lengthsFit, narrowFiles, narrow, expandFiles, expand}
 use Rattle.rules.proofs.Laws.{and-left, unless-passed, fault-none-every}
 use Rattle.rules.proofs.Few.{narrow-few}
 use Rattle.request.specs.Parts.{Sound}
-use Rattle.gate.specs.Outcomes.{carriedOf, noCounts, permittedIf, isPermit, lastAfter, settledAs, countsAfter}
-use Rattle.gate.proofs.Settling.{sound-request, fitting-request}
+use Rattle.refusals.specs.declared.Refusal.{Refusal}
+use Rattle.refusals.specs.Refusals.{refusalNumber}
+use Rattle.files.specs.declared.Checked.{Checked}
+use Rattle.files.specs.declared.Checked.the-variants as checked
+use Rattle.files.specs.Faults.{faultOf}
+use Rattle.judging.specs.declared.Judged.{Judged}
+use Rattle.judging.specs.Standings.{judgedAs}
+use Rattle.gate.specs.Outcomes.{carriedOf, noCounts, permittedIf, isPermit, lastAfter, settledAs, countsAfter, decided, countsCharged, countersCharged, narrowedCounts, Settles}
+use Rattle.gate.proofs.Settling.{sound-request, fitting-request, refused-by, not-refused, settled-by, settles-refused, settles-judged, no-fault, a-fault, settles-outcome}
 use Rattle.gate.proofs.Carries.{carried-is}
 
 -- what two calls found, one after the other
@@ -100,3 +107,64 @@ expand-sound km0 acl req new e =
 -- two tests that the code made, as one
 pub both-are : (a b x y : Bool) → a ≡ x → b ≡ y → (a && b) ≡ (x && y)
 both-are a b x y p q = rw (p, q)
+
+-- A narrowing: its files have a fault, or it is judged.
+module _ (km0 acl req new hints : Bytes) (x : Checked) (e : faultOf x ≡ narrowFiles km0 acl req new hints) where
+  pub narrow-begun : x ≡ checked.Sound → Sound req
+  narrow-begun p = narrow-sound km0 acl req new hints (no-fault _ x e p) .0
+
+  pub narrow-refused : (l : Ledger) (why : Refusal) → x ≡ checked.Refused why
+      → Settles l (aclOf acl) (requestOf req .time) (narrowedCounts (hintsOf hints)) (refuse (refusalNumber why) none) (narrow l km0 acl req new hints)
+  unfolding narrow countsAfter
+  narrow-refused l why p =
+      settles-refused l (aclOf acl) (requestOf req .time) (narrowedCounts (hintsOf hints)) (narrow l km0 acl req new hints) (refusalNumber why) refl
+      (refused-by l (narrowFiles km0 acl req new hints) _ _ (refusalNumber why) (a-fault _ x e why p) refl)
+
+  pub narrow-judged : (l : Ledger) (shown : Bool) (j : Judged) (a : Answer) → x ≡ checked.Sound → j ≡ judgedAs (judge l km0 (aclOf acl) (requestOf req)) → shown ≡ narrows (aclOf acl) (aclOf new) (hintsOf hints) → a ≡ decided shown j
+      → Settles l (aclOf acl) (requestOf req .time) (narrowedCounts (hintsOf hints)) a (narrow l km0 acl req new hints)
+  unfolding narrow
+  narrow-judged l shown j a p f s d =
+      let q = requestOf req in
+      let n = no-fault _ x e p in
+      let t = narrow-sound km0 acl req new hints n in
+      settles-judged l km0 acl q shown j a (narrowedCounts (hintsOf hints)) (narrow l km0 acl req new hints) (t .1) f d
+      (not-refused l (narrowFiles km0 acl req new hints) _ _ n
+      (narrow-settled l km0 (aclOf acl) q a (countsCharged a (l .counts)) (countersCharged (aclOf acl) a (l .counters)) (l .loaded) (l .last) (q .time) _ _ refl refl (aclOf new) (hintsOf hints) shown (t .2) s
+      (settled-by l km0 (aclOf acl) q shown j a _ _ f d refl refl) refl))
+
+-- the tables that a narrowing leaves
+pub narrow-outcome : (l : Ledger) (gs : List Group) (time : ℕ) (hs : List Hint) (a : Answer) (o : Outcome) (counts charged counters : List ℕ) (when n : ℕ) → Settles l gs time (narrowedCounts hs) a o
+    → counters ≡ countersCharged gs a (l .counters) → charged ≡ countsCharged a (l .counts) → counts ≡ countsAfter (carriedOf hs) a charged → n ≡ lastAfter a (l .last) when → when ≡ time
+    → record { answer = a; ledger = record { counts = counts; counters = counters; loaded = l .loaded; last = n } } ≡ o
+narrow-outcome l gs time hs a o counts charged counters when n s f g h e w =
+    settles-outcome l gs time (narrowedCounts hs) a o counts counters when n s f (h ∙ ap (countsAfter (carriedOf hs) a) g) e w
+
+-- counts that become zero need no charge before
+zeroed : (a : Answer) (counts : List ℕ) → countsAfter noCounts a counts ≡ countsAfter noCounts a (countsCharged a counts)
+unfolding countsAfter
+zeroed done counts = refl
+zeroed (permit place) counts = refl
+zeroed (refuse n near) counts = refl
+
+-- An expansion: its files have a fault, or it is judged.
+module _ (km0 acl req new : Bytes) (x : Checked) (e : faultOf x ≡ expandFiles km0 acl req new) where
+  pub expand-begun : x ≡ checked.Sound → Sound req
+  expand-begun p = expand-sound km0 acl req new (no-fault _ x e p) .0
+
+  pub expand-refused : (l : Ledger) (why : Refusal) → x ≡ checked.Refused why
+      → Settles l (aclOf acl) (requestOf req .time) (countsAfter noCounts) (refuse (refusalNumber why) none) (expand l km0 acl req new)
+  unfolding expand countsAfter
+  expand-refused l why p =
+      settles-refused l (aclOf acl) (requestOf req .time) (countsAfter noCounts) (expand l km0 acl req new) (refusalNumber why) refl
+      (refused-by l (expandFiles km0 acl req new) _ _ (refusalNumber why) (a-fault _ x e why p) refl)
+
+  pub expand-judged : (l : Ledger) (j : Judged) (a : Answer) → x ≡ checked.Sound → j ≡ judgedAs (judge l km0 (aclOf acl) (requestOf req)) → a ≡ decided true j
+      → Settles l (aclOf acl) (requestOf req .time) (countsAfter noCounts) a (expand l km0 acl req new)
+  unfolding expand
+  expand-judged l j a p f d =
+      let q = requestOf req in
+      let n = no-fault _ x e p in
+      settles-judged l km0 acl q true j a (countsAfter noCounts) (expand l km0 acl req new) (expand-sound km0 acl req new n .1) f d
+      (not-refused l (expandFiles km0 acl req new) _ _ n
+      (expand-settled l km0 (aclOf acl) q a (countsCharged a (l .counts)) (countersCharged (aclOf acl) a (l .counters)) (l .loaded) (l .last) (q .time) _ _ refl refl
+      (settled-by l km0 (aclOf acl) q true j a _ _ f d refl refl) (zeroed a (l .counts))))

@@ -13,23 +13,27 @@ use Rattle.rules.specs.Sizes.{recordBytes, hashBytes, fullCount, aclRecords, re
 use Rattle.rules.specs.Numbers.{badLength, malformed, notNarrower}
 use Rattle.rules.specs.Basics.{Bytes, Every, all, records, fits, orNext}
 use Rattle.rules.specs.Acl.{Limit, Group, aclOf, aclFault}
-use Rattle.rules.specs.Request.{Request, requestLaidOut, requestFault}
+use Rattle.rules.specs.Request.{Request, requestOf, requestLaidOut, requestFault}
 use Rattle.rules.specs.Ledger.{Ledger, charge}
 use Rattle.rules.specs.Grant.{limitLeft, limitsLeft, groupAdmits, certified, unspent}
-use Rattle.rules.specs.Gate.{Answer, permit, refuse, Outcome, Lowest, nobody, group, lowest, Denial, early, unadmitted, uncertified, exhausted, Judgement, granted, denied, grants, tooEarly, whyNot, judgedBy, judge, refusedNear, refused, settle, unlessFault, lengthsFit, requestFiles}
+use Rattle.rules.specs.Gate.{Answer, permit, refuse, Outcome, Lowest, nobody, group, lowest, Denial, early, unadmitted, uncertified, exhausted, Judgement, granted, denied, grants, tooEarly, whyNot, judgedBy, judge, refusedNear, refused, settle, unlessFault, lengthsFit, requestFiles, request}
 use Rattle.rules.proofs.Laws.{never, and-left, and-right, and-both, implication, unless-passed, fault-none-every}
 use Rattle.rules.proofs.Rows.{first, no-rows}
 use Rattle.theorems.specs.Sizes.{Apart, GroupFits}
 use Rattle.theorems.proofs.AclSizes.{acl-fits}
 use Rattle.groups.specs.Parts.{firstLimits}
 use Rattle.refusals.specs.declared.Denial as code
-use Rattle.refusals.specs.Refusals.{denialNumber, denialGroup}
+use Rattle.refusals.specs.declared.Refusal.{Refusal}
+use Rattle.refusals.specs.Refusals.{refusalNumber, denialNumber, denialGroup}
+use Rattle.files.specs.declared.Checked.{Checked}
+use Rattle.files.specs.declared.Checked.the-variants as checked
+use Rattle.files.specs.Faults.{faultOf}
 use Rattle.request.specs.Following.{followingFault}
 use Rattle.request.specs.Parts.{Sound}
 use Rattle.judging.specs.declared.Judged.{Judged}
 use Rattle.judging.specs.declared.Judged.the-variants.{Granted, Denied}
 use Rattle.judging.specs.Standings.{denialAs, judgedAs}
-use Rattle.gate.specs.Outcomes.{limitHasRoom, Chargeable, chargedWith, permitIf, decided, permittedIf, CountersRoom, CountRoom, countersCharged, countsCharged, lastAfter, settledAs}
+use Rattle.gate.specs.Outcomes.{limitHasRoom, Chargeable, chargedWith, permitIf, decided, permittedIf, CountersRoom, CountRoom, countersCharged, countsCharged, lastAfter, settledAs, Settles}
 
 -- of groups that fit, the limits of the one at a place name no counter twice
 first-apart : (k : ℕ) (gs : List Group) → Every GroupFits gs → Apart (firstLimits (drop k gs))
@@ -250,3 +254,58 @@ pub files-sound : (km0 acl req : Bytes) → requestFiles km0 acl req ≡ none �
 files-sound km0 acl req e =
     let h = fault-none-every _ e in
     (sound-request requestLaidOut req (h .1 .1 .0) (fitting-request km0 acl req (unless-passed (lengthsFit km0 acl req) badLength (h .0))), h .1 .0)
+
+-- A refusal of what was given settles a call: nothing is charged.
+pub settles-refused : (l : Ledger) (gs : List Group) (time : ℕ) (after : Answer → List ℕ → List ℕ) (o : Outcome) (n : ℕ) → after (refuse n none) (l .counts) ≡ l .counts → refused l n ≡ o
+    → Settles l gs time after (refuse n none) o
+settles-refused l gs time after o n k e =
+    record {
+      counters-room = λ place p. absurd (never (cc));
+      count-room = λ place p. absurd (never (cc));
+      settled = ap (λ (c : List ℕ). settledAs (refuse n none) c (l .counters) (l .loaded) (l .last) time) k ∙ e;
+    }
+
+-- What a judgement comes to settles a call on an ACL without fault, where the tables charged by it are the outcome's.
+pub settles-judged : (l : Ledger) (km0 acl : Bytes) (q : Request) (shown : Bool) (j : Judged) (a : Answer) (after : Answer → List ℕ → List ℕ) (o : Outcome) → aclFault (records acl) ≡ none
+    → j ≡ judgedAs (judge l km0 (aclOf acl) q) → a ≡ decided shown j → settledAs a (after a (l .counts)) (countersCharged (aclOf acl) a (l .counters)) (l .loaded) (l .last) (q .time) ≡ o
+    → Settles l (aclOf acl) (q .time) after a o
+settles-judged l km0 acl q shown j a after o sound e d p =
+    record {
+      counters-room = counters-room l km0 acl q shown j a sound e d;
+      count-room = count-room-for l km0 acl q shown j a sound e d;
+      settled = p;
+    }
+
+-- What a call's files came to, by what the code found in them.
+module _ (files : Option ℕ) (x : Checked) (e : faultOf x ≡ files) where
+  pub no-fault : x ≡ checked.Sound → files ≡ none
+  no-fault p = sym e ∙ ap faultOf p
+
+  pub a-fault : (why : Refusal) → x ≡ checked.Refused why → files ≡ some (refusalNumber why)
+  a-fault why p = sym e ∙ ap faultOf p
+
+-- A request: its files have a fault, or it is judged.
+module _ (km0 acl req : Bytes) (x : Checked) (e : faultOf x ≡ requestFiles km0 acl req) where
+  pub request-sound : x ≡ checked.Sound → Sound req
+  request-sound p = files-sound km0 acl req (no-fault _ x e p) .0
+
+  pub request-refused : (l : Ledger) (why : Refusal) → x ≡ checked.Refused why
+      → Settles l (aclOf acl) (requestOf req .time) countsCharged (refuse (refusalNumber why) none) (request l km0 acl req)
+  unfolding request
+  request-refused l why p =
+      settles-refused l (aclOf acl) (requestOf req .time) countsCharged (request l km0 acl req) (refusalNumber why) refl
+      (refused-by l (requestFiles km0 acl req) _ _ (refusalNumber why) (a-fault _ x e why p) refl)
+
+  pub request-judged : (l : Ledger) (j : Judged) (a : Answer) → x ≡ checked.Sound → j ≡ judgedAs (judge l km0 (aclOf acl) (requestOf req)) → a ≡ decided true j
+      → Settles l (aclOf acl) (requestOf req .time) countsCharged a (request l km0 acl req)
+  unfolding request permittedIf
+  request-judged l j a p f d =
+      let n = no-fault _ x e p in
+      settles-judged l km0 acl (requestOf req) true j a countsCharged (request l km0 acl req) (files-sound km0 acl req n .1) f d
+      (not-refused l (requestFiles km0 acl req) _ _ n (settled-by l km0 (aclOf acl) (requestOf req) true j a _ _ f d refl refl))
+
+-- The tables that a settled call leaves, and its last time, are the outcome's.
+pub settles-outcome : (l : Ledger) (gs : List Group) (time : ℕ) (after : Answer → List ℕ → List ℕ) (a : Answer) (o : Outcome) (counts counters : List ℕ) (when n : ℕ) → Settles l gs time after a o
+    → counters ≡ countersCharged gs a (l .counters) → counts ≡ after a (l .counts) → n ≡ lastAfter a (l .last) when → when ≡ time
+    → record { answer = a; ledger = record { counts = counts; counters = counters; loaded = l .loaded; last = n } } ≡ o
+settles-outcome l gs time after a o counts counters when n s f g e w = rw (f, g) (settled-is a _ _ (l .loaded) (l .last) time when n o e w (s .settled))

@@ -22,7 +22,6 @@ use Rattle.gate.specs.declared.Ledger.{Ledger}
 use Rattle.gate.specs.declared.Reply.{Reply}
 use Rattle.gate.specs.declared.Reply.the-variants.{Done, Permit, Refuse, Deny}
 use Rattle.gate.specs.declared.Outcome.{Outcome}
-use Rattle.gate.specs.declared.Settled.{Settled}
 
 -- the ledger
 abbrev pub ledgerOf : Ledger → rules.Ledger
@@ -38,11 +37,6 @@ answerOf (Deny d) = rulesGate.refuse (denialNumber d) (denialGroup d)
 -- "Every step takes the ledger whole and hands it back."
 abbrev pub outcomeOf : Outcome → rulesGate.Outcome
 outcomeOf o = record { answer = answerOf (o .reply); ledger = ledgerOf (o .ledger) }
-
--- .. on lent tables: what became of them, and the load time, which no request changes
-abbrev pub settledOf : Settled → List ℕ → List ℕ → ℕ → rulesGate.Outcome
-settledOf s counts counters loaded =
-    record { answer = answerOf (s .reply); ledger = record { counts = counts; counters = counters; loaded = loaded; last = s .last } }
 
 -- a counter that a limit of sort 2 names is not full
 abbrev pub hasRoom : List ℕ → ℕ → ℕ → Bool
@@ -136,3 +130,14 @@ settledAs a counts counters loaded last time =
 -- the group counts that a replacement leaves: others where it is permitted, else those that were
 unfoldable pub countsAfter : (List ℕ → List ℕ) → rulesGate.Answer → List ℕ → List ℕ
 countsAfter f a counts = if isPermit a then f counts else counts
+
+-- .. of a narrowing: each new group takes its source's charged count
+abbrev pub narrowedCounts : List Hint → rulesGate.Answer → List ℕ → List ℕ
+narrowedCounts hs a counts = countsAfter (carriedOf hs) a (countsCharged a counts)
+
+-- An answer that settles a call on a ledger: what it charges has room, and the tables charged by it, with the group counts that `after` makes, are the
+-- outcome's.
+pub record Settles (l : rules.Ledger) (gs : List Group) (time : ℕ) (after : rulesGate.Answer → List ℕ → List ℕ) (a : rulesGate.Answer) (o : rulesGate.Outcome) : Type 0 where
+  pub counters-room : CountersRoom (l .counters) gs a
+  pub count-room : CountRoom (l .counts) a
+  pub settled : settledAs a (after a (l .counts)) (countersCharged gs a (l .counters)) (l .loaded) (l .last) time ≡ o

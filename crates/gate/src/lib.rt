@@ -1,21 +1,18 @@
 // The gate: the ledger, and the steps that take it whole and hand it back.
 ghost use mathlib.Core.Path.{_≡_};
 ghost use mathlib.Core.Bool.{true};
-ghost use mathlib.Core.Option.{none};
-ghost use mathlib.Core.List.{List};
-ghost use Prim.Native.Nat.{ℕ, _≤_, _<_};
+ghost use Prim.Native.Nat.{_<_};
 ghost use lib.ListN.{length, getD, set};
 ghost use Rattle.rules.specs.Sizes.{groupsMax, countersMax, fullCount};
 ghost use Rattle.rules.specs.Basics.{records};
-ghost use Rattle.rules.specs.Acl.{limitsOf, aclOf, aclFault};
+ghost use Rattle.rules.specs.Acl.{limitsOf, aclOf};
 ghost use Rattle.rules.specs.Request.{requestOf, hintsOf};
 ghost use Rattle.rules.specs.Ledger.{freshLedger, raised, raisedBy};
-ghost use Rattle.rules.specs.Gate.{load, clear, request, lengthsFit, requestFiles, refused, permitted, settle, judge, narrowFiles, narrowed, narrow, expandFiles, expanded, expand};
+ghost use Rattle.rules.specs.Gate.{load, clear, request, lengthsFit, requestFiles, refused, narrowFiles, narrow, expandFiles, expand};
 ghost use Rattle.refusals.specs.Refusals.{refusalNumber};
 ghost use Rattle.files.specs.Faults.{faultOf};
-ghost use Rattle.request.specs.Parts.{Sound};
 ghost use Rattle.judging.specs.Standings.{tablesOf};
-ghost use Rattle.gate.specs.Outcomes.{ledgerOf, answerOf, outcomeOf, settledOf, hasRoom, raisedOnce, Chargeable, permitIf, decided, CountersRoom, countersCharged, CountRoom, countsCharged, isPermit, lastAfter, countsAfter, carriedFrom, carriedOf, noCounts};
+ghost use Rattle.gate.specs.Outcomes.{ledgerOf, answerOf, outcomeOf, hasRoom, raisedOnce, Chargeable, permitIf, decided, CountersRoom, countersCharged, CountRoom, countsCharged, isPermit, lastAfter, countsAfter, carriedFrom, carriedOf, noCounts, narrowedCounts, Settles};
 use files::Checked;
 use judging::Judged;
 use refusals::Denial;
@@ -43,12 +40,6 @@ pub enum Reply {
 pub struct Outcome {
     pub ledger: Ledger,
     pub reply: Reply,
-}
-
-// What a call on lent tables came to: the reply, and the last time after it.
-pub struct Settled {
-    pub reply: Reply,
-    pub last: u64,
 }
 
 // A limit of sort 2 raises its counter by 1. Another limit, or a number past the table, raises nothing.
@@ -187,7 +178,7 @@ fn decide(judged: Judged, shown: bool) -> Reply
 }
 
 // The counters after a reply: where it permits, each that the group names is raised where it stands. The group is unspent, so that none is full.
-fn charge_counters(counters: &mut [u32; Ledger::COUNTERS], reply: Reply, acl: &[u8])
+pub fn charge_counters(counters: &mut [u32; Ledger::COUNTERS], reply: Reply, acl: &[u8])
     requires { ⌜ (length (now counters) ≡ countersMax) × CountersRoom (now counters) (aclOf (now acl)) (answerOf reply) ⌝ }
     ensures { λ _. ⌜ now (counters .exit) ≡ countersCharged (aclOf (now (acl .entry))) (answerOf reply) (now (counters .entry)) ⌝ }
 {
@@ -200,7 +191,7 @@ fn charge_counters(counters: &mut [u32; Ledger::COUNTERS], reply: Reply, acl: &[
 }
 
 // The group counts after a reply: where it permits, the group's own is raised.
-fn charge_count(counts: &mut [u32; Ledger::GROUPS], reply: Reply)
+pub fn charge_count(counts: &mut [u32; Ledger::GROUPS], reply: Reply)
     requires { ⌜ (length (now counts) ≡ groupsMax) × CountRoom (now counts) (answerOf reply) ⌝ }
     ensures { λ _. ⌜ (length (now (counts .exit)) ≡ groupsMax) × (now (counts .exit) ≡ countsCharged (answerOf reply) (now (counts .entry))) ⌝ }
 {
@@ -248,7 +239,7 @@ fn permits(reply: Reply) -> bool
 }
 
 // The last time after a reply: the request's where it permits.
-fn last_after(reply: Reply, last: u64, when: u64) -> u64
+pub fn last_after(reply: Reply, last: u64, when: u64) -> u64
     ensures { λ r. ⌜ r ≡ lastAfter (answerOf reply) last when ⌝ }
 {
     if permits(reply) {
@@ -257,70 +248,41 @@ fn last_after(reply: Reply, last: u64, when: u64) -> u64
     last
 }
 
-// A refusal on lent tables: they stand, and so does the last time.
-pub fn refuse_on(why: Refusal, last: u64) -> Settled
-    ensures { λ r. ⌜ ((counts counters : List ℕ) (loaded : ℕ) → settledOf r counts counters loaded ≡ refused (tablesOf counts counters loaded last) (refusalNumber why)) ⌝ }
-{
-    Settled {
-        reply: Reply::Refuse(why),
-        last,
-    }
-}
-
-// What becomes of a use or a blob whose files are sound: it is judged, then the tables are charged where they stand.
-fn used(
-    counts: &mut [u32; Ledger::GROUPS],
-    counters: &mut [u32; Ledger::COUNTERS],
+// The reply to a request for a use or a blob, from tables lent for reading: what it charges and what becomes of the last time is left to the caller, who
+// has the tables.
+pub fn request_reply<'a>(
+    counts: &'a [u32; Ledger::GROUPS],
+    counters: &'a [u32; Ledger::COUNTERS],
     loaded: u64,
     last: u64,
     km0: &[u8],
     acl: &[u8],
     req: &[u8],
-) -> Settled
-    requires { ⌜ Sound (now req) × (aclFault (records (now acl)) ≡ none) ⌝ }
-    ensures { λ r. ⌜ settledOf r (now (counts .exit)) (now (counters .exit)) loaded ≡ settle (tablesOf (now (counts .entry)) (now (counters .entry)) loaded last) (requestOf (now (req .entry)) .time) permitted (judge (tablesOf (now (counts .entry)) (now (counters .entry)) loaded last) (now (km0 .entry)) (aclOf (now (acl .entry))) (requestOf (now (req .entry)))) ⌝ }
-{
-    let judged = judging::judge_request(counts, counters, loaded, last, km0, acl, req);
-    let reply = decide(judged, true);
-    charge_counters(counters, reply, acl);
-    charge_count(counts, reply);
-    Settled {
-        reply,
-        last: last_after(reply, last, request::time(req)),
-    }
-}
-
-// A request for a use or a blob, on lent tables: for whoever does not hold them in a ledger. A refusal leaves them.
-pub fn request_on(
-    counts: &mut [u32; Ledger::GROUPS],
-    counters: &mut [u32; Ledger::COUNTERS],
-    loaded: u64,
-    last: u64,
-    km0: &[u8],
-    acl: &[u8],
-    req: &[u8],
-) -> Settled
-    ensures { λ r. ⌜ settledOf r (now (counts .exit)) (now (counters .exit)) loaded ≡ request (tablesOf (now (counts .entry)) (now (counters .entry)) loaded last) (now (km0 .entry)) (now (acl .entry)) (now (req .entry)) ⌝ }
+) -> Reply
+    ensures { λ r. ⌜ Settles (tablesOf (now (counts .entry)) (now (counters .entry)) loaded last) (aclOf (now (acl .entry))) (requestOf (now (req .entry)) .time) countsCharged (answerOf r) (request (tablesOf (now (counts .entry)) (now (counters .entry)) loaded last) (now (km0 .entry)) (now (acl .entry)) (now (req .entry))) ⌝ }
 {
     let fault = request_files(km0, acl, req);
     match fault {
-        Checked::Refused(r) => refuse_on(r, last),
-        Checked::Sound => used(counts, counters, loaded, last, km0, acl, req),
+        Checked::Refused(r) => Reply::Refuse(r),
+        Checked::Sound => decide(
+            judging::judge_request(counts, counters, loaded, last, km0, acl, req),
+            true,
+        ),
     }
 }
 
 impl Ledger {
     // A request for a use or a blob: KM0, the ACL, the request with its certificates. Any bytes get a reply; a refusal hands the ledger back as it was.
+    // The tables are charged where they stand, one after the other.
     pub fn request(mut self, km0: &[u8], acl: &[u8], req: &[u8]) -> Outcome
         ensures { λ r. ⌜ outcomeOf r ≡ request (ledgerOf self) (now (km0 .entry)) (now (acl .entry)) (now (req .entry)) ⌝ }
     {
-        let mut counts = self.counts;
         let loaded = self.loaded;
         let last = self.last;
-        let settled = request_on(&mut counts, &mut self.counters, loaded, last, km0, acl, req);
-        let reply = settled.reply;
-        self.counts = counts;
-        self.last = settled.last;
+        let reply = request_reply(&self.counts, &self.counters, loaded, last, km0, acl, req);
+        charge_counters(&mut self.counters, reply, acl);
+        charge_count(&mut self.counts, reply);
+        self.last = last_after(reply, last, request::time(req));
         Outcome {
             ledger: self,
             reply,
@@ -370,7 +332,7 @@ fn carry_all(table: &mut [u32; Ledger::GROUPS], from: &[u32], hints: &[u8])
 }
 
 // The counts that a narrowing leaves, where the reply permits: each new group takes its source's.
-fn carry_counts(counts: &mut [u32; Ledger::GROUPS], reply: Reply, hints: &[u8])
+pub fn carry_counts(counts: &mut [u32; Ledger::GROUPS], reply: Reply, hints: &[u8])
     requires { ⌜ length (now counts) ≡ groupsMax ⌝ }
     ensures { λ _. ⌜ now (counts .exit) ≡ countsAfter (carriedOf (hintsOf (now (hints .entry)))) (answerOf reply) (now (counts .entry)) ⌝ }
 {
@@ -383,7 +345,7 @@ fn carry_counts(counts: &mut [u32; Ledger::GROUPS], reply: Reply, hints: &[u8])
 }
 
 // The counts that an expansion leaves, where the reply permits: all zero.
-fn zero_counts(counts: &mut [u32; Ledger::GROUPS], reply: Reply)
+pub fn zero_counts(counts: &mut [u32; Ledger::GROUPS], reply: Reply)
     ensures { λ _. ⌜ now (counts .exit) ≡ countsAfter noCounts (answerOf reply) (now (counts .entry)) ⌝ }
 {
     if !permits(reply) {
@@ -420,10 +382,10 @@ fn expand_files(km0: &[u8], acl: &[u8], req: &[u8], new: &[u8]) -> Checked
     files::first_fault(acl::acl_records(acl), rest)
 }
 
-// What becomes of a narrowing whose files are sound. The hints are tested before anything is charged.
-fn narrowed(
-    counts: &mut [u32; Ledger::GROUPS],
-    counters: &mut [u32; Ledger::COUNTERS],
+// The reply to a narrowing, from tables lent for reading.
+pub fn narrow_reply<'a>(
+    counts: &'a [u32; Ledger::GROUPS],
+    counters: &'a [u32; Ledger::COUNTERS],
     loaded: u64,
     last: u64,
     km0: &[u8],
@@ -431,84 +393,39 @@ fn narrowed(
     req: &[u8],
     new: &[u8],
     hints: &[u8],
-) -> Settled
-    requires { ⌜ Sound (now req) × (aclFault (records (now acl)) ≡ none) × (length (hintsOf (now hints)) ≤ groupsMax) ⌝ }
-    ensures { λ r. ⌜ settledOf r (now (counts .exit)) (now (counters .exit)) loaded ≡ settle (tablesOf (now (counts .entry)) (now (counters .entry)) loaded last) (requestOf (now (req .entry)) .time) (narrowed (tablesOf (now (counts .entry)) (now (counters .entry)) loaded last) (aclOf (now (acl .entry))) (aclOf (now (new .entry))) (hintsOf (now (hints .entry)))) (judge (tablesOf (now (counts .entry)) (now (counters .entry)) loaded last) (now (km0 .entry)) (aclOf (now (acl .entry))) (requestOf (now (req .entry)))) ⌝ }
-{
-    let shown = narrowing::shows_narrowing(acl, new, hints);
-    let judged = judging::judge_request(counts, counters, loaded, last, km0, acl, req);
-    let reply = decide(judged, shown);
-    charge_counters(counters, reply, acl);
-    charge_count(counts, reply);
-    carry_counts(counts, reply, hints);
-    Settled {
-        reply,
-        last: last_after(reply, last, request::time(req)),
-    }
-}
-
-// What becomes of an expansion whose files are sound.
-fn expanded(
-    counts: &mut [u32; Ledger::GROUPS],
-    counters: &mut [u32; Ledger::COUNTERS],
-    loaded: u64,
-    last: u64,
-    km0: &[u8],
-    acl: &[u8],
-    req: &[u8],
-) -> Settled
-    requires { ⌜ Sound (now req) × (aclFault (records (now acl)) ≡ none) ⌝ }
-    ensures { λ r. ⌜ settledOf r (now (counts .exit)) (now (counters .exit)) loaded ≡ settle (tablesOf (now (counts .entry)) (now (counters .entry)) loaded last) (requestOf (now (req .entry)) .time) expanded (judge (tablesOf (now (counts .entry)) (now (counters .entry)) loaded last) (now (km0 .entry)) (aclOf (now (acl .entry))) (requestOf (now (req .entry)))) ⌝ }
-{
-    let judged = judging::judge_request(counts, counters, loaded, last, km0, acl, req);
-    let reply = decide(judged, true);
-    charge_counters(counters, reply, acl);
-    charge_count(counts, reply);
-    zero_counts(counts, reply);
-    Settled {
-        reply,
-        last: last_after(reply, last, request::time(req)),
-    }
-}
-
-// A narrowing on lent tables.
-pub fn narrow_on(
-    counts: &mut [u32; Ledger::GROUPS],
-    counters: &mut [u32; Ledger::COUNTERS],
-    loaded: u64,
-    last: u64,
-    km0: &[u8],
-    acl: &[u8],
-    req: &[u8],
-    new: &[u8],
-    hints: &[u8],
-) -> Settled
-    ensures { λ r. ⌜ settledOf r (now (counts .exit)) (now (counters .exit)) loaded ≡ narrow (tablesOf (now (counts .entry)) (now (counters .entry)) loaded last) (now (km0 .entry)) (now (acl .entry)) (now (req .entry)) (now (new .entry)) (now (hints .entry)) ⌝ }
+) -> Reply
+    ensures { λ r. ⌜ Settles (tablesOf (now (counts .entry)) (now (counters .entry)) loaded last) (aclOf (now (acl .entry))) (requestOf (now (req .entry)) .time) (narrowedCounts (hintsOf (now (hints .entry)))) (answerOf r) (narrow (tablesOf (now (counts .entry)) (now (counters .entry)) loaded last) (now (km0 .entry)) (now (acl .entry)) (now (req .entry)) (now (new .entry)) (now (hints .entry))) ⌝ }
 {
     let fault = narrow_files(km0, acl, req, new, hints);
     match fault {
-        Checked::Refused(r) => refuse_on(r, last),
-        Checked::Sound => narrowed(counts, counters, loaded, last, km0, acl, req, new, hints),
+        Checked::Refused(r) => Reply::Refuse(r),
+        Checked::Sound => decide(
+            judging::judge_request(counts, counters, loaded, last, km0, acl, req),
+            narrowing::shows_narrowing(acl, new, hints),
+        ),
     }
 }
 
-// An expansion on lent tables.
-pub fn expand_on(
-    counts: &mut [u32; Ledger::GROUPS],
-    counters: &mut [u32; Ledger::COUNTERS],
+// The reply to an expansion, from tables lent for reading.
+pub fn expand_reply<'a>(
+    counts: &'a [u32; Ledger::GROUPS],
+    counters: &'a [u32; Ledger::COUNTERS],
     loaded: u64,
     last: u64,
     km0: &[u8],
     acl: &[u8],
     req: &[u8],
     new: &[u8],
-) -> Settled
-    ensures { λ r. ⌜ settledOf r (now (counts .exit)) (now (counters .exit)) loaded ≡ expand (tablesOf (now (counts .entry)) (now (counters .entry)) loaded last) (now (km0 .entry)) (now (acl .entry)) (now (req .entry)) (now (new .entry)) ⌝ }
+) -> Reply
+    ensures { λ r. ⌜ Settles (tablesOf (now (counts .entry)) (now (counters .entry)) loaded last) (aclOf (now (acl .entry))) (requestOf (now (req .entry)) .time) (countsAfter noCounts) (answerOf r) (expand (tablesOf (now (counts .entry)) (now (counters .entry)) loaded last) (now (km0 .entry)) (now (acl .entry)) (now (req .entry)) (now (new .entry))) ⌝ }
 {
     let fault = expand_files(km0, acl, req, new);
     match fault {
-        Checked::Refused(r) => refuse_on(r, last),
-        Checked::Sound => expanded(counts, counters, loaded, last, km0, acl, req),
+        Checked::Refused(r) => Reply::Refuse(r),
+        Checked::Sound => decide(
+            judging::judge_request(counts, counters, loaded, last, km0, acl, req),
+            true,
+        ),
     }
 }
 
@@ -518,12 +435,11 @@ impl Ledger {
     pub fn narrow(mut self, km0: &[u8], acl: &[u8], req: &[u8], new: &[u8], hints: &[u8]) -> Outcome
         ensures { λ r. ⌜ outcomeOf r ≡ narrow (ledgerOf self) (now (km0 .entry)) (now (acl .entry)) (now (req .entry)) (now (new .entry)) (now (hints .entry)) ⌝ }
     {
-        let mut counts = self.counts;
         let loaded = self.loaded;
         let last = self.last;
-        let settled = narrow_on(
-            &mut counts,
-            &mut self.counters,
+        let reply = narrow_reply(
+            &self.counts,
+            &self.counters,
             loaded,
             last,
             km0,
@@ -532,9 +448,10 @@ impl Ledger {
             new,
             hints,
         );
-        let reply = settled.reply;
-        self.counts = counts;
-        self.last = settled.last;
+        charge_counters(&mut self.counters, reply, acl);
+        charge_count(&mut self.counts, reply);
+        carry_counts(&mut self.counts, reply, hints);
+        self.last = last_after(reply, last, request::time(req));
         Outcome {
             ledger: self,
             reply,
@@ -545,12 +462,11 @@ impl Ledger {
     pub fn expand(mut self, km0: &[u8], acl: &[u8], req: &[u8], new: &[u8]) -> Outcome
         ensures { λ r. ⌜ outcomeOf r ≡ expand (ledgerOf self) (now (km0 .entry)) (now (acl .entry)) (now (req .entry)) (now (new .entry)) ⌝ }
     {
-        let mut counts = self.counts;
         let loaded = self.loaded;
         let last = self.last;
-        let settled = expand_on(
-            &mut counts,
-            &mut self.counters,
+        let reply = expand_reply(
+            &self.counts,
+            &self.counters,
             loaded,
             last,
             km0,
@@ -558,9 +474,9 @@ impl Ledger {
             req,
             new,
         );
-        let reply = settled.reply;
-        self.counts = counts;
-        self.last = settled.last;
+        charge_counters(&mut self.counters, reply, acl);
+        zero_counts(&mut self.counts, reply);
+        self.last = last_after(reply, last, request::time(req));
         Outcome {
             ledger: self,
             reply,

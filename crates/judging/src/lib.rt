@@ -224,10 +224,11 @@ fn judge_groups(
     Judged::Denied(why_not(near))
 }
 
-// The judgement of a request: a time that does not go back, then the groups. One lifetime for both tables lets a caller lend two fields of its ledger.
+// The judgement of a request: a time that does not go back, then the groups. One lifetime for both tables lets a caller lend two fields of its ledger; the
+// tables come as arrays, so that the compiler sees that no place of theirs is kept and copies no ledger for it.
 pub fn judge_request<'a>(
-    counts: &'a [u32],
-    counters: &'a [u32],
+    counts: &'a [u32; sizes::GROUPS],
+    counters: &'a [u32; sizes::COUNTERS],
     loaded: u64,
     last: u64,
     km0: &[u8],

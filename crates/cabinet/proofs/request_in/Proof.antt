@@ -1,25 +1,17 @@
+use mathlib.Core.Path.{refl}
 use Rattle.cabinet.proofs.Laws.{not-there, is-there}
 use borrow.Author.Needs.{needs}
 use Rattle.cabinet.proofs.request_in.Statement.{statement}
 use Rattle.cabinet.proofs.request_in.Tie as tie
 
-refuse-on-requires : tie.Need-refuse-on-requires
-refuse-on-requires c κs = search needs
-
 returns : tie.Need-returns
-returns c = not-there _ _ _ (c .before .before .before .before .before .args .there) (search needs) (c .refuse-on .ensures _ _ _)
+returns c = not-there _ _ _ _ _ (c .before .before .before .before .args .there) refl (search needs)
 
-request-on-requires : tie.Need-request-on-requires
-request-on-requires c κs = search needs
+request-reply-requires : tie.Need-request-reply-requires
+request-reply-requires c κs = search needs
 
 returns-2 : tie.Need-returns-2
 returns-2 c = search (needs, is-there)
 
 pub request-in-spec : {M : Type 1} → statement M
-request-in-spec =
-    tie.close
-    (tie.spec
-    refuse-on-requires
-    returns
-    request-on-requires
-    returns-2)
+request-in-spec = tie.close (tie.spec returns request-reply-requires returns-2)

@@ -4,6 +4,9 @@ use borrow.Author.Needs.{needs}
 use Rattle.cabinet.proofs.Cabinet.hand_back.Statement.{statement}
 use Rattle.cabinet.proofs.Cabinet.hand_back.Tie as tie
 
+charge-counters-requires : tie.Need-charge-counters-requires
+charge-counters-requires c κs = search needs
+
 mul-s : tie.Need-mul-s
 mul-s c = search needs
 
@@ -12,13 +15,8 @@ element-set-from-s c = search needs
 
 returns : tie.Need-returns
 returns c =
-    let a = c .args in
-    handed (a .t1 .slots) (a .t1 .counters) (a .at) (record { counts = a .counts; loaded = a .loaded; last = a .settled .last }) (answerOf (a .settled .reply))
+    let a = c .before .before .before .args in
+    handed (a .t1 .slots) (a .t1 .counters) _ _ (a .at) (record { counts = a .counts; loaded = a .loaded; last = a .after }) (answerOf (a .reply)) (c .charge-counters .ensures)
 
 pub hand-back-spec : {M : Type 1} → statement M
-hand-back-spec =
-    tie.close
-    (tie.spec
-    mul-s
-    element-set-from-s
-    returns)
+hand-back-spec = tie.close (tie.spec charge-counters-requires mul-s element-set-from-s returns)

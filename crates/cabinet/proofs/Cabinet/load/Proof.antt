@@ -1,3 +1,4 @@
+use mathlib.Core.Path.{refl}
 use lib.ListN.{replicate}
 use Rattle.rules.specs.Sizes.{groupsMax}
 use Rattle.rules.specs.Gate.{done, load}
@@ -26,7 +27,7 @@ unfolding cabinetLoad
 returns-2 c =
     let a = c .before .args in
     slot-taken (cabinetOf (a .t1)) (a .slot) (load (ledgerAt (cabinetOf (a .t1)) (a .slot)) (a .time)) _ (search needs)
-    (handed (a .t1 .slots) (a .t1 .counters) (a .slot) (record { counts = replicate groupsMax 0; loaded = a .time; last = a .time }) done)
+    (handed (a .t1 .slots) (a .t1 .counters) (a .t1 .counters) (a .t1 .counters) (a .slot) (record { counts = replicate groupsMax 0; loaded = a .time; last = a .time }) done refl)
 
 pub load-spec : {M : Type 1} → statement M
 load-spec =

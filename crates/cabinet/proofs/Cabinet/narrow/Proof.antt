@@ -1,6 +1,8 @@
+use mathlib.Core.Path.{refl}
 use Rattle.rules.specs.Ledger.{Ledger}
 use Rattle.rules.specs.Gate.{narrow}
 use Rattle.rules.specs.Cabinet.{cabinetNarrow}
+use Rattle.gate.proofs.Replacing.{narrow-outcome}
 use Rattle.cabinet.proofs.Laws.{slot-called}
 use borrow.Author.Needs.{needs}
 use Rattle.cabinet.proofs.Cabinet.narrow.Statement.{statement}
@@ -18,8 +20,23 @@ mul-s c = search needs
 element-copy-out-s : tie.Need-element-copy-out-s
 element-copy-out-s c = search needs
 
+counts-of-requires : tie.Need-counts-of-requires
+counts-of-requires c κs = search needs
+
 narrow-in-requires : tie.Need-narrow-in-requires
 narrow-in-requires c κs = search needs
+
+charge-count-requires : tie.Need-charge-count-requires
+charge-count-requires c κs = search needs
+
+carry-counts-requires : tie.Need-carry-counts-requires
+carry-counts-requires c κs = search needs
+
+time-requires : tie.Need-time-requires
+time-requires c κs = search needs
+
+last-after-requires : tie.Need-last-after-requires
+last-after-requires c κs = search needs
 
 hand-back-requires : tie.Need-hand-back-requires
 hand-back-requires c κs = search needs
@@ -27,11 +44,17 @@ hand-back-requires c κs = search needs
 returns : tie.Need-returns
 unfolding cabinetNarrow
 returns c =
-    let q = c .before in
-    let p = q .before .before .before .before .before in
+    let m = c .before in
+    let t = m .before in
+    let h = t .before in
+    let n = h .before .before in
+    let q = n .before .before in
+    let k = q .before .before .before .before in
+    let p = k .before .before in
     let i = p .before in
     let a = i .before .before .before .before .before .before .args in
-    slot-called (a .t1 .slots) (a .t1 .counters) (a .slot) _ _ (λ (l : Ledger). narrow l (a .km0 .now) (a .acl .now) (a .req .now) (a .new .now) (a .hints .now)) _ _ (i .is-slot .ensures) (p .place .ensures .1) (q .narrow-in .ensures) (c .hand-back .ensures)
+    slot-called (a .t1 .slots) _ (a .t1 .counters) (a .slot) _ _ (λ (l : Ledger). narrow l (a .km0 .now) (a .acl .now) (a .req .now) (a .new .now) (a .hints .now)) _ _ (i .is-slot .ensures) (p .place .ensures .1) (k .counts-of .ensures .0)
+    (narrow-outcome _ _ _ _ _ _ _ _ _ _ _ (q .narrow-in .ensures) refl (n .charge-count .ensures .1) (h .carry-counts .ensures) (m .last-after .ensures) (t .time .ensures)) (c .hand-back .ensures)
 
 pub narrow-spec : {M : Type 1} → statement M
 narrow-spec =
@@ -41,6 +64,11 @@ narrow-spec =
     place-requires
     mul-s
     element-copy-out-s
+    counts-of-requires
     narrow-in-requires
+    charge-count-requires
+    carry-counts-requires
+    time-requires
+    last-after-requires
     hand-back-requires
     returns)

@@ -1,6 +1,8 @@
+use mathlib.Core.Path.{refl}
 use Rattle.rules.specs.Ledger.{Ledger}
 use Rattle.rules.specs.Gate.{request}
 use Rattle.rules.specs.Cabinet.{cabinetRequest}
+use Rattle.gate.proofs.Settling.{settles-outcome}
 use Rattle.cabinet.proofs.Laws.{slot-called}
 use borrow.Author.Needs.{needs}
 use Rattle.cabinet.proofs.Cabinet.request.Statement.{statement}
@@ -18,8 +20,20 @@ mul-s c = search needs
 element-copy-out-s : tie.Need-element-copy-out-s
 element-copy-out-s c = search needs
 
+counts-of-requires : tie.Need-counts-of-requires
+counts-of-requires c κs = search needs
+
 request-in-requires : tie.Need-request-in-requires
 request-in-requires c κs = search needs
+
+charge-count-requires : tie.Need-charge-count-requires
+charge-count-requires c κs = search needs
+
+time-requires : tie.Need-time-requires
+time-requires c κs = search needs
+
+last-after-requires : tie.Need-last-after-requires
+last-after-requires c κs = search needs
 
 hand-back-requires : tie.Need-hand-back-requires
 hand-back-requires c κs = search needs
@@ -27,11 +41,16 @@ hand-back-requires c κs = search needs
 returns : tie.Need-returns
 unfolding cabinetRequest
 returns c =
-    let q = c .before in
-    let p = q .before .before .before .before .before in
+    let m = c .before in
+    let t = m .before in
+    let n = t .before in
+    let q = n .before .before in
+    let k = q .before .before .before .before in
+    let p = k .before .before in
     let i = p .before in
     let a = i .before .before .before .before .args in
-    slot-called (a .t1 .slots) (a .t1 .counters) (a .slot) _ _ (λ (l : Ledger). request l (a .km0 .now) (a .acl .now) (a .req .now)) _ _ (i .is-slot .ensures) (p .place .ensures .1) (q .request-in .ensures) (c .hand-back .ensures)
+    slot-called (a .t1 .slots) _ (a .t1 .counters) (a .slot) _ _ (λ (l : Ledger). request l (a .km0 .now) (a .acl .now) (a .req .now)) _ _ (i .is-slot .ensures) (p .place .ensures .1) (k .counts-of .ensures .0)
+    (settles-outcome _ _ _ _ _ _ _ _ _ _ (q .request-in .ensures) refl (n .charge-count .ensures .1) (m .last-after .ensures) (t .time .ensures)) (c .hand-back .ensures)
 
 pub request-spec : {M : Type 1} → statement M
 request-spec =
@@ -41,6 +60,10 @@ request-spec =
     place-requires
     mul-s
     element-copy-out-s
+    counts-of-requires
     request-in-requires
+    charge-count-requires
+    time-requires
+    last-after-requires
     hand-back-requires
     returns)
