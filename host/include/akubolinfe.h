@@ -134,8 +134,9 @@ typedef struct {
 /* The fresh cabinet: all zero. */
 akubolinfe_cabinet akubolinfe_cabinet_fresh(void);
 
-/* The calls of a slot are those of a ledger, on the slot's counts and times and the shared counters; at each call the ACL of
- * the slot's key is lent. No other slot changes. A slot over 7 is refused with 13, before anything else is looked at. */
+/* The calls of a slot, and the runs in it (below), are those of a ledger, on the slot's counts and times and the shared counters;
+ * at each call the ACL of the slot's key is lent. No other slot changes. A slot over 7 is refused with 13, before anything else
+ * is looked at. */
 
 /* A load of a slot, at any time: its group counts zero, both its times set. */
 akubolinfe_cabinet_outcome akubolinfe_cabinet_load(akubolinfe_cabinet cabinet, size_t slot, uint64_t time);
@@ -285,5 +286,27 @@ akubolinfe_run_outcome akubolinfe_prepared_run(akubolinfe_ledger ledger, const u
                                                const uint8_t *acl, size_t acl_length, const akubolinfe_certificate *row,
                                                size_t row_length, akubolinfe_form form, const uint8_t *requests,
                                                size_t requests_length, uint8_t *answers, size_t answers_length);
+
+/* The cabinet handed back, and the answer as in an `akubolinfe_run_outcome`. */
+typedef struct {
+    akubolinfe_cabinet cabinet;
+    uint64_t answer;
+    uint64_t number;
+} akubolinfe_cabinet_run_outcome;
+
+/* A run in a slot of a cabinet, as `akubolinfe_run`. */
+akubolinfe_cabinet_run_outcome akubolinfe_cabinet_run(akubolinfe_cabinet cabinet, size_t slot, const uint8_t *km0,
+                                                      size_t km0_length, const uint8_t *acl, size_t acl_length,
+                                                      const akubolinfe_certificate *row, size_t row_length,
+                                                      const uint8_t *requests, size_t requests_length, uint8_t *answers,
+                                                      size_t answers_length);
+
+/* A run on a prepared ACL in a slot of a cabinet, as `akubolinfe_prepared_run`. */
+akubolinfe_cabinet_run_outcome akubolinfe_cabinet_prepared_run(akubolinfe_cabinet cabinet, size_t slot, const uint8_t *km0,
+                                                               size_t km0_length, const uint8_t *acl, size_t acl_length,
+                                                               const akubolinfe_certificate *row, size_t row_length,
+                                                               akubolinfe_form form, const uint8_t *requests,
+                                                               size_t requests_length, uint8_t *answers,
+                                                               size_t answers_length);
 
 #endif

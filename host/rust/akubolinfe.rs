@@ -92,6 +92,13 @@ struct RawRun {
 }
 
 #[repr(C)]
+struct RawCabinetRun {
+    cabinet: Cabinet,
+    answer: u64,
+    number: u64,
+}
+
+#[repr(C)]
 struct RawPreparation {
     form: Form,
     answer: u64,
@@ -184,6 +191,14 @@ extern "C" {
         l: Ledger, k: *const u8, kn: usize, a: *const u8, an: usize, c: *const Certificate, cn: usize, f: Form,
         r: *const u8, rn: usize, b: *mut u8, bn: usize,
     ) -> RawRun;
+    fn akubolinfe_cabinet_run(
+        c: Cabinet, s: usize, k: *const u8, kn: usize, a: *const u8, an: usize, w: *const Certificate, wn: usize,
+        r: *const u8, rn: usize, b: *mut u8, bn: usize,
+    ) -> RawCabinetRun;
+    fn akubolinfe_cabinet_prepared_run(
+        c: Cabinet, s: usize, k: *const u8, kn: usize, a: *const u8, an: usize, w: *const Certificate, wn: usize, f: Form,
+        r: *const u8, rn: usize, b: *mut u8, bn: usize,
+    ) -> RawCabinetRun;
 }
 
 // A slice's pointer; NULL where it is empty, as C programs pass it.
@@ -379,6 +394,38 @@ impl Ledger {
             akubolinfe_prepared_run(
                 self, ptr(km0), km0.len(), ptr(acl), acl.len(), ptr(certificates), certificates.len(), form, ptr(requests),
                 requests.len(), ptr_mut(answers), answers.len(),
+            )
+        })
+    }
+}
+
+fn ran_in_slot(o: RawCabinetRun) -> (Cabinet, Result<u64, u64>) {
+    (o.cabinet, if o.answer == 1 { Ok(o.number) } else { Err(o.number) })
+}
+
+/// The same runs in a slot.
+impl Cabinet {
+    /// A run of at most 100 requests in a slot.
+    pub fn run(
+        self, slot: usize, km0: &[u8], acl: &[u8], certificates: &[Certificate], requests: &[u8], answers: &mut [u8],
+    ) -> (Cabinet, Result<u64, u64>) {
+        ran_in_slot(unsafe {
+            akubolinfe_cabinet_run(
+                self, slot, ptr(km0), km0.len(), ptr(acl), acl.len(), ptr(certificates), certificates.len(),
+                ptr(requests), requests.len(), ptr_mut(answers), answers.len(),
+            )
+        })
+    }
+
+    /// A run of at most 1,000 requests on a prepared ACL in a slot.
+    pub fn prepared_run(
+        self, slot: usize, km0: &[u8], acl: &[u8], certificates: &[Certificate], form: Form, requests: &[u8],
+        answers: &mut [u8],
+    ) -> (Cabinet, Result<u64, u64>) {
+        ran_in_slot(unsafe {
+            akubolinfe_cabinet_prepared_run(
+                self, slot, ptr(km0), km0.len(), ptr(acl), acl.len(), ptr(certificates), certificates.len(), form,
+                ptr(requests), requests.len(), ptr_mut(answers), answers.len(),
             )
         })
     }

@@ -1,12 +1,13 @@
 // Answers a replay script (docs/REPLAY.md) through the C surface, so that the linked library can be compared with the second
-// program: `second/compare` takes it in the place of the replay program. With `--cfg ordinary` it answers through the ordinary Rust
-// program of bench/ordinary instead, which has neither cabinet nor listings nor trimming tool.
+// program: `second/compare` takes it in the place of the replay program. A run is made in a slot of a cabinet as well, and this program
+// ends where that differs. With `--cfg ordinary` it answers through the ordinary Rust program of bench/ordinary instead, which has neither
+// cabinet nor listings nor trimming tool nor runs.
 #[cfg_attr(ordinary, path = "../../bench/ordinary/mod.rs")]
 mod akubolinfe;
 
 use akubolinfe::{assess, write_subject, Ledger, Reply, Verdict};
 #[cfg(not(ordinary))]
-use akubolinfe::{read_listing, trim, write_listing, Cabinet, NotListed, NotTrimmed};
+use akubolinfe::{prepare, read_listing, trim, write_listing, Cabinet, Certificate, Form, NotListed, NotTrimmed, Slot};
 use std::io::{Read, Write};
 
 // The rest of a script.
@@ -53,10 +54,14 @@ fn words(reply: Reply) -> String {
     }
 }
 
+fn ledger_words(ledger: &Ledger) -> String {
+    let tables = table("counts", &ledger.counts) + &table("counters", &ledger.counters);
+    format!(" load {} last {}{tables}", ledger.loaded, ledger.last)
+}
+
 fn told(ledger: &mut Ledger, (after, reply): (Ledger, Reply)) -> String {
     *ledger = after;
-    let tables = table("counts", &ledger.counts) + &table("counters", &ledger.counters);
-    format!("{} load {} last {}{tables}", words(reply), ledger.loaded, ledger.last)
+    words(reply) + &ledger_words(ledger)
 }
 
 fn verdict(v: Verdict) -> String {
@@ -105,6 +110,94 @@ fn trimmed(s: &mut Script) -> Option<String> {
     Some(format!("{answer} {} {}", hex(&new), hex(&hints)))
 }
 
+#[cfg(not(ordinary))]
+fn prepared(s: &mut Script) -> Option<String> {
+    Some(match prepare(&s.run()?) {
+        Ok(f) => {
+            let sets = f.uses.iter().chain([&f.working, &f.recovery]);
+            sets.fold("form ".to_string(), |text, set| text + &format!("{set:016x}"))
+        }
+        Err(n) => format!("refuse {n}"),
+    })
+}
+
+// A row of certificates; none where its length is no multiple of theirs.
+#[cfg(not(ordinary))]
+fn row(bytes: &[u8]) -> Option<Vec<Certificate>> {
+    if bytes.len() % 22 != 0 {
+        return None;
+    }
+    let certificate = |c: &[u8]| Certificate {
+        hash: c[..20].try_into().unwrap(),
+        mechanism: u16::from_be_bytes([c[20], c[21]]),
+    };
+    Some(bytes.chunks(22).map(certificate).collect())
+}
+
+// A form of eighteen sets; none where it is of another length.
+#[cfg(not(ordinary))]
+fn form(bytes: &[u8]) -> Option<Form> {
+    let sets: Vec<u64> = bytes.chunks_exact(8).map(|n| u64::from_be_bytes(n.try_into().unwrap())).collect();
+    if bytes.len() != 144 {
+        return None;
+    }
+    Some(Form { uses: sets[..16].try_into().unwrap(), working: sets[16], recovery: sets[17] })
+}
+
+// A cabinet in which one slot has a ledger's counts and times, the others some of their own; the counters are the ledger's.
+#[cfg(not(ordinary))]
+fn cabinet_of(ledger: &Ledger, slot: usize) -> Cabinet {
+    let mut cabinet = Cabinet::fresh();
+    for (i, other) in cabinet.slots.iter_mut().enumerate() {
+        *other = Slot { counts: [i as u32 + 1; 64], loaded: i as u64, last: 9 };
+    }
+    cabinet.slots[slot] = Slot { counts: ledger.counts, loaded: ledger.loaded, last: ledger.last };
+    cabinet.counters = ledger.counters;
+    cabinet
+}
+
+// A run on a ledger, and the same run in a slot: the reply, the buffer and the ledger have to agree, and the other slots stay. In slot 8,
+// which there is not, it is refused with 13, and nothing changes.
+#[cfg(not(ordinary))]
+fn ran(
+    ledger: &mut Ledger, buffer: &mut [u8], slot: usize, on_ledger: impl Fn(Ledger, &mut [u8]) -> (Ledger, Result<u64, u64>),
+    in_slot: impl Fn(Cabinet, usize, &mut [u8]) -> (Cabinet, Result<u64, u64>),
+) -> String {
+    let (before, lent) = (cabinet_of(ledger, slot), buffer.to_vec());
+    let mut answers = lent.clone();
+    let none = in_slot(before, 8, &mut answers);
+    assert!(none == (before, Err(13)) && answers == lent, "slot 8");
+    let (cabinet, told) = in_slot(before, slot, &mut answers);
+    let (after, reply) = on_ledger(*ledger, buffer);
+    let mut expected = before;
+    expected.slots[slot] = cabinet_of(&after, slot).slots[slot];
+    expected.counters = after.counters;
+    assert!((cabinet, told) == (expected, reply) && answers == buffer, "slot {slot}");
+    *ledger = after;
+    let words = match reply {
+        Ok(n) => format!("length {n} {}", hex(buffer)),
+        Err(n) => format!("refuse {n} {}", hex(buffer)),
+    };
+    words + &ledger_words(ledger)
+}
+
+// A run, with the slot that its number of requests picks.
+#[cfg(not(ordinary))]
+fn batch(s: &mut Script, ledger: &mut Ledger, f: Option<Form>) -> Option<String> {
+    let (km0, acl, row, run, mut buffer) = (s.run()?, s.run()?, row(&s.run()?)?, s.run()?, s.run()?);
+    let slot = run.len() / 64 % 8;
+    Some(match f {
+        None => ran(
+            ledger, &mut buffer, slot, |l, b| l.run(&km0, &acl, &row, &run, b),
+            |c, slot, b| c.run(slot, &km0, &acl, &row, &run, b),
+        ),
+        Some(f) => ran(
+            ledger, &mut buffer, slot, |l, b| l.prepared_run(&km0, &acl, &row, f, &run, b),
+            |c, slot, b| c.prepared_run(slot, &km0, &acl, &row, f, &run, b),
+        ),
+    })
+}
+
 // What is carried from call to call.
 struct State {
     ledger: Ledger,
@@ -151,6 +244,15 @@ fn answer(letter: u8, s: &mut Script, state: &mut State) -> Option<String> {
         b'T' => return listing(s, read_listing),
         #[cfg(not(ordinary))]
         b'M' => return trimmed(s),
+        #[cfg(not(ordinary))]
+        b'P' => return prepared(s),
+        #[cfg(not(ordinary))]
+        b'B' => return batch(s, &mut state.ledger, None),
+        #[cfg(not(ordinary))]
+        b'Q' => {
+            let f = form(&s.run()?)?;
+            return batch(s, &mut state.ledger, Some(f));
+        }
         #[cfg(not(ordinary))]
         b'f' | b'l' | b'c' | b'r' | b'n' | b'x' => return cabinet_answer(letter, s, &mut state.cabinet),
         _ => return None,

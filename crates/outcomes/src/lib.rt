@@ -47,17 +47,22 @@ fn print_denial(why: Denial) {
     }
 }
 
+// The ledger, which ends a line, and the ledger handed back.
+pub fn print_ledger(ledger: Ledger) -> Ledger {
+    let counts = ledger.counts;
+    let counters = ledger.counters;
+    printing::print_used(ledger.loaded, ledger.last, &counts);
+    printing::print_counters(&counters);
+    ledger
+}
+
 // The line of a ledger call, and the ledger handed back.
 pub fn ledger_line(k: u64, o: Outcome) -> Ledger {
     let reply = o.reply;
     let ledger = o.ledger;
-    let counts = ledger.counts;
-    let counters = ledger.counters;
     printing::print_line(k);
     print_reply(reply);
-    printing::print_used(ledger.loaded, ledger.last, &counts);
-    printing::print_counters(&counters);
-    ledger
+    print_ledger(ledger)
 }
 
 fn print_slot(slot: usize, s: Slot) {

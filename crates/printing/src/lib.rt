@@ -73,3 +73,17 @@ pub fn print_hex(s: &[u8]) {
 fn print_byte(b: u8) {
     io::print_hex(STDOUT_FILENO, b as u64, 2);
 }
+
+// A number, sixteen lower-case digits.
+pub fn print_word(n: u64) {
+    io::print_hex(STDOUT_FILENO, n, 16);
+}
+
+// Numbers, sixteen lower-case digits for each.
+pub fn print_words(s: &[u64]) {
+    let mut i = 0;
+    while i < s.len() {
+        print_word(s[i]);
+        i += 1;
+    }
+}

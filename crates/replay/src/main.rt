@@ -1,6 +1,8 @@
 // Drives every entry point from a script on standard input and prints one line for each call (docs/REPLAY.md). One ledger and one cabinet go from call to
 // call; memory is fixed, so that a script may be of any length.
+ghost use mathlib.Core.Path.{_≡_};
 ghost use Prim.Native.Nat.{_<_, _≤_};
+ghost use lib.ListN.{length};
 use cabinet::Cabinet;
 use gate::Ledger;
 use script::Call;
@@ -63,10 +65,33 @@ fn called(
         file_calls::desk_call(k, a, b);
         return s;
     }
+    if letter == b'P' {
+        run_calls::prepare_call(k, a);
+        return s;
+    }
     stopped(k, s)
 }
 
-// A call, its arguments in the buffers. Those that write do so in the second, a trimming in the third and fourth.
+// A run of many requests.
+fn ran(
+    k: u64,
+    mut s: State,
+    call: Call,
+    form: &[u8],
+    a: &[u8],
+    b: &[u8],
+    c: &[u8],
+    d: &[u8],
+    e: &mut [u8],
+) -> State
+    requires { ⌜ length (now form) ≡ 144 ⌝ }
+{
+    let before = s.ledger;
+    s.ledger = run_calls::run_call(k, before, call.letter, form, a, b, c, d, e);
+    s
+}
+
+// A call, its arguments in the buffers. Those that write do so in the second, a trimming in the third and fourth, a run in the fifth.
 fn answered(
     k: u64,
     s: State,
@@ -75,13 +100,17 @@ fn answered(
     b: &mut [u8],
     c: &mut [u8],
     d: &mut [u8],
-    e: &[u8],
-) -> State {
+    e: &mut [u8],
+    form: &[u8],
+) -> State
+    requires { ⌜ length (now form) ≡ 144 ⌝ }
+{
     let letter = call.letter;
     let given = prefix(a, call.a);
     let m = script::within(b, call.b);
     let n = script::within(c, call.c);
     let o = script::within(d, call.d);
+    let p = script::within(e, call.e);
     if (letter == b'S') | (letter == b'W') | (letter == b'T') {
         file_calls::buffer_call(k, letter, call.first, call.second, given, &mut b[0..m]);
         return s;
@@ -90,16 +119,20 @@ fn answered(
         file_calls::trim_call(k, given, &b[0..m], &mut c[0..n], &mut d[0..o]);
         return s;
     }
-    called(
-        k,
-        s,
-        call,
-        given,
-        &b[0..m],
-        &c[0..n],
-        &d[0..o],
-        prefix(e, call.e),
-    )
+    if script::is_run(letter) {
+        return ran(
+            k,
+            s,
+            call,
+            form,
+            given,
+            &b[0..m],
+            &c[0..n],
+            &d[0..o],
+            &mut e[0..p],
+        );
+    }
+    called(k, s, call, given, &b[0..m], &c[0..n], &d[0..o], &e[0..p])
 }
 
 // What stands next in the script: a call, or the end.
@@ -111,10 +144,13 @@ fn turn(
     b: &mut [u8],
     c: &mut [u8],
     d: &mut [u8],
-    e: &[u8],
-) -> State {
+    e: &mut [u8],
+    form: &[u8],
+) -> State
+    requires { ⌜ length (now form) ≡ 144 ⌝ }
+{
     match next {
-        Next::Is(call) => answered(k, s, call, a, b, c, d, e),
+        Next::Is(call) => answered(k, s, call, a, b, c, d, e, form),
         Next::Stop => stopped(k, s),
         Next::End => ended(s),
     }
@@ -129,9 +165,12 @@ fn next_turn(
     c: &mut [u8],
     d: &mut [u8],
     e: &mut [u8],
-) -> State {
-    let next = script::read_call(a, b, c, d, e);
-    turn(k, s, next, a, b, c, d, e)
+    form: &mut [u8],
+) -> State
+    requires { ⌜ length (now form) ≡ 144 ⌝ }
+{
+    let next = script::read_call(a, b, c, d, e, form);
+    turn(k, s, next, a, b, c, d, e, form)
 }
 
 // The number of the call after call k; the greatest where the run has ended.
@@ -146,11 +185,13 @@ fn number_after(on: bool, k: u64) -> u64
 }
 
 // A proved loop has to end, and nothing says that a script does: the calls are counted up to a number that no run comes to.
-fn run(a: &mut [u8], b: &mut [u8], c: &mut [u8], d: &mut [u8], e: &mut [u8]) {
+fn run(a: &mut [u8], b: &mut [u8], c: &mut [u8], d: &mut [u8], e: &mut [u8], form: &mut [u8])
+    requires { ⌜ length (now form) ≡ 144 ⌝ }
+{
     let mut s = fresh();
     let mut k: u64 = 1;
     while k < u64::MAX {
-        s = next_turn(k, s, a, b, c, d, e);
+        s = next_turn(k, s, a, b, c, d, e, form);
         k = number_after(s.on, k);
     }
 }
@@ -161,5 +202,6 @@ fn main() {
     let mut c = [0u8; script::MOST];
     let mut d = [0u8; script::MOST];
     let mut e = [0u8; script::MOST];
-    run(&mut a, &mut b, &mut c, &mut d, &mut e);
+    let mut form = [0u8; script::FORM];
+    run(&mut a, &mut b, &mut c, &mut d, &mut e, &mut form);
 }

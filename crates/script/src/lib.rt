@@ -1,11 +1,14 @@
 // Reads the calls of a replay script (docs/REPLAY.md) from standard input: a letter, then the numbers and the runs of bytes that its call takes. In every
-// call the numbers come first, two at most, so that one walk reads them all.
+// call the numbers come first, two at most, then a form, if the call takes one, so that one walk reads them all.
 ghost use Prim.Native.Nat.{_≤_};
 ghost use lib.ListN.{length};
 use libc::STDIN_FILENO;
 
 // The greatest length of a run of bytes.
 pub const MOST: usize = 262144;
+
+// The length of a form: eighteen numbers.
+pub const FORM: usize = 144;
 
 // An argument that was read: its value or its length; or the script ended, or the length is too great.
 enum Argument {
@@ -64,15 +67,26 @@ fn numbers_of(letter: u8) -> u64 {
     }
 }
 
-// How many runs of bytes a call takes.
+// How many runs of bytes a call takes, without a form.
 fn runs_of(letter: u8) -> u64 {
     match letter {
+        b'P' => 1,
         b'D' | b'S' | b'W' | b'T' => 2,
         b'R' | b'r' => 3,
         b'X' | b'x' | b'M' => 4,
-        b'N' | b'n' => 5,
+        b'N' | b'n' | b'B' | b'Q' => 5,
         _ => 0,
     }
+}
+
+// Whether a call is a run of many requests.
+pub fn is_run(letter: u8) -> bool {
+    (letter == b'B') | (letter == b'Q')
+}
+
+// Whether the third run of bytes of a call can have a length: that of many requests is a row of certificates, 22 bytes each.
+fn can_be_third(letter: u8, n: u64) -> bool {
+    !is_run(letter) | (n % 22 == 0)
 }
 
 // A number, where one is due: 8 bytes, big-endian.
@@ -117,6 +131,14 @@ fn read_bytes(due: bool, buffer: &mut [u8]) -> Argument {
     Argument::Is(n)
 }
 
+// A form, where one is due, into its buffer: whether it is as long as that.
+fn read_form(due: bool, form: &mut [u8]) -> bool {
+    let Argument::Is(n) = read_bytes(due, form) else {
+        return false;
+    };
+    !due | (n as usize == form.len())
+}
+
 // The first three runs of bytes of a call that takes n, each into its buffer.
 fn read_three(n: u64, a: &mut [u8], b: &mut [u8], c: &mut [u8]) -> Lengths {
     let Argument::Is(x) = read_bytes(0 < n, a) else {
@@ -131,7 +153,7 @@ fn read_three(n: u64, a: &mut [u8], b: &mut [u8], c: &mut [u8]) -> Lengths {
     Lengths::Are(x, y, z)
 }
 
-// The runs of bytes of a call, behind its numbers.
+// The runs of bytes of a call, behind its numbers and its form.
 fn read_runs(
     letter: u8,
     first: u64,
@@ -146,6 +168,9 @@ fn read_runs(
     let Lengths::Are(x, y, z) = read_three(n, a, b, c) else {
         return Next::Stop;
     };
+    if !can_be_third(letter, z) {
+        return Next::Stop;
+    }
     let Argument::Is(v) = read_bytes(3 < n, d) else {
         return Next::Stop;
     };
@@ -172,6 +197,7 @@ fn read_arguments(
     c: &mut [u8],
     d: &mut [u8],
     e: &mut [u8],
+    form: &mut [u8],
 ) -> Next {
     let n = numbers_of(letter);
     let Argument::Is(first) = read_number(0 < n) else {
@@ -180,15 +206,25 @@ fn read_arguments(
     let Argument::Is(second) = read_number(1 < n) else {
         return Next::Stop;
     };
+    if !read_form(letter == b'Q', form) {
+        return Next::Stop;
+    }
     read_runs(letter, first, second, a, b, c, d, e)
 }
 
-// The next call, its runs of bytes in the buffers.
-pub fn read_call(a: &mut [u8], b: &mut [u8], c: &mut [u8], d: &mut [u8], e: &mut [u8]) -> Next {
+// The next call, its runs of bytes in the buffers and its form in one of its own.
+pub fn read_call(
+    a: &mut [u8],
+    b: &mut [u8],
+    c: &mut [u8],
+    d: &mut [u8],
+    e: &mut [u8],
+    form: &mut [u8],
+) -> Next {
     let mut letter = [0u8; 1];
     let n = io::read_full(STDIN_FILENO, &mut letter);
     if n == 0 {
         return Next::End;
     }
-    read_arguments(letter[0], a, b, c, d, e)
+    read_arguments(letter[0], a, b, c, d, e, form)
 }

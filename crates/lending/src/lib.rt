@@ -1,0 +1,142 @@
+// A row of certificates that is given as bytes, decoded and lent to a run as a host lends its own. The functions that lend it are proved by hand: each is
+// one call.
+ghost use mathlib.Core.Path.{_≡_};
+ghost use Prim.Native.Nat.{_≤_};
+ghost use lib.ListN.{length, take};
+ghost use Rattle.rules.specs.Runs.{run};
+ghost use Rattle.rules.specs.Prepared.{preparedRun};
+ghost use Rattle.gate.specs.Outcomes.{ledgerOf};
+ghost use Rattle.prepared.specs.Forms.{formAs};
+ghost use Rattle.row.specs.Rows.{rowAs};
+ghost use Rattle.runs.specs.Judged.{runAs};
+use gate::Ledger;
+use prepared::Prepared;
+use row::Certificate;
+use runs::RunOutcome;
+
+// Bytes of a certificate: the hash, then the mechanism, big-endian.
+const CERTIFICATE: usize = sizes::HASH + 2;
+
+// How many certificates of a row are lent at most: one more than a run takes. A run with more than it takes is refused by the lengths of its files (1) or
+// else by the number of its certificates (3), before a mechanism, the ACL's records, the room or the form is looked at. So the first 33 of a longer row
+// get the answer of the whole row.
+const LENT: usize = sizes::CERTIFICATES + 1;
+
+fn hash_of(bytes: &[u8]) -> [u8; sizes::HASH]
+    requires { ⌜ 20 ≤ length (now bytes) ⌝ }
+{
+    let mut hash = [0u8; sizes::HASH];
+    let mut i = 0;
+    while i < sizes::HASH {
+        hash[i] = bytes[i];
+        i += 1;
+    }
+    hash
+}
+
+// The certificate at the front of some bytes.
+fn certificate_of(bytes: &[u8]) -> Certificate
+    requires { ⌜ 22 ≤ length (now bytes) ⌝ }
+{
+    let hash = hash_of(bytes);
+    Certificate {
+        hash,
+        mechanism: fields::be16(bytes, sizes::HASH),
+    }
+}
+
+// The certificates of a row that are lent, blank ones behind them.
+fn decoded(bytes: &[u8]) -> [Certificate; LENT] {
+    let blank = Certificate {
+        hash: [0u8; sizes::HASH],
+        mechanism: 0,
+    };
+    let mut row = [blank; LENT];
+    let mut i = 0;
+    while i < LENT {
+        if bytes.len() < i * CERTIFICATE + CERTIFICATE {
+            return row;
+        }
+        row[i] = certificate_of(&bytes[i * CERTIFICATE..]);
+        i += 1;
+    }
+    row
+}
+
+// How many of a row are lent.
+fn lent(bytes: &[u8]) -> usize
+    ensures { λ r. ⌜ r ≤ 33 ⌝ }
+{
+    let n = bytes.len() / CERTIFICATE;
+    if LENT < n {
+        return LENT;
+    }
+    n
+}
+
+// A run with the first certificates of a row.
+fn run_lent(
+    ledger: Ledger,
+    km0: &[u8],
+    acl: &[u8],
+    row: [Certificate; LENT],
+    n: usize,
+    requests: &[u8],
+    answers: &mut [u8],
+) -> RunOutcome
+    requires { ⌜ n ≤ 33 ⌝ }
+    ensures { λ r. ⌜ runAs r (now (answers .exit)) ≡ run (ledgerOf ledger) (now (km0 .entry)) (now (acl .entry)) (rowAs (take n row)) (now (requests .entry)) (now (answers .entry)) ⌝ }
+{
+    runs::run(ledger, km0, acl, &row[..n], requests, answers)
+}
+
+// .. on a prepared ACL.
+fn prepared_run_lent(
+    ledger: Ledger,
+    km0: &[u8],
+    acl: &[u8],
+    row: [Certificate; LENT],
+    n: usize,
+    form: Prepared,
+    requests: &[u8],
+    answers: &mut [u8],
+) -> RunOutcome
+    requires { ⌜ n ≤ 33 ⌝ }
+    ensures { λ r. ⌜ runAs r (now (answers .exit)) ≡ preparedRun (ledgerOf ledger) (now (km0 .entry)) (now (acl .entry)) (rowAs (take n row)) (formAs form) (now (requests .entry)) (now (answers .entry)) ⌝ }
+{
+    runs::prepared_run(ledger, km0, acl, &row[..n], form, requests, answers)
+}
+
+// A run with a row of certificates that is given as bytes.
+pub fn run(
+    ledger: Ledger,
+    km0: &[u8],
+    acl: &[u8],
+    row: &[u8],
+    requests: &[u8],
+    answers: &mut [u8],
+) -> RunOutcome {
+    run_lent(ledger, km0, acl, decoded(row), lent(row), requests, answers)
+}
+
+// .. on a prepared ACL.
+pub fn prepared_run(
+    ledger: Ledger,
+    km0: &[u8],
+    acl: &[u8],
+    row: &[u8],
+    form: Prepared,
+    requests: &[u8],
+    answers: &mut [u8],
+) -> RunOutcome {
+    prepared_run_lent(
+        ledger,
+        km0,
+        acl,
+        decoded(row),
+        lent(row),
+        form,
+        requests,
+        answers,
+    )
+}

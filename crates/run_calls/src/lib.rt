@@ -1,0 +1,109 @@
+// The calls of a replay script (docs/REPLAY.md) that run many requests on the ledger, and the one that prepares an ACL for them. Each makes the call and
+// prints its line; a run hands the ledger back.
+ghost use mathlib.Core.Path.{_≡_};
+ghost use lib.ListN.{length};
+use files::Checked;
+use gate::Ledger;
+use prepared::Prepared;
+use printing::print;
+use runs::RunOutcome;
+use runs::RunReply;
+
+// The sets of the permissions, at the front of a form's bytes.
+fn uses_of(bytes: &[u8]) -> [u64; sizes::PERMISSIONS]
+    requires { ⌜ length (now bytes) ≡ 144 ⌝ }
+{
+    let mut uses = [0u64; sizes::PERMISSIONS];
+    let mut i = 0;
+    while i < sizes::PERMISSIONS {
+        uses[i] = fields::be64(bytes, i * 8);
+        i += 1;
+    }
+    uses
+}
+
+// A form that is given as bytes: eighteen numbers, big-endian.
+fn form_of(bytes: &[u8]) -> Prepared
+    requires { ⌜ length (now bytes) ≡ 144 ⌝ }
+{
+    let uses = uses_of(bytes);
+    Prepared {
+        uses,
+        working: fields::be64(bytes, 128),
+        recovery: fields::be64(bytes, 136),
+    }
+}
+
+// The answer to a letter of a run: plain, or on a prepared ACL.
+fn answer(
+    ledger: Ledger,
+    letter: u8,
+    form: &[u8],
+    km0: &[u8],
+    acl: &[u8],
+    row: &[u8],
+    requests: &[u8],
+    answers: &mut [u8],
+) -> RunOutcome
+    requires { ⌜ length (now form) ≡ 144 ⌝ }
+{
+    if letter == b'B' {
+        return lending::run(ledger, km0, acl, row, requests, answers);
+    }
+    lending::prepared_run(ledger, km0, acl, row, form_of(form), requests, answers)
+}
+
+fn print_ran(reply: RunReply) {
+    match reply {
+        RunReply::Ran(n) => {
+            print(b"length");
+            printing::print_spaced(n);
+        }
+        RunReply::Refused(why) => printing::print_refusal(refusals::number(why) as u64),
+    }
+}
+
+// A run: its reply, the whole buffer after it and the ledger handed back.
+pub fn run_call(
+    k: u64,
+    before: Ledger,
+    letter: u8,
+    form: &[u8],
+    km0: &[u8],
+    acl: &[u8],
+    row: &[u8],
+    requests: &[u8],
+    answers: &mut [u8],
+) -> Ledger
+    requires { ⌜ length (now form) ≡ 144 ⌝ }
+{
+    let o = answer(before, letter, form, km0, acl, row, requests, answers);
+    let reply = o.reply;
+    let ledger = o.ledger;
+    printing::print_line(k);
+    print_ran(reply);
+    print(b" ");
+    printing::print_hex(answers);
+    outcomes::print_ledger(ledger)
+}
+
+// The sets of a form, sixteen lower-case digits for each.
+fn print_form(form: Prepared) {
+    let uses = form.uses;
+    print(b"form ");
+    printing::print_words(&uses);
+    printing::print_word(form.working);
+    printing::print_word(form.recovery);
+}
+
+// A preparation: the form, or the ACL's refusal.
+pub fn prepare_call(k: u64, acl: &[u8]) {
+    let p = prepared::prepare(acl);
+    let fault = p.fault;
+    printing::print_line(k);
+    match fault {
+        Checked::Sound => print_form(p.form),
+        Checked::Refused(why) => printing::print_refusal(refusals::number(why) as u64),
+    }
+    print(b"\n");
+}
