@@ -1,5 +1,5 @@
-/* Prints an ACL as text and reads the text back, asks the gate for every request record of a day, then serves two keys under that
- * ACL from one cabinet, where they share its counters, and asks the desk for a verdict:
+/* Prints an ACL as text and reads the text back, asks the gate for every request record of a day, one by one and in a run on the
+ * prepared ACL, then serves two keys under that ACL from one cabinet, where they share its counters, and asks the desk for a verdict:
  *     example KM0 ACL REQUESTS BUNDLE BUNDLE_ACL */
 #include <stdio.h>
 #include <stdlib.h>
@@ -58,7 +58,7 @@ static void print_reply(uint64_t answer, uint64_t number, uint64_t group)
     printf("\n");
 }
 
-static void print_day(const file *km0, const file *acl, const file *requests)
+static akubolinfe_ledger print_day(const file *km0, const file *acl, const file *requests)
 {
     akubolinfe_ledger ledger = akubolinfe_load(akubolinfe_fresh(), 0).ledger;
     for (size_t at = 0; AKUBOLINFE_RECORD <= requests->length - at; at += AKUBOLINFE_RECORD) {
@@ -68,6 +68,46 @@ static void print_day(const file *km0, const file *acl, const file *requests)
         print_reply(o.answer, o.number, o.group);
         ledger = o.ledger;
     }
+    return ledger;
+}
+
+/* A number of four bytes, greatest place first. */
+static uint64_t four_bytes(const uint8_t *bytes)
+{
+    return (uint64_t)bytes[0] << 24 | (uint64_t)bytes[1] << 16 | (uint64_t)bytes[2] << 8 | bytes[3];
+}
+
+/* The day's requests in one run, without certificates, and the same run in a slot of a cabinet. Both end with the ledger of asking
+ * one by one. */
+static void print_run(const file *km0, const file *acl, const file *requests, akubolinfe_ledger one_by_one)
+{
+    static uint8_t answers[AKUBOLINFE_PREPARED_RECORDS * AKUBOLINFE_ANSWER_BYTES], again[sizeof answers];
+    akubolinfe_form form = akubolinfe_prepare(acl->bytes, acl->length).form;
+    akubolinfe_ledger loaded = akubolinfe_load(akubolinfe_fresh(), 0).ledger;
+    akubolinfe_run_outcome o = akubolinfe_prepared_run(loaded, km0->bytes, km0->length, acl->bytes, acl->length, NULL, 0, form,
+                                                       requests->bytes, requests->length, answers, sizeof answers);
+    if (o.answer != AKUBOLINFE_RAN) {
+        printf("run: refused %llu\n", (unsigned long long)o.number);
+        return;
+    }
+    for (size_t k = 0; k < o.number; k++) {
+        const uint8_t *answer = answers + k * AKUBOLINFE_ANSWER_BYTES;
+        uint64_t number = four_bytes(answer), group = four_bytes(answer + 4);
+        printf("run %zu: ", k + 1);
+        if (number == 0)
+            print_reply(AKUBOLINFE_PERMITTED, group, group);
+        else
+            print_reply(AKUBOLINFE_REFUSED, number, group == UINT32_MAX ? AKUBOLINFE_NO_GROUP : group);
+    }
+    akubolinfe_cabinet cabinet = akubolinfe_cabinet_load(akubolinfe_cabinet_fresh(), 5, 0).cabinet;
+    akubolinfe_cabinet_run_outcome c = akubolinfe_cabinet_prepared_run(cabinet, 5, km0->bytes, km0->length, acl->bytes, acl->length,
+                                                                       NULL, 0, form, requests->bytes, requests->length, again,
+                                                                       sizeof again);
+    int same = c.answer == o.answer && c.number == o.number && memcmp(again, answers, sizeof answers) == 0
+               && memcmp(c.cabinet.slots[5].counts, o.ledger.counts, sizeof o.ledger.counts) == 0
+               && memcmp(c.cabinet.counters, o.ledger.counters, sizeof o.ledger.counters) == 0;
+    printf("the ledger is %s, the run in a slot %s\n", memcmp(&o.ledger, &one_by_one, sizeof one_by_one) == 0 ? "the same" : "another",
+           same ? "the same" : "another");
 }
 
 /* A request record to the key of a slot. */
@@ -121,7 +161,7 @@ int main(int count, char **names)
         if (!read_file(names[i + 1], &files[i]))
             return EXIT_FAILURE;
     print_listing(&files[1]);
-    print_day(&files[0], &files[1], &files[2]);
+    print_run(&files[0], &files[1], &files[2], print_day(&files[0], &files[1], &files[2]));
     print_keys(&files[0], &files[1], &files[2]);
     print_verdict(&files[3], &files[4]);
     return EXIT_SUCCESS;
