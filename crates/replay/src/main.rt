@@ -165,12 +165,10 @@ fn next_turn(
     c: &mut [u8],
     d: &mut [u8],
     e: &mut [u8],
-    form: &mut [u8],
-) -> State
-    requires { ⌜ length (now form) ≡ 144 ⌝ }
-{
-    let next = script::read_call(a, b, c, d, e, form);
-    turn(k, s, next, a, b, c, d, e, form)
+) -> State {
+    let mut form = [0u8; script::FORM];
+    let next = script::read_call(a, b, c, d, e, &mut form);
+    turn(k, s, next, a, b, c, d, e, &form)
 }
 
 // The number of the call after call k; the greatest where the run has ended.
@@ -185,13 +183,11 @@ fn number_after(on: bool, k: u64) -> u64
 }
 
 // A proved loop has to end, and nothing says that a script does: the calls are counted up to a number that no run comes to.
-fn run(a: &mut [u8], b: &mut [u8], c: &mut [u8], d: &mut [u8], e: &mut [u8], form: &mut [u8])
-    requires { ⌜ length (now form) ≡ 144 ⌝ }
-{
+fn run(a: &mut [u8], b: &mut [u8], c: &mut [u8], d: &mut [u8], e: &mut [u8]) {
     let mut s = fresh();
     let mut k: u64 = 1;
     while k < u64::MAX {
-        s = next_turn(k, s, a, b, c, d, e, form);
+        s = next_turn(k, s, a, b, c, d, e);
         k = number_after(s.on, k);
     }
 }
@@ -202,6 +198,5 @@ fn main() {
     let mut c = [0u8; script::MOST];
     let mut d = [0u8; script::MOST];
     let mut e = [0u8; script::MOST];
-    let mut form = [0u8; script::FORM];
-    run(&mut a, &mut b, &mut c, &mut d, &mut e, &mut form);
+    run(&mut a, &mut b, &mut c, &mut d, &mut e);
 }

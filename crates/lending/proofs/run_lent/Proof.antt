@@ -99,7 +99,7 @@ module _ {M : Type 1} (𝓤 : URA M) (H : Heap 𝓤) (A : Atoms 𝓤) (W : Given
   goes-plain-run : (α : ℕ) → (part : RefT (List Certificate)) → ent 𝓤 (⋆ 𝓤 H A (items-plain-run α part)) (C-plain-run 𝓤 H A mem run .pre (to-plain-run α part, tt))
   goes-plain-run α part = qed W (items-plain-run α part) ∵ nothing ! $ move ! (10 ∷ 0 ∷ []) $ fjoin ! $ move ! (9 ∷ 0 ∷ []) $ fjoin ! $ move ! (8 ∷ 0 ∷ []) $ fjoin ! $ move ! (7 ∷ 0 ∷ []) $ fjoin ! $ move ! (6 ∷ 0 ∷ []) $ fjoin ! $ owned ! Ledger-type.the-row (Is Ledger-type.the-row) (LL.makes Ledger-type.the-type Ledger-type-laws.the-plain 𝓤 H A) ledger (LL.val Ledger-type.the-type Ledger-type-laws.the-laws ledger ∷ []) ledger-is $ fjoin ! $ nothing ! $ move ! (6 ∷ 0 ∷ []) $ join ! $ move ! (5 ∷ 0 ∷ []) $ join ! $ move ! (4 ∷ 0 ∷ []) $ join ! $ move ! (3 ∷ 0 ∷ []) $ join ! $ move ! (2 ∷ 0 ∷ []) $ join ! $ join ! $ frame ! $ done !
 
-  walk : (𝓣 : Tables 𝓤 H) → Triple 𝓤 (𝓣 .C #runs·run) (C-plain-run 𝓤 H A mem run) 
+  walk : (𝓣 : Tables 𝓤 H) → Triple 𝓤 (𝓣 .C #runs·run) (C-plain-run 𝓤 H A mem run)
       → ent 𝓤 (onEntry 𝓤 H A this.signature (κ₀, (κ₁, (κ₂, (κ₃, tt)))) (q₀, (q₁, (q₂, (q₃, tt)))) x at) (WpFn 𝓤 H (𝓣 .C) (𝓣 .Λ) code.function (LL.val Ledger-type.the-type Ledger-type-laws.the-laws ledger ∷ only (slice-vals km0) ∷ only (slice-vals acl) ∷ only (rows-vals row) ∷ vint w64 n ∷ only (slice-vals requests) ∷ only (slice-vals answers) ∷ []) Post)
   walk 𝓣 known-plain-run =
       qed W ((‵ (flft κ₀ q₀) ⊛ (‵ (flft κ₁ q₁) ⊛ (‵ (flft κ₂ q₂) ⊛ (‵ (flft κ₃ q₃) ⊛ (‵ ftrue))))) ∷ ‵ (owns (Ledger-type.the-row ∷ ShrSlice (named 0) κ₀ u8 ∷ ShrSlice (named 1) κ₁ u8 ∷ Rows ∷ usize ∷ ShrSlice (named 2) κ₂ u8 ∷ MutSlice (named 3) κ₃ u8 ∷ []) x at) ∷ []) ∵ enter ! (𝓣 .C) (𝓣 .Λ) code.function (LL.val Ledger-type.the-type Ledger-type-laws.the-laws ledger ∷ only (slice-vals km0) ∷ only (slice-vals acl) ∷ only (rows-vals row) ∷ vint w64 n ∷ only (slice-vals requests) ∷ only (slice-vals answers) ∷ []) _ $
@@ -159,7 +159,7 @@ module _ {M : Type 1} (𝓤 : URA M) (H : Heap 𝓤) (A : Atoms 𝓤) (W : Given
       move ! (13 ∷ 12 ∷ 9 ∷ 11 ∷ 10 ∷ 4 ∷ 2 ∷ 6 ∷ 0 ∷ 14 ∷ []) $
       cut (items-plain-run α part) (raw (C-plain-run 𝓤 H A mem run .pre (to-plain-run α part, tt)) ∷ []) _ (goes-plain-run α part) $
       asks ! (fmOf 𝓤 H (W .laws) 𝓣) plain-run.ended (plain-run.clauses 𝓤 H A mem run) known-plain-run (to-plain-run α part) tt (λ r ws₀. runAs r (ws₀ .1 .1 .1 .1 .1 .0) ≡ rules.run (ledgerOf ledger) (now km0) (now acl) (rowAs (take n row)) (now requests) (now answers)) (λ r ws₀. id⊢ 𝓤 _)
-        (and-then ! (load ! (from ! (stop !)) (look ! 27 refl)) (and-then ! (load ! (from ! (stop !)) (look ! 25 refl)) (and-then ! (load ! (from ! (stop !)) (look ! 23 refl)) (and-then ! (load ! (from ! (stop !)) (look ! 10 refl)) (and-then ! (load ! (from ! (stop !)) (look ! 17 refl)) (and-then ! (load ! (from ! (stop !)) (look ! 6 refl)) (no-more !))))))) (λ v r ws₀ e.
+      (and-then ! (load ! (from ! (stop !)) (look ! 27 refl)) (and-then ! (load ! (from ! (stop !)) (look ! 25 refl)) (and-then ! (load ! (from ! (stop !)) (look ! 23 refl)) (and-then ! (load ! (from ! (stop !)) (look ! 10 refl)) (and-then ! (load ! (from ! (stop !)) (look ! 17 refl)) (and-then ! (load ! (from ! (stop !)) (look ! 6 refl)) (no-more !))))))) (λ v r ws₀ e.
       use1 W (‵ (flft κ₀ q₀) ⊛ (‵ (flft κ₁ q₁) ⊛ (‵ (flft (α ∷ []) fullShare) ⊛ (‵ (flft κ₂ q₂) ⊛ (‵ (flft κ₃ q₃) ⊛ (‵ ftrue)))))) (id⊢ 𝓤 _) $
       split ! $
       move ! (1 ∷ []) $
