@@ -7,10 +7,12 @@ mod ordinary;
 #[path = "../host/rust/akubolinfe.rs"]
 mod proved;
 mod stack;
+mod timing;
 
 use inputs::{ALL, EXPAND_ACL, REDUCE_ACL, SIGN, SOME, TIME};
 use std::hint::black_box;
 use std::time::Instant;
+use timing::{load, median};
 
 const ROUNDS: u32 = 200;
 
@@ -162,11 +164,6 @@ fn round(side: &mut dyn Side, case: &Case) -> (f64, String) {
     (began.elapsed().as_nanos() as f64 / f64::from(n), answer)
 }
 
-fn median(mut times: Vec<f64>) -> f64 {
-    times.sort_by(f64::total_cmp);
-    times[times.len() / 2]
-}
-
 // Measures a case and prints its line; the ratio.
 fn measure(case: &Case) -> f64 {
     let (mut proved, mut ordinary) = (Proved::loaded(), Ordinary::loaded());
@@ -182,11 +179,6 @@ fn measure(case: &Case) -> f64 {
     let (p, o) = (median(of_proved), median(of_ordinary));
     println!("{:<48} {p:>9.0} {o:>9.0} {:>7.2}", case.name, p / o);
     p / o
-}
-
-fn load() -> String {
-    let text = std::fs::read_to_string("/proc/loadavg").unwrap_or_default();
-    text.split(' ').take(3).collect::<Vec<_>>().join(" ")
 }
 
 // The stack of one call on the longest files, of every function of the library.

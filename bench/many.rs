@@ -5,9 +5,11 @@ mod inputs;
 #[allow(dead_code)]
 #[path = "../host/rust/akubolinfe.rs"]
 mod proved;
+mod row;
 
 use inputs::{full_request, granted_last, km0, small_acl, small_request, SIGN, SOME, TIME};
-use proved::{prepare, Cabinet, Certificate, Ledger};
+use proved::{prepare, Cabinet, Ledger};
+use row::decoded;
 use std::hint::black_box;
 
 const CASES: [&str; 7] = [
@@ -19,12 +21,6 @@ const CASES: [&str; 7] = [
     "run: 100 Signs, 16 full groups",
     "prepared run: 1,000 Signs, 16 full groups",
 ];
-
-/// The certificates of a request file, decoded, as a host has them.
-fn decoded(request: &[u8]) -> Vec<Certificate> {
-    let certificate = |r: &[u8]| Certificate { hash: r[4..24].try_into().unwrap(), mechanism: u16::from_be_bytes([r[24], r[25]]) };
-    request[64..].chunks(64).map(certificate).collect()
-}
 
 fn gate(acl: &[u8], request: &[u8], calls: u32) -> String {
     let (mut ledger, mut reply) = Ledger::fresh().load(TIME);
