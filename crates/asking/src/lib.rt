@@ -1,7 +1,7 @@
 // The requests of a run one after the other: the test of a record, the judgement, the charge in place on the lent tables, and the answer of eight
 // bytes.
 ghost use mathlib.Core.Path.{_≡_};
-ghost use Prim.Native.Nat.{_≤_, _<_, _+_, _*_, _/_};
+ghost use Prim.Native.Nat.{_≤_, _<_, _+_, _-_, _*_, _/_};
 ghost use lib.ListN.{length, getD, drop};
 ghost use Rattle.rules.specs.Sizes.{recordBytes, answerBytes, groupsMax, countersMax, fullCount, preparedRecords};
 ghost use Rattle.rules.specs.Numbers.{malformed};
@@ -14,6 +14,7 @@ ghost use Rattle.rules.proofs.Asking.{overAt, writing};
 ghost use Rattle.prepared.specs.Places.{Inside};
 ghost use Rattle.judging.specs.Standings.{tablesOf};
 ghost use Rattle.choosing.specs.Deciding.{Ready, askSets};
+ghost use Rattle.choosing.specs.Opening.{OpenFrom};
 ghost use Rattle.refusals.specs.Refusals.{denialGroup};
 ghost use Rattle.gate.specs.Outcomes.{Chargeable};
 ghost use Rattle.asking.specs.Answers.{placeAs, numberAs, placeOr, nearAs, shownAs, Answers};
@@ -142,9 +143,10 @@ fn answer_one(
     bodies: &[usize; sizes::GROUPS],
     uses: &[u64; sizes::PERMISSIONS],
     sets: Sets,
+    unspent: u64,
     rec: &[u8],
 ) -> Answered
-    requires { ⌜ Ready (now acl) (now bodies) (now uses) (sets .working) (sets .recovery) × (length (now counts) ≡ groupsMax) × (length (now counters) ≡ countersMax) × (length (now rec) ≡ recordBytes) ⌝ }
+    requires { ⌜ Ready (now acl) (now bodies) (now uses) (sets .working) (sets .recovery) × (length (now counts) ≡ groupsMax) × (length (now counters) ≡ countersMax) × (length (now rec) ≡ recordBytes) × OpenFrom (now counts) (now counters) (last - loaded) (now acl) (now bodies) (sets .certified) unspent ⌝ }
     ensures { λ r. ⌜ Answers (askSets (now (km0 .entry)) (aclOf (now (acl .entry))) (sets .certified) (tablesOf (now (counts .entry)) (now (counters .entry)) loaded last) (now (rec .entry))) (now (counts .exit)) (now (counters .exit)) loaded (r .number) (r .group) (r .last) ⌝ }
 {
     if !request::stands_alone(rec) {
@@ -160,6 +162,7 @@ fn answer_one(
         bodies,
         uses,
         sets,
+        unspent,
         rec,
     );
     let k = group_of(judged);
@@ -190,8 +193,8 @@ fn put_answer(buf: &mut [u8], at: usize, number: u32, group: u32)
     put32(buf, at, number);
 }
 
-// The requests of a run one after the other, on the lent tables; the last time after them.
-pub fn run_records(
+// The requests one after the other, on the lent tables; the last time after them. `unspent` are the certified groups that were unspent before the first.
+fn ask_records(
     counts: &mut [u32; sizes::GROUPS],
     counters: &mut [u32; sizes::COUNTERS],
     loaded: u64,
@@ -201,10 +204,11 @@ pub fn run_records(
     bodies: &[usize; sizes::GROUPS],
     uses: &[u64; sizes::PERMISSIONS],
     sets: Sets,
+    unspent: u64,
     requests: &[u8],
     buf: &mut [u8],
 ) -> u64
-    requires { ⌜ Ready (now acl) (now bodies) (now uses) (sets .working) (sets .recovery) × (length (now counts) ≡ groupsMax) × (length (now counters) ≡ countersMax) × (length (now requests) ≤ preparedRecords * recordBytes) × (length (now requests) / recordBytes * answerBytes ≤ length (now buf)) ⌝ }
+    requires { ⌜ Ready (now acl) (now bodies) (now uses) (sets .working) (sets .recovery) × (length (now counts) ≡ groupsMax) × (length (now counters) ≡ countersMax) × (length (now requests) ≤ preparedRecords * recordBytes) × (length (now requests) / recordBytes * answerBytes ≤ length (now buf)) × OpenFrom (now counts) (now counters) (before - loaded) (now acl) (now bodies) (sets .certified) unspent ⌝ }
     ensures { λ r. ⌜ Wrote (now (counts .exit)) (now (counters .exit)) loaded r (now (buf .exit)) (writing (askSets (now (km0 .entry)) (aclOf (now (acl .entry))) (sets .certified)) (tablesOf (now (counts .entry)) (now (counters .entry)) loaded before) (now (buf .entry)) 0 (records (now (requests .entry)))) ⌝ }
 {
     let mut last = before;
@@ -221,6 +225,7 @@ pub fn run_records(
             bodies,
             uses,
             sets,
+            unspent,
             &requests[at..at + sizes::RECORD],
         );
         put_answer(buf, out, a.number, a.group);
@@ -229,4 +234,51 @@ pub fn run_records(
         out += sizes::ANSWER;
     }
     last
+}
+
+// The seconds between load and last time; none where the last time is before the load.
+fn seconds_used(loaded: u64, last: u64) -> u64
+    ensures { λ r. ⌜ r ≡ last - loaded ⌝ }
+{
+    if last < loaded {
+        return 0;
+    }
+    last - loaded
+}
+
+// The requests of a run one after the other, on the lent tables; the last time after them. Groups that are spent before the first request are spent for
+// the whole run, and are looked at once.
+pub fn run_records(
+    counts: &mut [u32; sizes::GROUPS],
+    counters: &mut [u32; sizes::COUNTERS],
+    loaded: u64,
+    before: u64,
+    km0: &[u8],
+    acl: &[u8],
+    bodies: &[usize; sizes::GROUPS],
+    uses: &[u64; sizes::PERMISSIONS],
+    sets: Sets,
+    requests: &[u8],
+    buf: &mut [u8],
+) -> u64
+    requires { ⌜ Ready (now acl) (now bodies) (now uses) (sets .working) (sets .recovery) × (length (now counts) ≡ groupsMax) × (length (now counters) ≡ countersMax) × (length (now requests) ≤ preparedRecords * recordBytes) × (length (now requests) / recordBytes * answerBytes ≤ length (now buf)) ⌝ }
+    ensures { λ r. ⌜ Wrote (now (counts .exit)) (now (counters .exit)) loaded r (now (buf .exit)) (writing (askSets (now (km0 .entry)) (aclOf (now (acl .entry))) (sets .certified)) (tablesOf (now (counts .entry)) (now (counters .entry)) loaded before) (now (buf .entry)) 0 (records (now (requests .entry)))) ⌝ }
+{
+    let since = seconds_used(loaded, before);
+    let certified = sets.certified;
+    let unspent = choosing::unspent_of(counts, counters, since, acl, bodies, certified);
+    ask_records(
+        counts,
+        counters,
+        loaded,
+        before,
+        km0,
+        acl,
+        bodies,
+        uses,
+        sets,
+        unspent,
+        requests,
+        buf,
+    )
 }

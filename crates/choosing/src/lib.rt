@@ -14,6 +14,7 @@ ghost use Rattle.prepared.specs.Places.{Inside};
 ghost use Rattle.judging.specs.Standings.{judgedAs, tablesOf};
 ghost use Rattle.choosing.specs.Members.{leftAt, admitsAt, membersIn};
 ghost use Rattle.choosing.specs.Deciding.{Ready, admittingSet, candidates, setJudge};
+ghost use Rattle.choosing.specs.Opening.{Opened, OpenFrom};
 use judging::Judged;
 use refusals::Denial;
 
@@ -116,6 +117,33 @@ fn admitting_of(
     kept
 }
 
+// The groups of a set that are unspent.
+pub fn unspent_of(
+    counts: &[u32; sizes::GROUPS],
+    counters: &[u32; sizes::COUNTERS],
+    elapsed: u64,
+    acl: &[u8],
+    bodies: &[usize; sizes::GROUPS],
+    set: u64,
+) -> u64
+    requires { ⌜ (set < 2 ^ groupsMax) × Inside (now acl) (now bodies) ⌝ }
+    ensures { λ r. ⌜ r ≡ membersIn (leftAt (now (counts .entry)) (now (counters .entry)) elapsed (now (acl .entry)) (now (bodies .entry))) setBits set ⌝ }
+{
+    let mut kept = 0u64;
+    let mut left = set;
+    while 0 < left {
+        let k = lowest(left);
+        let rest = left & (left - 1);
+        if !left_at(counts, counters, elapsed, acl, bodies, k) {
+            left = rest;
+            continue;
+        }
+        kept = with_member(kept, left, rest);
+        left = rest;
+    }
+    kept
+}
+
 // The judgement by the groups that admit and those that are certified.
 fn judge_sets(
     counts: &[u32; sizes::GROUPS],
@@ -125,8 +153,9 @@ fn judge_sets(
     bodies: &[usize; sizes::GROUPS],
     admitting: u64,
     certified: u64,
+    unspent: u64,
 ) -> Judged
-    requires { ⌜ (admitting < 2 ^ length (aclOf (now acl))) × (length (aclOf (now acl)) ≤ groupsMax) × Inside (now acl) (now bodies) ⌝ }
+    requires { ⌜ (admitting < 2 ^ length (aclOf (now acl))) × (length (aclOf (now acl)) ≤ groupsMax) × Inside (now acl) (now bodies) × Opened (leftAt (now counts) (now counters) elapsed (now acl) (now bodies)) certified unspent ⌝ }
     ensures { λ r. ⌜ r ≡ judgedAs (judgedBySets (aclOf (now (acl .entry))) admitting certified (leftAt (now (counts .entry)) (now (counters .entry)) elapsed (now (acl .entry)) (now (bodies .entry)))) ⌝ }
 {
     if admitting < 1 {
@@ -136,7 +165,7 @@ fn judge_sets(
     if both < 1 {
         return Judged::Denied(Denial::Uncertified(lowest(admitting)));
     }
-    let k = first_unspent(counts, counters, elapsed, acl, bodies, both);
+    let k = first_unspent(counts, counters, elapsed, acl, bodies, admitting & unspent);
     if sizes::GROUPS <= k {
         return Judged::Denied(Denial::Exhausted(lowest(both)));
     }
@@ -181,7 +210,8 @@ fn admitting_set(
     admitting_of(km0, rec, acl, bodies, set)
 }
 
-// The judgement of a request record: a time that does not go back, then the groups.
+// The judgement of a request record: a time that does not go back, then the groups. `unspent` are the certified groups that were not spent when the run
+// began: counts only grow and no time goes back, so that the others need no look.
 pub fn judge_record(
     counts: &[u32; sizes::GROUPS],
     counters: &[u32; sizes::COUNTERS],
@@ -192,9 +222,10 @@ pub fn judge_record(
     bodies: &[usize; sizes::GROUPS],
     uses: &[u64; sizes::PERMISSIONS],
     sets: Sets,
+    unspent: u64,
     rec: &[u8],
 ) -> Judged
-    requires { ⌜ Ready (now acl) (now bodies) (now uses) (sets .working) (sets .recovery) × (length (now rec) ≡ recordBytes) × (requestLaidOut (now rec) ≡ true) ⌝ }
+    requires { ⌜ Ready (now acl) (now bodies) (now uses) (sets .working) (sets .recovery) × (length (now rec) ≡ recordBytes) × (requestLaidOut (now rec) ≡ true) × OpenFrom (now counts) (now counters) (last - loaded) (now acl) (now bodies) (sets .certified) unspent ⌝ }
     ensures { λ r. ⌜ r ≡ judgedAs (setJudge (tablesOf (now (counts .entry)) (now (counters .entry)) loaded last) (now (km0 .entry)) (aclOf (now (acl .entry))) (sets .certified) (now (rec .entry))) ⌝ }
 {
     let time = fields::be64(rec, 56);
@@ -213,5 +244,6 @@ pub fn judge_record(
         bodies,
         admitting,
         sets.certified,
+        unspent,
     )
 }

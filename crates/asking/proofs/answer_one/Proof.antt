@@ -14,7 +14,7 @@ returns : tie.Need-returns
 returns c = search (needs, answered-malformed)
 
 judge-record-requires : tie.Need-judge-record-requires
-judge-record-requires c κs = (search needs, search needs, search (needs, is-laid-out))
+judge-record-requires c κs = (search needs, search needs, search (needs, is-laid-out), search needs)
 
 group-of-requires : tie.Need-group-of-requires
 group-of-requires c κs = search needs

@@ -1,4 +1,5 @@
 use Rattle.choosing.proofs.Deciding.{ready-inside, ready-few, admitting-below, judged-early, judged-late, judged-sets}
+use Rattle.choosing.proofs.Opening.{open-now}
 use borrow.Author.Needs.{needs}
 use Rattle.choosing.proofs.judge_record.Statement.{statement}
 use Rattle.choosing.proofs.judge_record.Tie as tie
@@ -16,7 +17,7 @@ admitting-set-requires : tie.Need-admitting-set-requires
 admitting-set-requires c κs = search needs
 
 judge-sets-requires : tie.Need-judge-sets-requires
-judge-sets-requires c κs = (search (needs, admitting-below), search (needs, ready-few), search (needs, ready-inside))
+judge-sets-requires c κs = (search (needs, admitting-below), search (needs, ready-few), search (needs, ready-inside), search (needs, open-now))
 
 returns-3 : tie.Need-returns-3
 returns-3 c = search (needs, judged-sets)

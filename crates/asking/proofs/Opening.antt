@@ -1,0 +1,92 @@
+-- What one request does to the tables: no count gets smaller and the last time does not go back, so that a group that is spent stays so.
+use Prim.Native.Nat.{ℕ, zero, suc, _+_, _-_, _^_, _≤_, _<_}
+use native.Mathlib.Omega.{arith}
+use mathlib.Core.Path.{_≡_, refl, sym, ap, subst}
+use mathlib.Core.List.{List, [], _∷_}
+use mathlib.Core.Option.{Option, none, some}
+use mathlib.Core.Bool.{Bool, true, false, _||_}
+use borrow.Author.Tests.{ltb-false}
+use lib.ListN.{getD, set}
+use lib.Dec.{eqb, ltb}
+use Rattle.rules.specs.Sizes.{groupsMax}
+use Rattle.rules.specs.Basics.{if_then_else_, Bytes, number}
+use Rattle.rules.specs.Acl.{Limit, Group}
+use Rattle.rules.specs.Request.{requestRecordFault, wantedOf}
+use Rattle.rules.specs.Ledger.{Ledger, raised, raisedBy, charge}
+use Rattle.rules.specs.Gate.{Judgement, granted, denied, early, tooEarly, permitted, settle, unlessFault}
+use Rattle.rules.specs.Runs.{requestWith}
+use Rattle.rules.proofs.Laws.{never}
+use Rattle.rules.proofs.GroupSets.{judgedBySets, unspentAt}
+use Rattle.judging.specs.Standings.{tablesOf}
+use Rattle.choosing.specs.Deciding.{admittingSet, setJudge, askSets}
+use Rattle.choosing.specs.Opening.{NoLess, OpenFrom}
+use Rattle.choosing.proofs.Opening.{no-less-same, open-on}
+use Rattle.asking.specs.Answers.{Answers}
+
+-- a place of a table, after a store of no less
+stored : (ys : List ℕ) (c v i b : ℕ) → (i ≡ c → b ≤ v) → b ≤ getD ys i 0 → b ≤ getD (set ys c v) i 0
+stored [] c v i b f h = h
+stored (y ∷ ys) zero v zero b f h = f refl
+stored (y ∷ ys) zero v (suc i) b f h = h
+stored (y ∷ ys) (suc c) v zero b f h = h
+stored (y ∷ ys) (suc c) v (suc i) b f h = stored ys c v i b (λ e. f (ap suc e)) h
+
+raise-grows : (before now : List ℕ) (c : ℕ) → NoLess before now → NoLess before (raised before c now)
+unfolding NoLess
+raise-grows before now c h i = stored now c (getD before c 0 + 1) i (getD before i 0) (λ e. rw e (omega arith)) (h i)
+
+raised-grows : (before : List ℕ) (ms : List Limit) (now : List ℕ) → NoLess before now → NoLess before (raisedBy before ms now)
+unfolding raisedBy
+raised-grows before [] now h = h
+raised-grows before (m ∷ ms) now h = raised-grows before ms (if eqb (m .sort) 2 then raised before (m .counter) now else now) (pick (eqb (m .sort) 2))
+  where
+    pick : (b : Bool) → NoLess before (if b then raised before (m .counter) now else now)
+    pick true = raise-grows before now (m .counter) h
+    pick false = h
+
+record Grown (l m : Ledger) : Type 0 where
+  counts : NoLess (l .counts) (m .counts)
+  counters : NoLess (l .counters) (m .counters)
+  later : l .last ≤ m .last
+
+same-grown : (l : Ledger) → Grown l l
+same-grown l = record { counts = no-less-same (l .counts); counters = no-less-same (l .counters); later = omega arith }
+
+ask-grows : (km0 : Bytes) (gs : List Group) (c : ℕ) (l : Ledger) (r : Bytes) → Grown l (askSets km0 gs c l r .ledger)
+unfolding askSets setJudge charge
+ask-grows km0 gs c l r = fault (requestRecordFault r)
+  where
+    settled : l .last ≤ number 56 8 r → (j : Judgement) → Grown l (settle l (number 56 8 r) permitted j .ledger)
+    settled h (granted k g) =
+        record {
+          counts = raise-grows (l .counts) (l .counts) k (no-less-same (l .counts));
+          counters = raised-grows (l .counters) (g .limits) (l .counters) (no-less-same (l .counters));
+          later = h;
+        }
+    settled h (denied d) = same-grown l
+
+    in-time : (a : Bool) → (a || ltb (number 56 8 r) (l .last)) ≡ false → l .last ≤ number 56 8 r
+    in-time true e = absurd (never (cc))
+    in-time false e = ltb-false (number 56 8 r) (l .last) e
+
+    judged : (b : Bool) → tooEarly l (requestWith r []) ≡ b
+        → Grown l (settle l (number 56 8 r) permitted (if b then denied early else judgedBySets gs (admittingSet km0 (wantedOf r none) gs) c (unspentAt l (requestWith r []) gs)) .ledger)
+    judged true e = same-grown l
+    judged false e = settled (in-time (ltb (number 56 8 r) (l .loaded)) e) (judgedBySets gs (admittingSet km0 (wantedOf r none) gs) c (unspentAt l (requestWith r []) gs))
+
+    fault : (f : Option ℕ) → Grown l (unlessFault l f (settle l (number 56 8 r) permitted (setJudge l km0 gs c r)) .ledger)
+    fault none = judged (tooEarly l (requestWith r [])) refl
+    fault (some n) = same-grown l
+
+pub open-next : (km0 : Bytes) (gs : List Group) (c o : ℕ) (r acl : Bytes) (bodies counts counters counts′ counters′ : List ℕ) (loaded before n place last : ℕ)
+    → Answers (askSets km0 gs c (tablesOf counts counters loaded before) r) counts′ counters′ loaded n place last
+    → OpenFrom counts counters (before - loaded) acl bodies c o → OpenFrom counts′ counters′ (last - loaded) acl bodies c o
+open-next km0 gs c o r acl bodies counts counters counts′ counters′ loaded before n place last a h =
+    let l = tablesOf counts counters loaded before in
+    let g : Grown l (tablesOf counts′ counters′ loaded last) = subst (Grown l) (sym (a .ledger)) (ask-grows km0 gs c l r) in
+    let t = g .later in
+    open-on counts counts′ counters counters′ (before - loaded) (last - loaded) acl bodies c o (g .counts) (g .counters) (omega arith) h
+
+-- a number of 64 bits is a set of groups
+pub word-within : (n : ℕ) → n < 18446744073709551616 → n < 2 ^ groupsMax
+word-within n h = omega arith

@@ -1,0 +1,166 @@
+-- A group that is spent stays so, and a walk may leave it out.
+use Prim.Native.Nat.{ℕ, zero, suc, _+_, _-_, _*_, _/_, _%_, _^_, _≤_, _<_, min}
+use native.Mathlib.Omega.{arith}
+use mathlib.Core.Path.{_≡_, refl, sym, _∙_, ap}
+use mathlib.Core.Logic.{_⊎_, inl, inr}
+use mathlib.Core.List.{List, [], _∷_}
+use mathlib.Core.Bool.{Bool, true, false, _&&_}
+use borrow.Author.Tests.{ltb-true, lt-ltb}
+use lib.ListN.{getD, drop}
+use lib.Bits.{bitAnd, and-step}
+use lib.Dec.{eqb, ltb}
+use Rattle.rules.specs.Sizes.{fullCount, groupsMax}
+use Rattle.rules.specs.Basics.{if_then_else_, Bytes, all, records}
+use Rattle.rules.specs.Acl.{Limit, limitsOf}
+use Rattle.rules.specs.Grant.{counterLeft, limitLeft, limitsLeft}
+use Rattle.rules.proofs.Laws.{never, and-left, and-right, and-both}
+use Rattle.rules.proofs.GroupSets.{firstIn}
+use Rattle.choosing.specs.Members.{leftAt, membersIn}
+use Rattle.choosing.specs.Opening.{NoLess, Opened, OpenFrom}
+
+pub no-less-same : (xs : List ℕ) → NoLess xs xs
+unfolding NoLess
+no-less-same xs i = omega arith
+
+pub no-less-over : (xs ys zs : List ℕ) → NoLess xs ys → NoLess ys zs → NoLess xs zs
+unfolding NoLess
+no-less-over xs ys zs p q i = let a = p i in let b = q i in omega arith
+
+below-too : (m n k : ℕ) → m ≤ n → ltb n k ≡ true → ltb m k ≡ true
+below-too m n k h e = let l = ltb-true n k e in lt-ltb m k (omega arith)
+
+-- What is left with more used and later was left before.
+module _ (counters counters′ : List ℕ) (own own′ elapsed elapsed′ : ℕ) (c : NoLess counters counters′) (o : own ≤ own′) (t : elapsed ≤ elapsed′) where
+  limit-before : (m : Limit) → limitLeft counters′ own′ elapsed′ m ≡ true → limitLeft counters own elapsed m ≡ true
+  unfolding limitLeft NoLess
+  limit-before m e = pick (eqb (m .sort) 1) (eqb (m .sort) 2) e
+    where
+      n : ℕ
+      n = getD counters (m .counter) 0
+
+      n′ : ℕ
+      n′ = getD counters′ (m .counter) 0
+
+      pick : (a b : Bool) → (if a then ltb own′ (m .maximum) else if b then counterLeft n′ (m .maximum) else ltb elapsed′ (m .maximum)) ≡ true
+          → (if a then ltb own (m .maximum) else if b then counterLeft n (m .maximum) else ltb elapsed (m .maximum)) ≡ true
+      pick true b d = below-too own own′ (m .maximum) o d
+      pick false true d =
+          and-both (ltb n (m .maximum)) (ltb n fullCount)
+          (below-too n n′ (m .maximum) (c (m .counter)) (and-left (ltb n′ (m .maximum)) (ltb n′ fullCount) d))
+          (below-too n n′ fullCount (c (m .counter)) (and-right (ltb n′ (m .maximum)) (ltb n′ fullCount) d))
+      pick false false d = below-too elapsed elapsed′ (m .maximum) t d
+
+  limits-before : (ms : List Limit) → limitsLeft counters′ own′ elapsed′ ms ≡ true → limitsLeft counters own elapsed ms ≡ true
+  unfolding all
+  limits-before [] e = refl
+  limits-before (m ∷ ms) e =
+      let a = limitLeft counters′ own′ elapsed′ m in
+      let b = limitsLeft counters′ own′ elapsed′ ms in
+      and-both (limitLeft counters own elapsed m) (limitsLeft counters own elapsed ms) (limit-before m (and-left a b e)) (limits-before ms (and-right a b e))
+
+module _ (counts counts′ counters counters′ : List ℕ) (elapsed elapsed′ : ℕ) (acl : Bytes) (bodies : List ℕ) (h : NoLess counts counts′) (c : NoLess counters counters′) (t : elapsed ≤ elapsed′) where
+  left-before : (k : ℕ) → leftAt counts′ counters′ elapsed′ acl bodies k ≡ true → leftAt counts counters elapsed acl bodies k ≡ true
+  unfolding leftAt NoLess
+  left-before k e =
+      let own = getD counts k 0 in
+      let own′ = getD counts′ k 0 in
+      let ms = limitsOf (records (drop (getD bodies k 0) acl)) in
+      let a = ltb own′ fullCount in
+      let b = limitsLeft counters′ own′ elapsed′ ms in
+      and-both (ltb own fullCount) (limitsLeft counters own elapsed ms)
+      (below-too own own′ fullCount (h k) (and-left a b e))
+      (limits-before counters counters′ own own′ elapsed elapsed′ c (h k) t ms (and-right a b e))
+
+  stays-spent : (k : ℕ) → leftAt counts counters elapsed acl bodies k ≡ false → leftAt counts′ counters′ elapsed′ acl bodies k ≡ false
+  stays-spent k e = pick (leftAt counts′ counters′ elapsed′ acl bodies k) refl
+    where
+      pick : (b : Bool) → leftAt counts′ counters′ elapsed′ acl bodies k ≡ b → b ≡ false
+      pick true q = let x : true ≡ false = sym (left-before k q) ∙ e in absurd (never (cc))
+      pick false q = refl
+
+-- Members that fail an earlier test, where failing it means failing this one, may be left out.
+two : (n : ℕ) → (n % 2 ≡ 0) ⊎ (n % 2 ≡ 1)
+two n = pick (n % 2) refl
+  where
+    pick : (r : ℕ) → n % 2 ≡ r → (n % 2 ≡ 0) ⊎ (n % 2 ≡ 1)
+    pick zero e = inl e
+    pick (suc r) e = inr (omega arith)
+
+and-none : (b : Bool) → (b && false) ≡ false
+and-none true = refl
+and-none false = refl
+
+and-digit : (a d m : ℕ) → d ≤ 1 → bitAnd a (d + 2 * m) ≡ min (a % 2) d + 2 * bitAnd (a / 2) m
+and-digit a d m h =
+    let x : (d + 2 * m) / 2 ≡ m = omega arith in
+    let y : (d + 2 * m) % 2 ≡ d = omega arith in
+    and-step a (d + 2 * m) ∙ rw (x, y) (omega arith)
+
+first-digit : (t : ℕ → Bool) (w d m : ℕ) → d ≤ 1 → firstIn t (suc w) (d + 2 * m) ≡ (if eqb d 1 && t 0 then 0 else suc (firstIn (λ k. t (suc k)) w m))
+unfolding firstIn
+first-digit t w d m h =
+    let x : (d + 2 * m) / 2 ≡ m = omega arith in
+    let y : (d + 2 * m) % 2 ≡ d = omega arith in
+    rw (x, y)
+
+min-small : (a d : ℕ) → d ≤ 1 → min a d ≤ 1
+min-small a d h = omega arith
+
+first-open : (t u : ℕ → Bool) (w a c : ℕ) → ((k : ℕ) → u k ≡ false → t k ≡ false) → firstIn t w (bitAnd a (membersIn u w c)) ≡ firstIn t w (bitAnd a c)
+unfolding firstIn membersIn
+first-open t u zero a c f = refl
+first-open t u (suc w) a c f =
+    let i = first-open (λ k. t (suc k)) (λ k. u (suc k)) w (a / 2) (c / 2) (λ k e. f (suc k) e) in
+    ap (firstIn t (suc w)) (and-digit a d rest d-small) ∙ first-digit t w (min (a % 2) d) (bitAnd (a / 2) rest) (min-small (a % 2) d d-small)
+    ∙ middle i
+    ∙ sym (ap (firstIn t (suc w)) (ap (bitAnd a) whole ∙ and-digit a (c % 2) (c / 2) (omega arith)) ∙ first-digit t w (min (a % 2) (c % 2)) (bitAnd (a / 2) (c / 2)) (min-small (a % 2) (c % 2) (omega arith)))
+  where
+    d : ℕ
+    d = if eqb (c % 2) 1 && u 0 then 1 else 0
+
+    rest : ℕ
+    rest = membersIn (λ k. u (suc k)) w (c / 2)
+
+    d-small : d ≤ 1
+    d-small = pick (eqb (c % 2) 1 && u 0)
+      where
+        pick : (b : Bool) → (if b then 1 else 0) ≤ 1
+        pick true = omega arith
+        pick false = omega arith
+
+    whole : c ≡ c % 2 + 2 * (c / 2)
+    whole = omega arith
+
+    heads : (c % 2 ≡ 0) ⊎ (c % 2 ≡ 1) → (b : Bool) → u 0 ≡ b → (eqb (min (a % 2) d) 1 && t 0) ≡ (eqb (min (a % 2) (c % 2)) 1 && t 0)
+    heads (inl e) b q = rw e
+    heads (inr e) true q = rw (e, q)
+    heads (inr e) false q = rw (f 0 q) (and-none (eqb (min (a % 2) d) 1) ∙ sym (and-none (eqb (min (a % 2) (c % 2)) 1)))
+
+    middle : firstIn (λ k. t (suc k)) w (bitAnd (a / 2) rest) ≡ firstIn (λ k. t (suc k)) w (bitAnd (a / 2) (c / 2))
+        → (if eqb (min (a % 2) d) 1 && t 0 then 0 else suc (firstIn (λ k. t (suc k)) w (bitAnd (a / 2) rest)))
+        ≡ (if eqb (min (a % 2) (c % 2)) 1 && t 0 then 0 else suc (firstIn (λ k. t (suc k)) w (bitAnd (a / 2) (c / 2))))
+    middle i = rw (heads (two c) (u 0) refl, i)
+
+-- The groups of the run's certified ones that are unspent before it.
+pub open-start : (counts counters : List ℕ) (since loaded last : ℕ) (acl : Bytes) (bodies : List ℕ) (c o c′ o′ : ℕ) → since ≡ last - loaded
+    → o ≡ membersIn (leftAt counts counters since acl bodies) 64 c → c′ ≡ c → o′ ≡ o → OpenFrom counts counters (last - loaded) acl bodies c′ o′
+unfolding OpenFrom Opened
+open-start counts counters since loaded last acl bodies c o c′ o′ s e p q counts′ counters′ elapsed h k t set =
+    rw (q ∙ e, p) (first-open (leftAt counts′ counters′ elapsed acl bodies) (leftAt counts counters since acl bodies) 64 set c (stays-spent counts counts′ counters counters′ since elapsed acl bodies h k (omega arith)))
+
+-- .. at a request that does not come too early
+pub open-now : (counts counters : List ℕ) (loaded last time : ℕ) (acl : Bytes) (bodies : List ℕ) (c o : ℕ) → OpenFrom counts counters (last - loaded) acl bodies c o → last ≤ time
+    → Opened (leftAt counts counters (time - loaded) acl bodies) c o
+unfolding OpenFrom
+open-now counts counters loaded last time acl bodies c o h l = h counts counters (time - loaded) (no-less-same counts) (no-less-same counters) (omega arith)
+
+-- .. and when more was used
+pub open-on : (counts counts′ counters counters′ : List ℕ) (since since′ : ℕ) (acl : Bytes) (bodies : List ℕ) (c o : ℕ) → NoLess counts counts′ → NoLess counters counters′ → since ≤ since′
+    → OpenFrom counts counters since acl bodies c o → OpenFrom counts′ counters′ since′ acl bodies c o
+unfolding OpenFrom
+open-on counts counts′ counters counters′ since since′ acl bodies c o h k l f x y e p q m =
+    f x y e (no-less-over counts counts′ x h p) (no-less-over counters counters′ y k q) (omega arith)
+
+pub open-first : (left : ℕ → Bool) (set c o k : ℕ) → Opened left c o → k ≡ firstIn left 64 (bitAnd set o) → k ≡ firstIn left 64 (bitAnd set c)
+unfolding Opened
+open-first left set c o k h e = e ∙ h set

@@ -1,0 +1,25 @@
+-- The groups that a run need not walk: once a group is spent it stays so for the rest of the run, since counts only grow and no time goes back.
+use Prim.Native.Nat.{ℕ, _≤_}
+use mathlib.Core.List.{List}
+use mathlib.Core.Path.{_≡_}
+use mathlib.Core.Bool.{Bool}
+use lib.ListN.{getD}
+use lib.Bits.{bitAnd}
+use Rattle.rules.specs.Sizes.{setBits}
+use Rattle.rules.specs.Basics.{Bytes}
+use Rattle.rules.proofs.GroupSets.{firstIn}
+use Rattle.choosing.specs.Members.{leftAt}
+
+-- a table with no less at any place
+unfoldable pub NoLess : List ℕ → List ℕ → Type 0
+NoLess before now = (i : ℕ) → getD before i 0 ≤ getD now i 0
+
+-- whatever set of groups is walked, those of it that are unspent at first give the group that those certified give
+unfoldable pub Opened : (ℕ → Bool) → ℕ → ℕ → Type 0
+Opened left certified unspent = (set : ℕ) → firstIn left setBits (bitAnd set unspent) ≡ firstIn left setBits (bitAnd set certified)
+
+-- .. however much is used from here on, and whatever the time since load, from `since` on
+unfoldable pub OpenFrom : List ℕ → List ℕ → ℕ → Bytes → List ℕ → ℕ → ℕ → Type 0
+OpenFrom counts counters since acl bodies certified unspent =
+    (counts′ counters′ : List ℕ) (elapsed : ℕ) → NoLess counts counts′ → NoLess counters counters′ → since ≤ elapsed
+    → Opened (leftAt counts′ counters′ elapsed acl bodies) certified unspent
