@@ -53,7 +53,7 @@ pub walk-done : (test : ℕ → Bool) (set left : ℕ) → firstIn test 64 left 
 walk-done test set left inv z = let e : left ≡ 0 = omega arith in sym (first-done test 64) ∙ ap (firstIn test 64) (sym e) ∙ inv
 
 -- The members that pass: the lowest, and the others.
-two : (n : ℕ) → (n % 2 ≡ 0) ⊎ (n % 2 ≡ 1)
+pub two : (n : ℕ) → (n % 2 ≡ 0) ⊎ (n % 2 ≡ 1)
 two n = pick (n % 2) refl
   where
     pick : (r : ℕ) → n % 2 ≡ r → (n % 2 ≡ 0) ⊎ (n % 2 ≡ 1)

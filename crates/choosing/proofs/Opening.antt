@@ -1,5 +1,5 @@
 -- A group that is spent stays so, and a walk may leave it out.
-use Prim.Native.Nat.{ℕ, zero, suc, _+_, _-_, _*_, _/_, _%_, _^_, _≤_, _<_, min}
+use Prim.Native.Nat.{ℕ, zero, suc, _+_, _-_, _*_, _/_, _%_, _≤_, min}
 use native.Mathlib.Omega.{arith}
 use mathlib.Core.Path.{_≡_, refl, sym, _∙_, ap}
 use mathlib.Core.Logic.{_⊎_, inl, inr}
@@ -9,7 +9,7 @@ use borrow.Author.Tests.{ltb-true, lt-ltb}
 use lib.ListN.{getD, drop}
 use lib.Bits.{bitAnd, and-step}
 use lib.Dec.{eqb, ltb}
-use Rattle.rules.specs.Sizes.{fullCount, groupsMax}
+use Rattle.rules.specs.Sizes.{fullCount}
 use Rattle.rules.specs.Basics.{if_then_else_, Bytes, all, records}
 use Rattle.rules.specs.Acl.{Limit, limitsOf}
 use Rattle.rules.specs.Grant.{counterLeft, limitLeft, limitsLeft}
@@ -17,6 +17,7 @@ use Rattle.rules.proofs.Laws.{never, and-left, and-right, and-both}
 use Rattle.rules.proofs.GroupSets.{firstIn}
 use Rattle.choosing.specs.Members.{leftAt, membersIn}
 use Rattle.choosing.specs.Opening.{NoLess, Opened, OpenFrom}
+use Rattle.choosing.proofs.Laws.{two}
 
 pub no-less-same : (xs : List ℕ) → NoLess xs xs
 unfolding NoLess
@@ -79,13 +80,6 @@ module _ (counts counts′ counters counters′ : List ℕ) (elapsed elapsed′ 
       pick false q = refl
 
 -- Members that fail an earlier test, where failing it means failing this one, may be left out.
-two : (n : ℕ) → (n % 2 ≡ 0) ⊎ (n % 2 ≡ 1)
-two n = pick (n % 2) refl
-  where
-    pick : (r : ℕ) → n % 2 ≡ r → (n % 2 ≡ 0) ⊎ (n % 2 ≡ 1)
-    pick zero e = inl e
-    pick (suc r) e = inr (omega arith)
-
 and-none : (b : Bool) → (b && false) ≡ false
 and-none true = refl
 and-none false = refl
