@@ -6,14 +6,15 @@ use mathlib.Core.Path.{_≡_, refl, sym, _∙_, ap}
 use mathlib.Core.List.{List, [], _∷_}
 use mathlib.Core.Option.{Option, none, some}
 use mathlib.Core.Bool.{Bool, true, false, not, _&&_}
-use borrow.Author.Tests.{ltb-true, lt-ltb, le-ltb, not-true, not-false}
+use borrow.Author.Tests.{ltb-true, lt-ltb, le-ltb, eq-eqb, not-true, not-false}
 use lib.ListN.{length, getD, getElem?, drop}
 use lib.Bits.{bitAnd}
 use lib.Count.{trailingZeros}
 use lib.Dec.{eqb, ltb}
 use Rattle.rules.specs.Sizes.{fullCount, groupsMax, setBits}
 use Rattle.rules.specs.Numbers.{malformed, noGroup}
-use Rattle.rules.specs.Basics.{if_then_else_, Bytes, Every, number, records}
+use Rattle.rules.specs.Basics.{if_then_else_, Bytes, Every, kind, flag, number, records}
+use Rattle.rules.specs.Layout.{useLaidOut}
 use Rattle.rules.specs.Acl.{Limit, limitsOf, Group, announcesFile, aclOf}
 use Rattle.rules.specs.Request.{wantedOf, requestLaidOut, standsAlone, requestRecordFault}
 use Rattle.rules.specs.Ledger.{Ledger, raised, raisedBy, charge}
@@ -226,6 +227,11 @@ module _ (counts counters : List ℕ) (loaded last : ℕ) (km0 acl : Bytes) (bod
   answered-malformed laid n place after t h x y z =
       let bad : standsAlone r ≡ false = sym t ∙ not-true laid h in
       rw (bad, x, y, z) (record { ledger = refl; answer = refl })
+
+-- a use by itself
+pub use-alone : (r : Bytes) (laid announced : Bool) → getD r 0 0 ≡ 6 → laid ≡ useLaidOut r → announced ≡ flag 6 r → (laid && not announced) ≡ standsAlone r
+unfolding standsAlone requestLaidOut
+use-alone r laid announced e p q = rw (p, q, eq-eqb (kind r) 6 e)
 
 pub is-laid-out : (r : Bytes) (laid : Bool) → laid ≡ standsAlone r → not laid ≡ false → requestLaidOut r ≡ true
 unfolding standsAlone

@@ -7,6 +7,7 @@ ghost use Rattle.rules.specs.Sizes.{recordBytes, answerBytes, groupsMax, counte
 ghost use Rattle.rules.specs.Numbers.{malformed};
 ghost use Rattle.rules.specs.Basics.{records};
 ghost use Rattle.rules.specs.Acl.{limitsOf, aclOf};
+ghost use Rattle.rules.specs.Request.{standsAlone};
 ghost use Rattle.rules.specs.Ledger.{raised, raisedBy};
 ghost use Rattle.rules.specs.Written.{bigEndian};
 ghost use Rattle.rules.specs.Runs.{answerWith};
@@ -132,6 +133,17 @@ fn permit(k: usize, time: u64) -> Answered
     }
 }
 
+// Whether a record is a well-formed request that announces no record of kind 15. Most are uses, and are tested here: the test of all kinds is a call.
+fn stands_alone(rec: &[u8]) -> bool
+    requires { ⌜ length (now rec) ≡ recordBytes ⌝ }
+    ensures { λ r. ⌜ r ≡ standsAlone (now (rec .entry)) ⌝ }
+{
+    if rec[0] == 6 {
+        return layout::use_request(rec) & !fields::flag_of(6, rec);
+    }
+    request::stands_alone(rec)
+}
+
 // One request of a run: the tables are charged in place.
 fn answer_one(
     counts: &mut [u32; sizes::GROUPS],
@@ -149,7 +161,7 @@ fn answer_one(
     requires { ⌜ Ready (now acl) (now bodies) (now uses) (sets .working) (sets .recovery) × (length (now counts) ≡ groupsMax) × (length (now counters) ≡ countersMax) × (length (now rec) ≡ recordBytes) × OpenFrom (now counts) (now counters) (last - loaded) (now acl) (now bodies) (sets .certified) unspent ⌝ }
     ensures { λ r. ⌜ Answers (askSets (now (km0 .entry)) (aclOf (now (acl .entry))) (sets .certified) (tablesOf (now (counts .entry)) (now (counters .entry)) loaded last) (now (rec .entry))) (now (counts .exit)) (now (counters .exit)) loaded (r .number) (r .group) (r .last) ⌝ }
 {
-    if !request::stands_alone(rec) {
+    if !stands_alone(rec) {
         return bad_record(last);
     }
     let judged = choosing::judge_record(
