@@ -21,6 +21,7 @@ fn main() {
     laid_out!("akubolinfe_trimmed", RawTrimmed: answer number hints);
     laid_out!("akubolinfe_certificate", Certificate: hash mechanism);
     laid_out!("akubolinfe_run_outcome", RawRun: ledger answer number);
+    laid_out!("akubolinfe_cabinet_run_outcome", RawCabinetRun: cabinet answer number);
     laid_out!("akubolinfe_form", Form: uses working recovery);
     laid_out!("akubolinfe_preparation", RawPreparation: form answer number);
 }
