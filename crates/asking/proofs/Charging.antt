@@ -7,7 +7,7 @@ use Rattle.rules.specs.Basics.{Bytes, records}
 use Rattle.rules.specs.Acl.{limitsOf}
 use Rattle.rules.specs.Ledger.{raisedBy}
 use Rattle.rules.proofs.Rows.{lentRest, lent-rest}
-use Rattle.gate.specs.Outcomes.{Chargeable}
+use Rattle.charging.specs.Charges.{Chargeable}
 
 pub able-lent : (table : List ℕ) (acl : Bytes) (at b : ℕ) → at ≡ b → Chargeable table (limitsOf (records (drop b acl))) → Chargeable table (limitsOf (records (lentRest acl at)))
 able-lent table acl at b e c = rw (lent-rest acl at, e) c

@@ -26,8 +26,8 @@ use Rattle.rules.proofs.GroupSets.{holdsAt, firstIn, placed, placedAt, judgedBy
 use Rattle.theorems.specs.Sizes.{GroupFits}
 use Rattle.theorems.proofs.AclSizes.{acl-fits}
 use Rattle.refusals.specs.Refusals.{denialNumber, denialGroup}
-use Rattle.gate.specs.Outcomes.{Chargeable}
-use Rattle.gate.proofs.Settling.{limits-room}
+use Rattle.charging.specs.Charges.{Chargeable}
+use Rattle.charging.proofs.Granting.{limits-room}
 use Rattle.judging.specs.declared.Judged.{Judged}
 use Rattle.judging.specs.declared.Judged.the-variants.{Granted, Denied}
 use Rattle.refusals.specs.declared.Denial.the-variants.{Early}

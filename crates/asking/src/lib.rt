@@ -17,7 +17,7 @@ ghost use Rattle.judging.specs.Standings.{tablesOf};
 ghost use Rattle.choosing.specs.Deciding.{Ready, askSets};
 ghost use Rattle.choosing.specs.Opening.{OpenFrom};
 ghost use Rattle.refusals.specs.Refusals.{denialGroup};
-ghost use Rattle.gate.specs.Outcomes.{Chargeable};
+ghost use Rattle.charging.specs.Charges.{Chargeable};
 ghost use Rattle.asking.specs.Answers.{placeAs, numberAs, placeOr, nearAs, shownAs, Answers};
 ghost use Rattle.asking.specs.Written.{Wrote};
 use choosing::Sets;
@@ -37,7 +37,7 @@ fn charge_at(
     ensures { λ _. ⌜ (now (counts .exit) ≡ raised (now (counts .entry)) k (now (counts .entry))) × (now (counters .exit) ≡ raisedBy (now (counters .entry)) (limitsOf (records (drop (getD (now (bodies .entry)) k 0) (now (acl .entry))))) (now (counters .entry))) ⌝ }
 {
     let at = bodies[k];
-    gate::charge(counts, counters, k, &acl[at..]);
+    charging::charge(counts, counters, k, &acl[at..]);
 }
 
 // No group is named: all ones.

@@ -8,13 +8,15 @@ ghost use Rattle.rules.specs.Sizes.{groupsMax, slotsMax};
 ghost use Rattle.rules.specs.Gate.{request, narrow, expand};
 ghost use Rattle.rules.specs.Cabinet.{freshCabinet, ledgerAt, putBack, asGate, cabinetRefused, cabinetLoad, cabinetClear, cabinetRequest, cabinetNarrow, cabinetExpand};
 ghost use Rattle.judging.specs.Standings.{tablesOf};
-ghost use Rattle.gate.specs.Outcomes.{ledgerOf, answerOf, CountersRoom, countersCharged, countsCharged, countsAfter, noCounts, narrowedCounts, Settles};
+ghost use Rattle.charging.specs.Charges.{answerOf, CountersRoom, countersCharged, countsCharged};
+ghost use Rattle.carrying.specs.Carried.{countsAfter, noCounts};
+ghost use Rattle.gate.specs.Outcomes.{ledgerOf, narrowedCounts, Settles};
 ghost use Rattle.rules.specs.Acl.{aclOf};
 ghost use Rattle.rules.specs.Request.{requestOf, hintsOf};
 ghost use Rattle.refusals.specs.Refusals.{refusalNumber};
 ghost use Rattle.cabinet.specs.Kept.{placeOf, ifThere, cabinetOf, cabinetOutcomeOf};
+use charging::Reply;
 use gate::Ledger;
-use gate::Reply;
 use refusals::Refusal;
 
 // What a slot has of a ledger: group counts, the load time and the last time.
@@ -199,7 +201,7 @@ impl Cabinet {
         requires { ⌜ (at < slotsMax) × CountersRoom (self .counters) (aclOf (now acl)) (answerOf reply) ⌝ }
         ensures { λ r. ⌜ cabinetOutcomeOf r ≡ asGate (cabinetOf self) at (record { answer = answerOf reply; ledger = tablesOf counts (countersCharged (aclOf (now (acl .entry))) (answerOf reply) (self .counters)) loaded after }) ⌝ }
     {
-        gate::charge_counters(&mut self.counters, reply, acl);
+        charging::charge_counters(&mut self.counters, reply, acl);
         let s = Slot {
             counts,
             loaded,
@@ -256,8 +258,8 @@ impl Cabinet {
         let loaded = s.loaded;
         let last = s.last;
         let reply = request_in(there, &counts, &self.counters, loaded, last, km0, acl, req);
-        gate::charge_count(&mut counts, reply);
-        let after = gate::last_after(reply, last, request::time(req));
+        charging::charge_count(&mut counts, reply);
+        let after = charging::last_after(reply, last, request::time(req));
         self.hand_back(at, counts, loaded, after, reply, acl)
     }
 
@@ -291,9 +293,9 @@ impl Cabinet {
             new,
             hints,
         );
-        gate::charge_count(&mut counts, reply);
-        gate::carry_counts(&mut counts, reply, hints);
-        let after = gate::last_after(reply, last, request::time(req));
+        charging::charge_count(&mut counts, reply);
+        carrying::carry_counts(&mut counts, reply, hints);
+        let after = charging::last_after(reply, last, request::time(req));
         self.hand_back(at, counts, loaded, after, reply, acl)
     }
 
@@ -325,8 +327,8 @@ impl Cabinet {
             req,
             new,
         );
-        gate::zero_counts(&mut counts, reply);
-        let after = gate::last_after(reply, last, request::time(req));
+        carrying::zero_counts(&mut counts, reply);
+        let after = charging::last_after(reply, last, request::time(req));
         self.hand_back(at, counts, loaded, after, reply, acl)
     }
 }

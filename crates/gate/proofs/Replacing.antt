@@ -1,21 +1,18 @@
--- Narrowing and expansion: the first fault of their files, and what a permit comes to.
+-- Narrowing and expansion: what a permit comes to.
 use Prim.Native.Nat.{ℕ, _≤_}
-use mathlib.Core.Path.{_≡_, refl, sym, _∙_, ap}
-use mathlib.Core.List.{List, _∷_}
-use mathlib.Core.Option.{Option, none}
-use mathlib.Core.Bool.{Bool, true, false, _&&_, not}
-use borrow.Author.Tests.{not-true, not-false}
+use mathlib.Core.Path.{_≡_, refl, _∙_, ap}
+use mathlib.Core.List.{List}
+use mathlib.Core.Option.{none}
+use mathlib.Core.Bool.{Bool, true, false}
 use lib.ListN.{length}
-use Rattle.rules.specs.Sizes.{groupsMax, aclRecords, hintRecords}
-use Rattle.rules.specs.Numbers.{badLength, notNarrower}
-use Rattle.rules.specs.Basics.{if_then_else_, Bytes, orNext, firstFault, fits, records}
-use Rattle.rules.specs.Acl.{Group, aclOf, aclFault}
-use Rattle.rules.specs.Request.{Request, requestOf, Hint, hintsOf, useOf, reduceAcl, expandAcl}
+use Rattle.rules.specs.Sizes.{groupsMax}
+use Rattle.rules.specs.Numbers.{notNarrower}
+use Rattle.rules.specs.Basics.{if_then_else_, Bytes}
+use Rattle.rules.specs.Acl.{Group, aclOf}
+use Rattle.rules.specs.Request.{Request, requestOf, Hint, hintsOf}
 use Rattle.rules.specs.Ledger.{Ledger, charge, recounted, carried}
 use Rattle.rules.specs.Narrow.{narrows}
-use Rattle.rules.specs.Gate.{Answer, done, permit, refuse, Outcome, Judgement, granted, denied, judge, settle, refused, permitted, narrowed, expanded, lengthsFit, narrowFiles, narrow, expandFiles, expand}
-use Rattle.rules.proofs.Laws.{and-left, unless-passed, fault-none-every}
-use Rattle.rules.proofs.Few.{narrow-few}
+use Rattle.rules.specs.Gate.{Answer, done, permit, refuse, Outcome, Judgement, granted, denied, judge, settle, refused, permitted, narrowed, expanded, narrowFiles, narrow, expandFiles, expand}
 use Rattle.request.specs.Parts.{Sound}
 use Rattle.refusals.specs.declared.Refusal.{Refusal}
 use Rattle.refusals.specs.Refusals.{refusalNumber}
@@ -24,24 +21,12 @@ use Rattle.files.specs.declared.Checked.the-variants as checked
 use Rattle.files.specs.Faults.{faultOf}
 use Rattle.judging.specs.declared.Judged.{Judged}
 use Rattle.judging.specs.Standings.{judgedAs}
-use Rattle.gate.specs.Outcomes.{carriedOf, noCounts, permittedIf, isPermit, lastAfter, settledAs, countsAfter, decided, countsCharged, countersCharged, narrowedCounts, Settles}
-use Rattle.gate.proofs.Settling.{sound-request, fitting-request, refused-by, not-refused, settled-by, settles-refused, settles-judged, no-fault, a-fault, settles-outcome}
-use Rattle.gate.proofs.Carries.{carried-is}
-
--- what two calls found, one after the other
-pub fault-next : {F : Type 0} (o x a b : Option F) (ts : List (Option F)) → x ≡ orNext a b → a ≡ o → b ≡ firstFault ts → x ≡ firstFault (o ∷ ts)
-unfolding firstFault
-fault-next o x a b ts e p q = e ∙ rw (p, q)
-
--- The counts that a replacement leaves.
-module _ (f : List ℕ → List ℕ) (a : Answer) (counts : List ℕ) (b : Bool) (e : b ≡ isPermit a) where
-  pub counts-kept : not b ≡ true → counts ≡ countsAfter f a counts
-  unfolding countsAfter
-  counts-kept h = sym (rw (sym e ∙ not-true b h))
-
-  pub counts-replaced : (t : List ℕ) → not b ≡ false → t ≡ f counts → t ≡ countsAfter f a counts
-  unfolding countsAfter
-  counts-replaced t h d = d ∙ sym (rw (sym e ∙ not-false b h))
+use Rattle.charging.specs.Charges.{decided, countersCharged, countsCharged, lastAfter}
+use Rattle.carrying.specs.Carried.{carriedOf, noCounts, countsAfter}
+use Rattle.carrying.proofs.Laws.{carried-is}
+use Rattle.gate_files.proofs.Passed.{narrow-sound, expand-sound, no-fault, a-fault}
+use Rattle.gate.specs.Outcomes.{permittedIf, settledAs, narrowedCounts, Settles}
+use Rattle.gate.proofs.Settling.{settled-by, refused-by, not-refused, settles-refused, settles-judged, settles-outcome}
 
 -- what a replacement makes of an outcome: of a permit's group counts others, and nothing else
 abbrev replaced : (List ℕ → List ℕ) → Outcome → Outcome
@@ -89,24 +74,6 @@ module _ (l : Ledger) (km0 : Bytes) (gs : List Group) (q : Request) (a : Answer)
   pub expand-settled : settledAs a counts counters loaded last (q .time) ≡ settle l (q .time) (permittedIf l true) (judge l km0 gs q) → end ≡ countsAfter noCounts a counts
       → o ≡ settle l (q .time) expanded (judge l km0 gs q)
   expand-settled p d = replaced-is noCounts d ∙ ap (replaced noCounts) p ∙ settled-expanded l (q .time) (judge l km0 gs q)
-
--- What sound files tell: the request has no fault and is short, the ACL has no fault, the hints are few.
-pub narrow-sound : (km0 acl req new hints : Bytes) → narrowFiles km0 acl req new hints ≡ none → Sound req × (aclFault (records acl) ≡ none) × (length (hintsOf hints) ≤ groupsMax)
-narrow-sound km0 acl req new hints e =
-    let h = fault-none-every _ e in
-    let t = unless-passed (lengthsFit km0 acl req && fits aclRecords new && fits hintRecords hints) badLength (h .0) in
-    let f = and-left (lengthsFit km0 acl req) (fits aclRecords new) (and-left (lengthsFit km0 acl req && fits aclRecords new) (fits hintRecords hints) t) in
-    (sound-request (useOf reduceAcl) req (h .1 .1 .0) (fitting-request km0 acl req f), h .1 .0, narrow-few km0 acl req new hints e)
-
-pub expand-sound : (km0 acl req new : Bytes) → expandFiles km0 acl req new ≡ none → Sound req × (aclFault (records acl) ≡ none)
-expand-sound km0 acl req new e =
-    let h = fault-none-every _ e in
-    let t = unless-passed (lengthsFit km0 acl req && fits aclRecords new) badLength (h .0) in
-    (sound-request (useOf expandAcl) req (h .1 .1 .0) (fitting-request km0 acl req (and-left (lengthsFit km0 acl req) (fits aclRecords new) t)), h .1 .0)
-
--- two tests that the code made, as one
-pub both-are : (a b x y : Bool) → a ≡ x → b ≡ y → (a && b) ≡ (x && y)
-both-are a b x y p q = rw (p, q)
 
 -- A narrowing: its files have a fault, or it is judged.
 module _ (km0 acl req new hints : Bytes) (x : Checked) (e : faultOf x ≡ narrowFiles km0 acl req new hints) where

@@ -2,9 +2,9 @@
 use cabinet::Cabinet;
 use cabinet::CabinetOutcome;
 use cabinet::Slot;
+use charging::Reply;
 use gate::Ledger;
 use gate::Outcome;
-use gate::Reply;
 use printing::print;
 use refusals::Denial;
 

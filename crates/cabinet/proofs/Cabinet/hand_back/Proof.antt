@@ -1,4 +1,4 @@
-use Rattle.gate.specs.Outcomes.{answerOf}
+use Rattle.charging.specs.Charges.{answerOf}
 use Rattle.cabinet.proofs.Laws.{handed}
 use borrow.Author.Needs.{needs}
 use Rattle.cabinet.proofs.Cabinet.hand_back.Statement.{statement}

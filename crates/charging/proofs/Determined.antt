@@ -1,0 +1,19 @@
+-- The reading of a reply loses nothing: a reply is the one that its answer reads back as.
+use mathlib.Core.Path.{_≡_, refl}
+use Rattle.rules.specs.Basics.{if_then_else_}
+use Rattle.rules.specs.Gate as rulesGate
+use Rattle.refusals.proofs.Determined.{refusalBack, refusal-back, denialBack, denial-back, denies, refusal-not-denied, denial-denied}
+use Rattle.charging.specs.declared.Reply.{Reply}
+use Rattle.charging.specs.declared.Reply.the-variants.{Done, Permit, Refuse, Deny}
+use Rattle.charging.specs.Charges.{answerOf}
+
+abbrev pub replyBack : rulesGate.Answer → Reply
+replyBack rulesGate.done = Done
+replyBack (rulesGate.permit place) = Permit place
+replyBack (rulesGate.refuse n near) = if denies n then Deny (denialBack n near) else Refuse (refusalBack n)
+
+pub reply-back : (r : Reply) → replyBack (answerOf r) ≡ r
+reply-back Done = refl
+reply-back (Permit place) = refl
+reply-back (Refuse r) = rw (refusal-not-denied r, refusal-back r)
+reply-back (Deny d) = rw (denial-denied d, denial-back d)

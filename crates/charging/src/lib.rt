@@ -1,0 +1,146 @@
+// Replies: what a judgement comes to, and what a reply charges, on tables lent to be changed where they stand.
+ghost use mathlib.Core.Path.{_≡_};
+ghost use mathlib.Core.Bool.{true};
+ghost use Prim.Native.Nat.{_<_};
+ghost use lib.ListN.{length, getD};
+ghost use Rattle.rules.specs.Sizes.{groupsMax, countersMax, fullCount};
+ghost use Rattle.rules.specs.Basics.{records};
+ghost use Rattle.rules.specs.Acl.{limitsOf, aclOf};
+ghost use Rattle.rules.specs.Ledger.{raised, raisedBy};
+ghost use Rattle.charging.specs.Charges.{answerOf, hasRoom, Chargeable, raisedOnce, permitIf, decided, isPermit, CountersRoom, CountRoom, countersCharged, countsCharged, lastAfter};
+use judging::Judged;
+use refusals::Denial;
+use refusals::Refusal;
+
+// What the gate answers: a load or a clear is done, a group permits, what was given is refused, or judging denies.
+pub enum Reply {
+    Done,
+    Permit(usize),
+    Refuse(Refusal),
+    Deny(Denial),
+}
+
+// A limit of sort 2 raises its counter by 1. Another limit, or a number past the table, raises nothing.
+fn raise_one(table: &mut [u32; sizes::COUNTERS], sort: u8, counter: u8)
+    requires { ⌜ (length (now table) ≡ countersMax) × (hasRoom (now table) sort counter ≡ true) ⌝ }
+    ensures { λ _. ⌜ now (table .exit) ≡ raisedOnce (now (table .entry)) sort counter ⌝ }
+{
+    if sort != 2 {
+        return;
+    }
+    let i = counter as usize;
+    if sizes::COUNTERS <= i {
+        return;
+    }
+    table[i] = table[i] + 1;
+}
+
+// Each counter that the limits of a group name, of the records that follow the group's first one, is raised where it stands: no two of them name the
+// same one.
+fn raise_named(table: &mut [u32; sizes::COUNTERS], body: &[u8])
+    requires { ⌜ (length (now table) ≡ countersMax) × Chargeable (now table) (limitsOf (records (now body))) ⌝ }
+    ensures { λ _. ⌜ now (table .exit) ≡ raisedBy (now (table .entry)) (limitsOf (records (now (body .entry)))) (now (table .entry)) ⌝ }
+{
+    let mut at = 0;
+    while sizes::RECORD <= body.len() - at {
+        if body[at] != 2 {
+            return;
+        }
+        raise_one(table, body[at + 4], body[at + 5]);
+        at += sizes::RECORD;
+    }
+}
+
+// A charged group has its own count plus 1.
+fn raise_count(counts: &mut [u32; sizes::GROUPS], place: usize)
+    requires { ⌜ (length (now counts) ≡ groupsMax) × (getD (now counts) place 0 < fullCount) ⌝ }
+    ensures { λ _. ⌜ now (counts .exit) ≡ raised (now (counts .entry)) place (now (counts .entry)) ⌝ }
+{
+    if sizes::GROUPS <= place {
+        return;
+    }
+    counts[place] = counts[place] + 1;
+}
+
+// A charge of the group at a place, on lent tables: own count and each named counter plus 1 where they stand. The group is unspent, so that no count is
+// full. `body` is what follows the group's first record.
+pub fn charge(
+    counts: &mut [u32; sizes::GROUPS],
+    counters: &mut [u32; sizes::COUNTERS],
+    place: usize,
+    body: &[u8],
+)
+    requires { ⌜ (length (now counts) ≡ groupsMax) × (length (now counters) ≡ countersMax) × (getD (now counts) place 0 < fullCount) × Chargeable (now counters) (limitsOf (records (now body))) ⌝ }
+    ensures { λ _. ⌜ (now (counts .exit) ≡ raised (now (counts .entry)) place (now (counts .entry))) × (now (counters .exit) ≡ raisedBy (now (counters .entry)) (limitsOf (records (now (body .entry)))) (now (counters .entry))) ⌝ }
+{
+    raise_named(counters, body);
+    raise_count(counts, place);
+}
+
+// What a grant comes to: a permit, but 8 where hints are to show a narrowing and do not.
+fn grant(place: usize, shown: bool) -> Reply
+    ensures { λ r. ⌜ answerOf r ≡ permitIf shown place ⌝ }
+{
+    if !shown {
+        return Reply::Refuse(Refusal::NotNarrower);
+    }
+    Reply::Permit(place)
+}
+
+// What a judgement comes to: a grant as above, or the denial. `shown` is whether the hints show a narrowing, true where there are none.
+pub fn decide(judged: Judged, shown: bool) -> Reply
+    ensures { λ r. ⌜ answerOf r ≡ decided shown judged ⌝ }
+{
+    match judged {
+        Judged::Granted(k) => grant(k, shown),
+        Judged::Denied(d) => Reply::Deny(d),
+    }
+}
+
+// The counters after a reply: where it permits, each that the group names is raised where it stands. The group is unspent, so that none is full.
+pub fn charge_counters(counters: &mut [u32; sizes::COUNTERS], reply: Reply, acl: &[u8])
+    requires { ⌜ (length (now counters) ≡ countersMax) × CountersRoom (now counters) (aclOf (now acl)) (answerOf reply) ⌝ }
+    ensures { λ _. ⌜ now (counters .exit) ≡ countersCharged (aclOf (now (acl .entry))) (answerOf reply) (now (counters .entry)) ⌝ }
+{
+    match reply {
+        Reply::Done => {}
+        Reply::Permit(k) => raise_named(counters, groups::group_body(acl, k)),
+        Reply::Refuse(_) => {}
+        Reply::Deny(_) => {}
+    }
+}
+
+// The group counts after a reply: where it permits, the group's own is raised.
+pub fn charge_count(counts: &mut [u32; sizes::GROUPS], reply: Reply)
+    requires { ⌜ (length (now counts) ≡ groupsMax) × CountRoom (now counts) (answerOf reply) ⌝ }
+    ensures { λ _. ⌜ (length (now (counts .exit)) ≡ groupsMax) × (now (counts .exit) ≡ countsCharged (answerOf reply) (now (counts .entry))) ⌝ }
+{
+    match reply {
+        Reply::Done => {}
+        Reply::Permit(k) => raise_count(counts, k),
+        Reply::Refuse(_) => {}
+        Reply::Deny(_) => {}
+    }
+}
+
+// Whether a reply permits.
+pub fn permits(reply: Reply) -> bool
+    ensures { λ r. ⌜ r ≡ isPermit (answerOf reply) ⌝ }
+{
+    match reply {
+        Reply::Done => false,
+        Reply::Permit(_) => true,
+        Reply::Refuse(_) => false,
+        Reply::Deny(_) => false,
+    }
+}
+
+// The last time after a reply: the request's where it permits.
+pub fn last_after(reply: Reply, last: u64, when: u64) -> u64
+    ensures { λ r. ⌜ r ≡ lastAfter (answerOf reply) last when ⌝ }
+{
+    if permits(reply) {
+        return when;
+    }
+    last
+}
