@@ -180,6 +180,6 @@ unfoldable pub scan : {S F : Type 0} → (S → Bytes → Option F) → (S → B
 scan fault next end s [] = end s
 scan fault next end s (r ∷ rs) = orNext (fault s r) (scan fault next end (next s r) rs)
 
--- A file by itself: "1 a file not whole records or over its greatest length", then its records from the first.
+-- A file by itself: 1, "a file not whole records or over its greatest length", then its records from the first.
 unfoldable pub fileFault : ℕ → (List Bytes → Option ℕ) → Bytes → Option ℕ
 fileFault most fault file = firstFault (unless (fits most file) badLength ∷ fault (records file) ∷ [])

@@ -84,7 +84,7 @@ answers o n = eqb (n .sort) (o .sort) && eqb (n .counter) (o .counter) && leb (n
 unfoldable pub isAnswered : List Limit → Limit → Bool
 isAnswered new o = any (answers o) new
 
--- "Against its source a new group keeps any certifier and mechanism (it may add them)"
+-- "Against its source a new group keeps any certifier and mechanism (it may add them), answers each old limit .., and each action is .. no wider"
 abbrev pub groupNarrows : Group → List ℕ → Group → Bool
 groupNarrows n hints o =
     kept (n .certifier) (o .certifier)

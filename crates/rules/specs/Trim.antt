@@ -114,7 +114,7 @@ trimFault bundle acl aclBuffer hintBuffer =
     (unread shortBuffer)
     ∷ [])
 
--- "on any of these both stay untouched, otherwise the reply is both lengths and bytes past the results stay"
+-- "otherwise the reply is both lengths"
 abbrev pub unlessUntrimmed : Option TrimReply → TrimReply → TrimReply
 unlessUntrimmed none reply = reply
 unlessUntrimmed (some f) reply = f
@@ -125,7 +125,7 @@ trimReply bundle acl aclBuffer hintBuffer =
     unlessUntrimmed (trimFault bundle acl aclBuffer hintBuffer)
     (trimmed (length (trimmedAcl (records bundle) acl)) (length (trimHints (records bundle) acl)))
 
--- the buffer lent for the ACL, after it
+-- the buffer lent for the ACL, after it: "on any of these both stay untouched, otherwise .. bytes past the results stay"
 unfoldable pub trimAclBuffer : Bytes → Bytes → Bytes → Bytes → Bytes
 trimAclBuffer bundle acl aclBuffer hintBuffer =
     writtenOver (trimmedAcl (records bundle) acl) aclBuffer (trimFault bundle acl aclBuffer hintBuffer)
