@@ -50,7 +50,7 @@ replyOf (Accepted a) = accepting (namedBy a)
 replyOf (Failed s) = failing (stepOf s)
 replyOf (Refused r) = refusing (refusalNumber r)
 
--- what the definitions' acceptance names: approach 1 "looks at the key's generation alone"
+-- what the definitions' acceptance names: approach 1 looks at the key's generation alone
 abbrev pub namedFor : rules.Acceptance → Named
 namedFor rules.approach1 = record { approach = 1; protection = 0; recoverable = false }
 namedFor (rules.approach2 g) = record { approach = 2; protection = g .protection; recoverable = g .recoverable }

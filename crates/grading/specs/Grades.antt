@@ -21,7 +21,7 @@ pub record Graded : Type 0 where
 abbrev pub gradedAs : Grade → Graded
 gradedAs g = record { failure = failureOf (g .failure); protection = g .protection; recoverable = g .recoverable }
 
--- "ACL, in record order", "the key's is the smallest": two parts, one after the other
+-- "ACL, in record order", "The key's is the smallest": two parts, one after the other
 unfoldable pub both : Graded → Graded → Graded
 both x y =
     record {

@@ -29,7 +29,7 @@ rowAs row = map certificateAs row
 unfoldable pub serving : Bytes → rules.Certificate → Bool
 serving r c = serves (part 4 hashBytes r) (optional (flag 1 r) (number 24 2 r)) c
 
--- "Certified: no certifier, or a presented certificate": by the certificates of a row, and no delegations
+-- "no certifier, or a presented certificate has that hash": by the certificates of a row, and no delegations
 unfoldable pub certifiedIn : List rules.Certificate → Option Bytes → Option ℕ → Bool
 certifiedIn row none m = true
 certifiedIn row (some k) m = any (serves k m) row

@@ -27,7 +27,7 @@ headerOf certificate s = headerBytes (headerUnder certificate (some (suiteAs s))
 unfoldable pub over : Bytes → Bytes → Bytes
 over new old = new ++ drop (length new) old
 
--- A header, then hashes of a length: "1 .. subject hashes of wrong length", then "9 subject's buffer too short".
+-- A header, then hashes of a length: 1, "subject hashes of wrong length", then 9, "subject's buffer too short".
 unfoldable pub headedFault : Bytes → ℕ → Bytes → Bytes → Option ℕ
 headedFault header size hashes buffer =
     firstFault
