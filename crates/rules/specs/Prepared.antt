@@ -7,9 +7,9 @@ use lib.ListN.{getD}
 use lib.Dec.{eqb}
 use Rattle.rules.specs.Sizes.{permissionsMax, preparedRecords}
 use Rattle.rules.specs.Numbers.{otherForm}
-use Rattle.rules.specs.Basics.{if_then_else_, Bytes, any, same, bit, setOf, number, unless, firstFault, records}
+use Rattle.rules.specs.Basics.{if_then_else_, Bytes, any, same, bit, setOf, unless, firstFault, records}
 use Rattle.rules.specs.Acl.{Action, permissions, makeBlob, makeArchive, Group, aclOf, aclFileFault}
-use Rattle.rules.specs.Request.{Wanted, operation, workingBlob, recoveryBlob, Certificate, Request, requestRecordFault}
+use Rattle.rules.specs.Request.{Wanted, operation, workingBlob, recoveryBlob, Certificate, Request, timeOf, requestRecordFault}
 use Rattle.rules.specs.Ledger.{Ledger}
 use Rattle.rules.specs.Grant.{admitsUse, admitsWorking, admitsRecovery, certified, unspent}
 use Rattle.rules.specs.Gate.{Outcome, lowest, Denial, early, ofCertified, Judgement, denied, tooEarly, judgedBy, permitted, unlessFault, settle}
@@ -98,7 +98,7 @@ formJudge f l km0 gs q =
 unfoldable pub askForm : Form → Bytes → List Group → List Certificate → Ledger → Bytes → Outcome
 askForm f km0 gs row l r =
     unlessFault l (requestRecordFault r)
-    (settle l (number 56 8 r) permitted (formJudge f l km0 gs (requestWith r row)))
+    (settle l (timeOf r) permitted (formJudge f l km0 gs (requestWith r row)))
 
 -- two forms are the same
 unfoldable pub sameForm : Form → Form → Bool

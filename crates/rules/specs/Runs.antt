@@ -7,9 +7,9 @@ use lib.ListN.{length}
 use lib.Dec.{eqb, leb}
 use Rattle.rules.specs.Sizes.{hashBytes, aclRecords, certificatesMax, runRecords, answerBytes}
 use Rattle.rules.specs.Numbers.{badLength, malformed, tooMany, shortBuffer, noGroup}
-use Rattle.rules.specs.Basics.{Bytes, all, number, unless, firstFault, records, joined, fits}
+use Rattle.rules.specs.Basics.{Bytes, all, unless, firstFault, records, joined, fits}
 use Rattle.rules.specs.Acl.{aclFault}
-use Rattle.rules.specs.Request.{Certificate, Request, wantedOf}
+use Rattle.rules.specs.Request.{Certificate, Request, wantedOf, timeOf}
 use Rattle.rules.specs.Ledger.{Ledger}
 use Rattle.rules.specs.Gate.{Answer, done, permit, refuse, Outcome, request}
 use Rattle.rules.specs.Subject.{writtenOver}
@@ -22,7 +22,7 @@ withRow r row = joined (r ∷ map certificateBytes row)
 
 -- what such a request says
 abbrev pub requestWith : Bytes → List Certificate → Request
-requestWith r row = record { wanted = wantedOf r none; time = number 56 8 r; certificates = row; delegations = [] }
+requestWith r row = record { wanted = wantedOf r none; time = timeOf r; certificates = row; delegations = [] }
 
 -- .. one request of a run, asked of the gate
 abbrev pub askGate : Bytes → Bytes → List Certificate → Ledger → Bytes → Outcome

@@ -6,10 +6,9 @@ use mathlib.Core.Option.{Option, none, some}
 use mathlib.Core.Bool.{Bool, true, false, not, _&&_, _||_}
 use lib.ListN.{length, take, drop}
 use lib.Dec.{eqb, leb}
-use Rattle.rules.specs.Sizes.{hashBytes}
 use Rattle.rules.specs.Numbers.{shortBuffer}
-use Rattle.rules.specs.Basics.{if_then_else_, Bytes, implies, bit, part, number, kind, flag, optional, present, bothSame, unless, firstFault, records, joined}
-use Rattle.rules.specs.Acl.{actionOf}
+use Rattle.rules.specs.Basics.{if_then_else_, Bytes, implies, bit, kind, present, bothSame, unless, firstFault, records, joined}
+use Rattle.rules.specs.Acl.{permissionBits, actionOf, certifierOf}
 use Rattle.rules.specs.Subject.{writtenOver}
 use Rattle.rules.specs.Written.{bigEndian, hintBytes}
 use Rattle.rules.specs.Bundle.{field, Policy, policyOf}
@@ -30,7 +29,7 @@ withBits bits r = take 4 r ++ (bigEndian 2 bits ++ drop 6 r)
 
 -- "in groups the desk checks": by a group's record, "a group whose certifier equals a present field 4 .. is skipped"
 unfoldable pub isChecked : List Bytes → Bytes → Bool
-isChecked b r = not (bothSame (field 4 b) (optional (flag 0 r) (part 4 hashBytes r)))
+isChecked b r = not (bothSame (field 4 b) (certifierOf r))
 
 -- an action, by its record, fails none of ACLV3, WB and RB; none of them looks at blobfile
 unfoldable pub actionPasses : List Bytes → Bytes → Bool
@@ -42,7 +41,7 @@ stays b checked r = implies checked (actionPasses b r || eqb (kind r) 3)
 
 -- .. as it was, or without the bits that fail
 unfoldable pub trimmedRecord : List Bytes → Bool → Bytes → Bytes
-trimmedRecord b checked r = if checked && not (actionPasses b r) then withBits (keptBits (policyOf b) (number 4 2 r)) r else r
+trimmedRecord b checked r = if checked && not (actionPasses b r) then withBits (keptBits (policyOf b) (permissionBits r)) r else r
 
 -- a record before others, if it is kept
 abbrev pub keptBefore : Bool → Bytes → List Bytes → List Bytes
