@@ -1,7 +1,7 @@
 -- A local array of certificates in a walk by hand: it is taken apart into its elements, the first of them are lent as a row for a lifetime, and once that
 -- is over the array is whole again. Assumes `Given`.
-use mathlib.Core.Path.{_≡_, refl, sym, _∙_, subst}
-use Prim.Native.Nat.{ℕ, _≤_, _<_, _^_}
+use mathlib.Core.Path.{_≡_, refl, sym, subst}
+use Prim.Native.Nat.{ℕ, _≤_}
 use mathlib.Core.List.{List, [], _∷_, _++_}
 use lib.ListN.{length, take, drop, take-append-drop}
 use lib.Dec.{T, lit<}
@@ -23,11 +23,10 @@ use denote.Memory.{cellAt, lone, partAt, mem, shares, partOf}
 use denote.Array.{Array, array-vals, array-tells, array-makes, array-lawful}
 use denote.ArrayMemory.{array-apart, array-whole}
 use denote.Lend.{lends-shr-slice}
-use denote.Ref.{RefT}
 use denote.Slice.{Room}
 use denote.Steps.{only, owned, facts}
 use denote.Struct.Laws as LL
-use borrow.Table.Elements.{at, cut-app, join-app, length-take-le}
+use borrow.Table.Elements.{cut-app, join-app, length-take-le}
 use borrow.Rule.Slice.Shared.{parts-cells}
 use borrow.Rule.Array.Rows.{partsF, restF}
 use borrow.Rule.Array.Share.{room-take}
