@@ -72,7 +72,7 @@ fn called(
     stopped(k, s)
 }
 
-// A run of many requests.
+// A run of many requests, its arguments in the buffers.
 fn ran(
     k: u64,
     mut s: State,
@@ -87,7 +87,18 @@ fn ran(
     requires { ⌜ length (now form) ≡ 144 ⌝ }
 {
     let before = s.ledger;
-    s.ledger = run_calls::run_call(k, before, call.letter, form, a, b, c, d, e);
+    let m = script::within(e, call.e);
+    s.ledger = run_calls::run_call(
+        k,
+        before,
+        call.letter,
+        form,
+        prefix(a, call.a),
+        prefix(b, call.b),
+        prefix(c, call.c),
+        prefix(d, call.d),
+        &mut e[0..m],
+    );
     s
 }
 
@@ -106,6 +117,9 @@ fn answered(
     requires { ⌜ length (now form) ≡ 144 ⌝ }
 {
     let letter = call.letter;
+    if script::is_run(letter) {
+        return ran(k, s, call, form, a, b, c, d, e);
+    }
     let given = prefix(a, call.a);
     let m = script::within(b, call.b);
     let n = script::within(c, call.c);
@@ -118,19 +132,6 @@ fn answered(
     if letter == b'M' {
         file_calls::trim_call(k, given, &b[0..m], &mut c[0..n], &mut d[0..o]);
         return s;
-    }
-    if script::is_run(letter) {
-        return ran(
-            k,
-            s,
-            call,
-            form,
-            given,
-            &b[0..m],
-            &c[0..n],
-            &d[0..o],
-            &mut e[0..p],
-        );
     }
     called(k, s, call, given, &b[0..m], &c[0..n], &d[0..o], &e[0..p])
 }
