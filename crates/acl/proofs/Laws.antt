@@ -17,9 +17,9 @@ use Rattle.rules.specs.Acl.{AclPlace, aclStart, among, limitKey, limitInPlace, 
 use Rattle.rules.proofs.Rows.{recordsFrom, rows-lent, rows-end, lentRecord}
 use Rattle.files.specs.declared.Checked.{Checked}
 use Rattle.files.specs.declared.Checked.the-variants.{Sound, Refused}
-use Rattle.files.specs.Faults.{faultOf}
+use Rattle.files.specs.Faults.{faultAs}
 use Rattle.acl.specs.declared.Place.{Place}
-use Rattle.acl.specs.Places.{placeOf, begunAs, addedAs, Reading, stopped, on, readPast, reading, foundAt}
+use Rattle.acl.specs.Places.{aclPlaceAs, begunWith, addedWith, AclReading, stopped, on, readPast, reading, checkedAs}
 
 -- A key among some, by a loop: what is left has the whole's answer.
 module _ (key : ℕ) (keys : List ℕ) (i : ℕ) (inv : among key (drop i keys) ≡ among key keys) where
@@ -50,7 +50,7 @@ key-added : (n key : ℕ) (keys : List ℕ) → n < length keys → take (n + 1)
 key-added n key keys h = rw add-one (take-suc-set keys n key h)
 
 pub place-added : (p : Place) (key : ℕ) → p .limits < length (p .keys)
-    → placeOf (record { groups = p .groups; opened = p .opened; limits = p .limits + 1; actions = p .actions; keys = set (p .keys) (p .limits) key; «file_due» = p .«file_due» }) ≡ limitAdded (placeOf p) key
+    → aclPlaceAs (record { groups = p .groups; opened = p .opened; limits = p .limits + 1; actions = p .actions; keys = set (p .keys) (p .limits) key; «file_due» = p .«file_due» }) ≡ limitAdded (aclPlaceAs p) key
 place-added p key h = ap (λ (l : List ℕ). record { groups = p .groups; isOpen = p .opened; limits = l; actions = p .actions; fileDue = p .«file_due» }) (key-added (p .limits) key (p .keys) h)
 
 -- The fault of a record by its three tests, `if !f(..)`.
@@ -74,11 +74,11 @@ module _ (s : AclPlace) (r : Bytes) (a : Bool) (e : a ≡ inPlace s r) where
       acl-sound l = rw (sym e ∙ not-false a h, sym d ∙ not-false b k, sym f ∙ not-false c l)
 
 -- a group begun, and an action added, by the flag that the code read
-pub group-begun : (s t : AclPlace) (r : Bytes) (b : Bool) → b ≡ flag 0 r → t ≡ begunAs s (not b) → t ≡ groupBegun s r
-group-begun s t r b e d = d ∙ ap (λ (x : Bool). begunAs s (not x)) e
+pub group-begun : (s t : AclPlace) (r : Bytes) (b : Bool) → b ≡ flag 0 r → t ≡ begunWith s (not b) → t ≡ groupBegun s r
+group-begun s t r b e d = d ∙ ap (λ (x : Bool). begunWith s (not x)) e
 
-pub action-added : (s t : AclPlace) (r : Bytes) (b : Bool) → b ≡ flag 6 r → t ≡ addedAs s b → t ≡ actionAdded s r
-action-added s t r b e d = d ∙ ap (addedAs s) e
+pub action-added : (s t : AclPlace) (r : Bytes) (b : Bool) → b ≡ flag 6 r → t ≡ addedWith s b → t ≡ actionAdded s r
+action-added s t r b e d = d ∙ ap (addedWith s) e
 
 -- the end: kind 15 is due or not
 pub end-due : (s : AclPlace) → s .fileDue ≡ true → some malformed ≡ aclEnd s
@@ -88,7 +88,7 @@ pub end-sound : (s : AclPlace) → s .fileDue ≡ false → none ≡ aclEnd s
 end-sound s e = rw e
 
 -- what room says of each kind
-module _ (p : Place) (r : Bytes) (h : hasRoom (placeOf p) r ≡ true) where
+module _ (p : Place) (r : Bytes) (h : hasRoom (aclPlaceAs p) r ≡ true) where
   pub group-fits : kind r ≡ 1 → p .groups < groupsMax
   unfolding hasRoomUnder
   group-fits e = ltb-true (p .groups) groupsMax (rw (eq-eqb (kind r) 1 e) at h)
@@ -128,7 +128,7 @@ pub action-placed : (r t g : Bool) → r ≡ t → not r ≡ false → g ≡ (t 
 action-placed r t g e h = sym (ap (λ (x : Bool). x && g) (sym e ∙ not-false r h))
 
 -- The turns of the loop over records: what is left is read as the whole.
-module _ (s : Bytes) (at : ℕ) (st : AclPlace) (x : Reading) (inv : reading st (recordsFrom s at) ≡ x) where
+module _ (s : Bytes) (at : ℕ) (st : AclPlace) (x : AclReading) (inv : reading st (recordsFrom s at) ≡ x) where
   read-step : 64 ≤ length s - at → readPast (aclRecordFault st (lentRecord s at)) (reading (afterRecord st (lentRecord s at)) (recordsFrom s (at + 64))) ≡ x
   unfolding reading
   read-step h = sym (ap (reading st) (rows-lent s at h)) ∙ inv
@@ -144,7 +144,7 @@ module _ (s : Bytes) (at : ℕ) (st : AclPlace) (x : Reading) (inv : reading st 
   read-done h = sym (ap (reading st) (rows-end s at h)) ∙ inv
 
 -- the first fault of records, by what reading them comes to
-abbrev ended : Reading → Option ℕ
+abbrev ended : AclReading → Option ℕ
 ended (stopped f) = some f
 ended (on s) = aclEnd s
 
@@ -158,11 +158,11 @@ scan-is s (r ∷ rs) = pick (aclRecordFault s r) (scan-is (afterRecord s r) rs)
     pick none e = e
     pick (some n) e = refl
 
-found-is : (q : AclPlace) (f : Checked) → orNext (faultOf f) (aclEnd q) ≡ ended (foundAt q f)
+found-is : (q : AclPlace) (f : Checked) → orNext (faultAs f) (aclEnd q) ≡ ended (checkedAs q f)
 found-is q Sound = refl
 found-is q (Refused r) = refl
 
-pub fault-read : (s q : AclPlace) (f : Checked) (rs : List Bytes) (x e : Option ℕ) → s ≡ aclStart → foundAt q f ≡ reading s rs → e ≡ aclEnd q → x ≡ orNext (faultOf f) e → x ≡ aclFault rs
+pub fault-read : (s q : AclPlace) (f : Checked) (rs : List Bytes) (x e : Option ℕ) → s ≡ aclStart → checkedAs q f ≡ reading s rs → e ≡ aclEnd q → x ≡ orNext (faultAs f) e → x ≡ aclFault rs
 unfolding aclFaultUnder
 fault-read s q f rs x e b i d z =
-    z ∙ ap (orNext (faultOf f)) d ∙ found-is q f ∙ ap ended (i ∙ ap (λ (y : AclPlace). reading y rs) b) ∙ sym (scan-is aclStart rs)
+    z ∙ ap (orNext (faultAs f)) d ∙ found-is q f ∙ ap ended (i ∙ ap (λ (y : AclPlace). reading y rs) b) ∙ sym (scan-is aclStart rs)

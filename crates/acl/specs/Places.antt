@@ -14,8 +14,8 @@ use Rattle.files.specs.declared.Checked.the-variants.{Sound, Refused}
 use Rattle.acl.specs.declared.Read.{Read}
 
 -- the first `limits` keys are those of the limits read
-abbrev pub placeOf : Place → AclPlace
-placeOf p =
+abbrev pub aclPlaceAs : Place → AclPlace
+aclPlaceAs p =
     record {
       groups = p .groups;
       isOpen = p .opened;
@@ -25,33 +25,33 @@ placeOf p =
     }
 
 -- a group begun that is open or not, and an action added that announces kind 15 or not
-abbrev pub begunAs : AclPlace → Bool → AclPlace
-begunAs s isOpen = record { groups = s .groups + 1; isOpen = isOpen; limits = []; actions = 0; fileDue = false }
+abbrev pub begunWith : AclPlace → Bool → AclPlace
+begunWith s isOpen = record { groups = s .groups + 1; isOpen = isOpen; limits = []; actions = 0; fileDue = false }
 
-abbrev pub addedAs : AclPlace → Bool → AclPlace
-addedAs s due = record { groups = s .groups; isOpen = s .isOpen; limits = s .limits; actions = s .actions + 1; fileDue = due }
+abbrev pub addedWith : AclPlace → Bool → AclPlace
+addedWith s due = record { groups = s .groups; isOpen = s .isOpen; limits = s .limits; actions = s .actions + 1; fileDue = due }
 
 -- Reading records from a place: stopped by the first fault, or where it then stands.
-pub data Reading : Type 0 where
-  stopped : ℕ → Reading
-  on : AclPlace → Reading
+pub data AclReading : Type 0 where
+  stopped : ℕ → AclReading
+  on : AclPlace → AclReading
 
 -- .. by the fault of the next record, and what reading comes to after it
-abbrev pub readPast : Option ℕ → Reading → Reading
+abbrev pub readPast : Option ℕ → AclReading → AclReading
 readPast none x = x
 readPast (some f) x = stopped f
 
-unfoldable pub reading : AclPlace → List Bytes → Reading
+unfoldable pub reading : AclPlace → List Bytes → AclReading
 reading s [] = on s
 reading s (r ∷ rs) = readPast (aclRecordFault s r) (reading (afterRecord s r) rs)
 
 -- what the code answers
-abbrev pub foundAt : AclPlace → Checked → Reading
-foundAt s Sound = on s
-foundAt s (Refused f) = stopped (refusalNumber f)
+abbrev pub checkedAs : AclPlace → Checked → AclReading
+checkedAs s Sound = on s
+checkedAs s (Refused f) = stopped (refusalNumber f)
 
-abbrev pub readOf : Read → Reading
-readOf r = foundAt (placeOf (r .place)) (r .found)
+abbrev pub readingAs : Read → AclReading
+readingAs r = checkedAs (aclPlaceAs (r .place)) (r .found)
 
 -- the limits of its place have their keys in the row
 abbrev pub Kept : Read → Type 0

@@ -7,8 +7,8 @@ ghost use Rattle.rules.specs.Sizes.{recordBytes, groupsMax, limitsMax, actionsM
 ghost use Rattle.rules.specs.Basics.{records};
 ghost use Rattle.rules.specs.Acl.{aclStart, among, limitInPlace, actionLaidOut, fileRecord, placedByKind, inPlace, hasRoom, keyed, limitAdded, filePassed, afterRecord, aclEnd, aclFault, aclFileFault};
 ghost use Rattle.refusals.specs.Refusals.{refusalNumber};
-ghost use Rattle.files.specs.Faults.{faultOf};
-ghost use Rattle.acl.specs.Places.{placeOf, begunAs, addedAs, stopped, reading, readOf, Kept};
+ghost use Rattle.files.specs.Faults.{faultAs};
+ghost use Rattle.acl.specs.Places.{aclPlaceAs, begunWith, addedWith, stopped, reading, readingAs, Kept};
 use files::Checked;
 use refusals::Refusal;
 
@@ -72,7 +72,7 @@ fn file_record(rec: &[u8]) -> bool
 
 impl Place {
     pub fn start() -> Self
-        ensures { λ r. ⌜ (placeOf r ≡ aclStart) × (r .limits ≤ limitsMax) ⌝ }
+        ensures { λ r. ⌜ (aclPlaceAs r ≡ aclStart) × (r .limits ≤ limitsMax) ⌝ }
     {
         Self {
             groups: 0,
@@ -87,7 +87,7 @@ impl Place {
     // Whether a limit of this sort and counter may stand here.
     fn takes_limit(self, key: u16) -> bool
         requires { ⌜ self .limits ≤ limitsMax ⌝ }
-        ensures { λ r. ⌜ r ≡ limitInPlace (placeOf self) key ⌝ }
+        ensures { λ r. ⌜ r ≡ limitInPlace (aclPlaceAs self) key ⌝ }
     {
         let keys = self.keys;
         let n = self.limits as usize;
@@ -97,7 +97,7 @@ impl Place {
     // Whether a record is well formed and may stand here: kind 15 where it is due, and only there.
     fn in_place(self, rec: &[u8]) -> bool
         requires { ⌜ (self .limits ≤ limitsMax) × (length (now rec) ≡ recordBytes) ⌝ }
-        ensures { λ r. ⌜ r ≡ inPlace (placeOf self) (now (rec .entry)) ⌝ }
+        ensures { λ r. ⌜ r ≡ inPlace (aclPlaceAs self) (now (rec .entry)) ⌝ }
     {
         if self.file_due {
             return file_record(rec);
@@ -108,7 +108,7 @@ impl Place {
     // Whether a group, a limit or an action is well formed and may stand here.
     fn placed_by_kind(self, rec: &[u8]) -> bool
         requires { ⌜ (self .limits ≤ limitsMax) × (length (now rec) ≡ recordBytes) ⌝ }
-        ensures { λ r. ⌜ r ≡ placedByKind (placeOf self) (now (rec .entry)) ⌝ }
+        ensures { λ r. ⌜ r ≡ placedByKind (aclPlaceAs self) (now (rec .entry)) ⌝ }
     {
         let kind = rec[0];
         if kind == 1 {
@@ -129,7 +129,7 @@ impl Place {
     // Whether there is room for one more of a record's kind.
     fn has_room(self, rec: &[u8]) -> bool
         requires { ⌜ (self .limits ≤ limitsMax) × (length (now rec) ≡ recordBytes) ⌝ }
-        ensures { λ r. ⌜ r ≡ hasRoom (placeOf self) (now (rec .entry)) ⌝ }
+        ensures { λ r. ⌜ r ≡ hasRoom (aclPlaceAs self) (now (rec .entry)) ⌝ }
     {
         let kind = rec[0];
         if kind == 1 {
@@ -147,7 +147,7 @@ impl Place {
     // Whether a record is none that opens the key to any recovery key: a MakeArchiveBlob action without kahash in an open group.
     fn is_keyed(self, rec: &[u8]) -> bool
         requires { ⌜ length (now rec) ≡ recordBytes ⌝ }
-        ensures { λ r. ⌜ r ≡ keyed (placeOf self .isOpen) (now (rec .entry)) ⌝ }
+        ensures { λ r. ⌜ r ≡ keyed (aclPlaceAs self .isOpen) (now (rec .entry)) ⌝ }
     {
         let kind = rec[0];
         !(self.opened & (kind == 5)) | fields::flag_of(0, rec)
@@ -156,7 +156,7 @@ impl Place {
     // Where reading stands after a limit for which there is room.
     fn after_limit(mut self, key: u16) -> Self
         requires { ⌜ self .limits < limitsMax ⌝ }
-        ensures { λ r. ⌜ (placeOf r ≡ limitAdded (placeOf self) key) × (r .limits ≤ limitsMax) ⌝ }
+        ensures { λ r. ⌜ (aclPlaceAs r ≡ limitAdded (aclPlaceAs self) key) × (r .limits ≤ limitsMax) ⌝ }
     {
         let n = self.limits as usize;
         self.keys[n] = key;
@@ -167,7 +167,7 @@ impl Place {
     // Where reading stands after a group record, which may be open.
     fn after_group(mut self, opened: bool) -> Self
         requires { ⌜ (self .limits ≤ limitsMax) × (self .groups < groupsMax) ⌝ }
-        ensures { λ r. ⌜ (placeOf r ≡ begunAs (placeOf self) opened) × (r .limits ≤ limitsMax) ⌝ }
+        ensures { λ r. ⌜ (aclPlaceAs r ≡ begunWith (aclPlaceAs self) opened) × (r .limits ≤ limitsMax) ⌝ }
     {
         self.groups += 1;
         self.opened = opened;
@@ -180,7 +180,7 @@ impl Place {
     // Where reading stands after an action, which may announce a record of kind 15.
     fn after_action(mut self, file_due: bool) -> Self
         requires { ⌜ (self .limits ≤ limitsMax) × (self .actions < actionsMax) ⌝ }
-        ensures { λ r. ⌜ (placeOf r ≡ addedAs (placeOf self) «file_due») × (r .limits ≤ limitsMax) ⌝ }
+        ensures { λ r. ⌜ (aclPlaceAs r ≡ addedWith (aclPlaceAs self) «file_due») × (r .limits ≤ limitsMax) ⌝ }
     {
         self.actions += 1;
         self.file_due = file_due;
@@ -190,7 +190,7 @@ impl Place {
     // Where reading stands after a record of kind 15.
     fn after_file(mut self) -> Self
         requires { ⌜ self .limits ≤ limitsMax ⌝ }
-        ensures { λ r. ⌜ (placeOf r ≡ filePassed (placeOf self)) × (r .limits ≤ limitsMax) ⌝ }
+        ensures { λ r. ⌜ (aclPlaceAs r ≡ filePassed (aclPlaceAs self)) × (r .limits ≤ limitsMax) ⌝ }
     {
         self.file_due = false;
         self
@@ -198,8 +198,8 @@ impl Place {
 
     // Where reading stands after a record for which there is room.
     fn after(self, rec: &[u8]) -> Self
-        requires { ⌜ (hasRoom (placeOf self) (now rec) ≡ true) × (self .limits ≤ limitsMax) × (length (now rec) ≡ recordBytes) ⌝ }
-        ensures { λ r. ⌜ (placeOf r ≡ afterRecord (placeOf self) (now (rec .entry))) × (r .limits ≤ limitsMax) ⌝ }
+        requires { ⌜ (hasRoom (aclPlaceAs self) (now rec) ≡ true) × (self .limits ≤ limitsMax) × (length (now rec) ≡ recordBytes) ⌝ }
+        ensures { λ r. ⌜ (aclPlaceAs r ≡ afterRecord (aclPlaceAs self) (now (rec .entry))) × (r .limits ≤ limitsMax) ⌝ }
     {
         let kind = rec[0];
         if kind == 1 {
@@ -216,7 +216,7 @@ impl Place {
 
     // The fault of an end here: kind 15 is due.
     fn end(self) -> Checked
-        ensures { λ r. ⌜ faultOf r ≡ aclEnd (placeOf self) ⌝ }
+        ensures { λ r. ⌜ faultAs r ≡ aclEnd (aclPlaceAs self) ⌝ }
     {
         if self.file_due {
             return Checked::Refused(Refusal::Malformed);
@@ -227,7 +227,7 @@ impl Place {
     // Reading stops here.
     fn stopped(self, why: Refusal) -> Read
         requires { ⌜ self .limits ≤ limitsMax ⌝ }
-        ensures { λ r. ⌜ (readOf r ≡ stopped (refusalNumber why)) × Kept r ⌝ }
+        ensures { λ r. ⌜ (readingAs r ≡ stopped (refusalNumber why)) × Kept r ⌝ }
     {
         Read {
             place: self,
@@ -239,7 +239,7 @@ impl Place {
     // are one piece of code with it and the place stays in registers.
     pub fn read(self, acl: &[u8]) -> Read
         requires { ⌜ self .limits ≤ limitsMax ⌝ }
-        ensures { λ r. ⌜ (readOf r ≡ reading (placeOf self) (records (now (acl .entry)))) × Kept r ⌝ }
+        ensures { λ r. ⌜ (readingAs r ≡ reading (aclPlaceAs self) (records (now (acl .entry)))) × Kept r ⌝ }
     {
         let mut place = self;
         let mut at = 0;
@@ -266,7 +266,7 @@ impl Place {
 
 // The first fault of an ACL's records; it may end anywhere but where kind 15 is due.
 pub fn acl_records(acl: &[u8]) -> Checked
-    ensures { λ r. ⌜ faultOf r ≡ aclFault (records (now (acl .entry))) ⌝ }
+    ensures { λ r. ⌜ faultAs r ≡ aclFault (records (now (acl .entry))) ⌝ }
 {
     let read = Place::start().read(acl);
     let found = read.found;
@@ -275,7 +275,7 @@ pub fn acl_records(acl: &[u8]) -> Checked
 
 // The first fault of an ACL file: its length, then its records.
 pub fn acl_file(acl: &[u8]) -> Checked
-    ensures { λ r. ⌜ faultOf r ≡ aclFileFault (now (acl .entry)) ⌝ }
+    ensures { λ r. ⌜ faultAs r ≡ aclFileFault (now (acl .entry)) ⌝ }
 {
     if !files::whole(sizes::ACL_RECORDS, acl) {
         return Checked::Refused(Refusal::BadLength);

@@ -19,8 +19,8 @@ use Rattle.rules.specs.Acl.{Limit, limitsOf, Group, announcesFile, aclOf}
 use Rattle.rules.specs.Request.{wantedOf, requestLaidOut, standsAlone, requestRecordFault}
 use Rattle.rules.specs.Ledger.{Ledger, raised, raisedBy, charge}
 use Rattle.rules.specs.Grant.{limitsLeft, unspent}
-use Rattle.rules.specs.Gate.{Lowest, nobody, group, Denial, early, unadmitted, uncertified, exhausted, numberOf, nearest, Judgement, granted, denied, tooEarly, ofCertified, judgedBy, permitted, settle}
-use Rattle.rules.specs.Runs.{requestWith, groupOr, answerOf}
+use Rattle.rules.specs.Gate.{Lowest, notFound, group, Denial, early, unadmitted, uncertified, exhausted, numberOf, nearest, Judgement, granted, denied, tooEarly, ofCertified, judgedBy, permitted, settle}
+use Rattle.rules.specs.Runs.{requestWith, groupOr, bytesOfAnswer}
 use Rattle.rules.proofs.Laws.{never, and-left, and-right}
 use Rattle.rules.proofs.GroupSets.{holdsAt, firstIn, placed, placedAt, judgedBySets, unspentAt}
 use Rattle.theorems.specs.Sizes.{GroupFits}
@@ -31,10 +31,10 @@ use Rattle.charging.proofs.Granting.{limits-room}
 use Rattle.judging.specs.declared.Judged.{Judged}
 use Rattle.judging.specs.declared.Judged.the-variants.{Granted, Denied}
 use Rattle.refusals.specs.declared.Denial.the-variants.{Early}
-use Rattle.judging.specs.Standings.{denialAs, judgedAs, tablesOf}
+use Rattle.judging.specs.Standings.{denialFor, judgedFor, ledgerOfTables}
 use Rattle.choosing.specs.Deciding.{Ready, admittingSet, setJudge, askSets}
 use Rattle.choosing.proofs.Deciding.{there-below, place-group, ready-few}
-use Rattle.asking.specs.Answers.{placeAs, numberAs, placeOr, nearAs, shownAs, Answers}
+use Rattle.asking.specs.Answers.{grantedPlace, judgedNumber, placeOr, deniedGroup, shownGroup, IsOutcome}
 
 -- what a walk finds passes
 first-true : (test : ℕ → Bool) (w n : ℕ) → firstIn test w n < w → test (firstIn test w n) ≡ true
@@ -49,12 +49,12 @@ first-true test (suc w) n h = pick (eqb (n % 2) 1 && test 0) refl (first-true (�
     pick true q f = rw q (and-right (eqb (n % 2) 1) (test 0) q)
     pick false q f = let l : suc next < suc w = rw q at h in rw q (f (omega arith))
 
-none-granted : (k : ℕ) (d : Denial) → Granted k ≡ Denied (denialAs d) → ⊥
+none-granted : (k : ℕ) (d : Denial) → Granted k ≡ Denied (denialFor d) → ⊥
 none-granted k d f = never (cc)
 
 -- a group that is found stands among those there are
 abbrev FoundIn : ℕ → Lowest → Type 0
-FoundIn n nobody = Unit {0}
+FoundIn n notFound = Unit {0}
 FoundIn n (group p g) = p < n
 
 -- .. and one that a denial names
@@ -76,12 +76,12 @@ placed-in gs k = pick (getElem? gs k) refl
     pick (some g) e = there-below gs k g e
 
 certified-in : (n : ℕ) (x y : Lowest) → FoundIn n x → FoundIn n y → NamedIn n (ofCertified x y)
-certified-in n nobody nobody p q = tt
-certified-in n nobody (group k g) p q = q
+certified-in n notFound notFound p q = tt
+certified-in n notFound (group k g) p q = q
 certified-in n (group j h) y p q = p
 
 judged-in : (n : ℕ) (d : Denial) (x : Lowest) → NamedIn n d → JudgedIn n (judgedBy d x)
-judged-in n d nobody p = p
+judged-in n d notFound p = p
 judged-in n d (group k g) p = tt
 
 set-judged-in : (l : Ledger) (km0 : Bytes) (gs : List Group) (c : ℕ) (r : Bytes) → JudgedIn (length gs) (setJudge l km0 gs c r)
@@ -106,7 +106,7 @@ module _ (l : Ledger) (km0 : Bytes) (gs : List Group) (c : ℕ) (r : Bytes) (fit
   abbrev left : ℕ → Bool
   left = unspentAt l (requestWith r []) gs
 
-  granted-found : (k : ℕ) → Granted k ≡ judgedAs (setJudge l km0 gs c r)
+  granted-found : (k : ℕ) → Granted k ≡ judgedFor (setJudge l km0 gs c r)
       → (g : Group) × (setJudge l km0 gs c r ≡ granted k g) × (getElem? gs k ≡ some g) × (unspent l k (requestWith r []) g ≡ true)
   unfolding setJudge judgedBySets
   granted-found k e = pick (tooEarly l (requestWith r [])) refl
@@ -117,7 +117,7 @@ module _ (l : Ledger) (km0 : Bytes) (gs : List Group) (c : ℕ) (r : Bytes) (fit
       f : ℕ
       f = firstIn left setBits both
 
-      found : (d : Denial) (o : Option Group) → getElem? gs f ≡ o → Granted k ≡ judgedAs (judgedBy d (placedAt f o))
+      found : (d : Denial) (o : Option Group) → getElem? gs f ≡ o → Granted k ≡ judgedFor (judgedBy d (placedAt f o))
           → (g : Group) × (judgedBy d (placedAt f o) ≡ granted k g) × (getElem? gs k ≡ some g) × (unspent l k (requestWith r []) g ≡ true)
       found d none p q = absurd (none-granted k d q)
       found d (some g) p q =
@@ -141,25 +141,25 @@ every-at P (y ∷ ys) (suc k) x h e = every-at P ys k x (h .1) e
 
 module _ (counts counters : List ℕ) (loaded last : ℕ) (km0 acl : Bytes) (bodies uses : List ℕ) (working recovery c : ℕ) (r : Bytes) (ready : Ready acl bodies uses working recovery) where
   abbrev tables : Ledger
-  tables = tablesOf counts counters loaded last
+  tables = ledgerOfTables counts counters loaded last
 
   fits : length (aclOf acl) ≤ setBits
   fits = let h = ready-few acl bodies uses working recovery ready in omega arith
 
   -- the code's answer is of a group that grants
-  granting : (j : Judged) (k : ℕ) → j ≡ judgedAs (setJudge tables km0 (aclOf acl) c r) → k ≡ placeAs j → k < groupsMax → Granted k ≡ judgedAs (setJudge tables km0 (aclOf acl) c r)
+  granting : (j : Judged) (k : ℕ) → j ≡ judgedFor (setJudge tables km0 (aclOf acl) c r) → k ≡ grantedPlace j → k < groupsMax → Granted k ≡ judgedFor (setJudge tables km0 (aclOf acl) c r)
   granting (Granted i) k e p h = ap Granted p ∙ e
   granting (Denied d) k e p h = absurd (omega arith)
 
-  granted-below : (k : ℕ) → Granted k ≡ judgedAs (setJudge tables km0 (aclOf acl) c r) → k < groupsMax
+  granted-below : (k : ℕ) → Granted k ≡ judgedFor (setJudge tables km0 (aclOf acl) c r) → k < groupsMax
   granted-below k e =
       let g = granted-found tables km0 (aclOf acl) c r fits k e in
       let a = there-below (aclOf acl) k (g .0) (g .2) in
       let b = ready-few acl bodies uses working recovery ready in
       omega arith
 
-  module _ (j : Judged) (k : ℕ) (told : j ≡ judgedAs (setJudge tables km0 (aclOf acl) c r)) (place-is : k ≡ placeAs j) (below : k < groupsMax) where
-    e : Granted k ≡ judgedAs (setJudge tables km0 (aclOf acl) c r)
+  module _ (j : Judged) (k : ℕ) (told : j ≡ judgedFor (setJudge tables km0 (aclOf acl) c r)) (place-is : k ≡ grantedPlace j) (below : k < groupsMax) where
+    e : Granted k ≡ judgedFor (setJudge tables km0 (aclOf acl) c r)
     e = granting j k told place-is below
 
     pub granted-count : getD counts k 0 < fullCount
@@ -178,8 +178,8 @@ module _ (counts counters : List ℕ) (loaded last : ℕ) (km0 acl : Bytes) (bod
 
     pub answered-permit : (laid : Bool) (counts′ counters′ : List ℕ) (time n place after : ℕ) → laid ≡ standsAlone r → not laid ≡ false → time ≡ number 56 8 r
         → counts′ ≡ raised counts k counts → counters′ ≡ raisedBy counters (limitsOf (records (drop (getD bodies k 0) acl))) counters → n ≡ 0 → place ≡ k → after ≡ time
-        → Answers (askSets km0 (aclOf acl) c tables r) counts′ counters′ loaded n place after
-    unfolding askSets requestRecordFault charge answerOf
+        → IsOutcome (askSets km0 (aclOf acl) c tables r) counts′ counters′ loaded n place after
+    unfolding askSets requestRecordFault charge bytesOfAnswer
     answered-permit laid counts′ counters′ time n place after t h s a b x y z =
         let g = granted-found tables km0 (aclOf acl) c r fits k e in
         let p = place-group acl bodies (ready .places) k (g .0) (g .2) .0 in
@@ -187,43 +187,43 @@ module _ (counts counters : List ℕ) (loaded last : ℕ) (km0 acl : Bytes) (bod
         let laid-out : standsAlone r ≡ true = sym t ∙ not-false laid h in
         rw (laid-out, g .1, a, m, x, y, z, s) (record { ledger = refl; answer = refl })
 
-  pub answered-denied : (j : Judged) (laid : Bool) (k m i n place after : ℕ) → j ≡ judgedAs (setJudge tables km0 (aclOf acl) c r) → laid ≡ standsAlone r → not laid ≡ false
-      → k ≡ placeAs j → groupsMax ≤ k → m ≡ numberAs j → i ≡ nearAs j → n ≡ m → place ≡ shownAs i → after ≡ last
-      → Answers (askSets km0 (aclOf acl) c tables r) counts counters loaded n place after
-  unfolding askSets requestRecordFault answerOf shownAs
+  pub answered-denied : (j : Judged) (laid : Bool) (k m i n place after : ℕ) → j ≡ judgedFor (setJudge tables km0 (aclOf acl) c r) → laid ≡ standsAlone r → not laid ≡ false
+      → k ≡ grantedPlace j → groupsMax ≤ k → m ≡ judgedNumber j → i ≡ deniedGroup j → n ≡ m → place ≡ shownGroup i → after ≡ last
+      → IsOutcome (askSets km0 (aclOf acl) c tables r) counts counters loaded n place after
+  unfolding askSets requestRecordFault bytesOfAnswer shownGroup
   answered-denied j laid k m i n place after e t h a past w v x y z =
-      rw (laid-out, z) (pick (setJudge tables km0 (aclOf acl) c r) refl (set-judged-in tables km0 (aclOf acl) c r) (x ∙ w ∙ ap numberAs e) (y ∙ ap shownAs (v ∙ ap nearAs e)))
+      rw (laid-out, z) (pick (setJudge tables km0 (aclOf acl) c r) refl (set-judged-in tables km0 (aclOf acl) c r) (x ∙ w ∙ ap judgedNumber e) (y ∙ ap shownGroup (v ∙ ap deniedGroup e)))
     where
       laid-out : standsAlone r ≡ true
       laid-out = sym t ∙ not-false laid h
 
-      number-same : (d : Denial) → denialNumber (denialAs d) ≡ numberOf d
+      number-same : (d : Denial) → denialNumber (denialFor d) ≡ numberOf d
       number-same early = refl
       number-same unadmitted = refl
       number-same (uncertified p g) = refl
       number-same (exhausted p g) = refl
 
-      shows : (p : ℕ) → p < length (aclOf acl) → shownAs p ≡ p
+      shows : (p : ℕ) → p < length (aclOf acl) → shownGroup p ≡ p
       shows p q = let f = ready-few acl bodies uses working recovery ready in rw (lt-ltb p groupsMax (omega arith))
 
-      near-same : (d : Denial) → NamedIn (length (aclOf acl)) d → shownAs (placeOr (denialGroup (denialAs d))) ≡ groupOr (nearest d)
+      near-same : (d : Denial) → NamedIn (length (aclOf acl)) d → shownGroup (placeOr (denialGroup (denialFor d))) ≡ groupOr (nearest d)
       near-same early q = refl
       near-same unadmitted q = refl
       near-same (uncertified p g) q = shows p q
       near-same (exhausted p g) q = shows p q
 
-      pick : (v : Judgement) → setJudge tables km0 (aclOf acl) c r ≡ v → JudgedIn (length (aclOf acl)) v → n ≡ numberAs (judgedAs v) → place ≡ shownAs (nearAs (judgedAs v))
-          → Answers (settle tables (number 56 8 r) permitted v) counts counters loaded n place last
+      pick : (v : Judgement) → setJudge tables km0 (aclOf acl) c r ≡ v → JudgedIn (length (aclOf acl)) v → n ≡ judgedNumber (judgedFor v) → place ≡ shownGroup (deniedGroup (judgedFor v))
+          → IsOutcome (settle tables (number 56 8 r) permitted v) counts counters loaded n place last
       pick (granted p g) d u q f =
-          let s : Granted p ≡ judgedAs (setJudge tables km0 (aclOf acl) c r) = sym (ap judgedAs d) in
+          let s : Granted p ≡ judgedFor (setJudge tables km0 (aclOf acl) c r) = sym (ap judgedFor d) in
           let b = granted-below p s in
-          let i : k ≡ p = a ∙ ap placeAs (e ∙ sym s) in
+          let i : k ≡ p = a ∙ ap grantedPlace (e ∙ sym s) in
           absurd (omega arith)
       pick (denied d) w u q f = rw (q ∙ number-same d, f ∙ near-same d u) (record { ledger = refl; answer = refl })
 
-  pub answered-malformed : (laid : Bool) (n place after : ℕ) → laid ≡ standsAlone r → not laid ≡ true → n ≡ malformed → place ≡ shownAs groupsMax → after ≡ last
-      → Answers (askSets km0 (aclOf acl) c tables r) counts counters loaded n place after
-  unfolding askSets requestRecordFault answerOf shownAs
+  pub answered-malformed : (laid : Bool) (n place after : ℕ) → laid ≡ standsAlone r → not laid ≡ true → n ≡ malformed → place ≡ shownGroup groupsMax → after ≡ last
+      → IsOutcome (askSets km0 (aclOf acl) c tables r) counts counters loaded n place after
+  unfolding askSets requestRecordFault bytesOfAnswer shownGroup
   answered-malformed laid n place after t h x y z =
       let bad : standsAlone r ≡ false = sym t ∙ not-true laid h in
       rw (bad, x, y, z) (record { ledger = refl; answer = refl })
@@ -238,10 +238,10 @@ unfolding standsAlone
 is-laid-out r laid t h = and-left (requestLaidOut r) (not (announcesFile r)) (sym t ∙ not-false laid h)
 
 -- a group as an answer shows it
-pub shown-below : (k : ℕ) → k < groupsMax → k ≡ shownAs k
-unfolding shownAs
+pub shown-below : (k : ℕ) → k < groupsMax → k ≡ shownGroup k
+unfolding shownGroup
 shown-below k h = sym (rw (lt-ltb k groupsMax h))
 
-pub shown-past : (k : ℕ) → groupsMax ≤ k → noGroup ≡ shownAs k
-unfolding shownAs
+pub shown-past : (k : ℕ) → groupsMax ≤ k → noGroup ≡ shownGroup k
+unfolding shownGroup
 shown-past k h = sym (rw (le-ltb k groupsMax h))

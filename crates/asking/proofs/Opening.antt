@@ -13,15 +13,15 @@ use Rattle.rules.specs.Basics.{if_then_else_, Bytes, number}
 use Rattle.rules.specs.Acl.{Limit, Group}
 use Rattle.rules.specs.Request.{requestRecordFault, wantedOf}
 use Rattle.rules.specs.Ledger.{Ledger, raised, raisedBy, charge}
-use Rattle.rules.specs.Gate.{Judgement, granted, denied, early, tooEarly, permitted, settle, unlessFault}
+use Rattle.rules.specs.Gate.{Judgement, granted, denied, early, tooEarly, permitted, settle, outcomeUnless}
 use Rattle.rules.specs.Runs.{requestWith}
 use Rattle.rules.proofs.Laws.{never}
 use Rattle.rules.proofs.GroupSets.{judgedBySets, unspentAt}
-use Rattle.judging.specs.Standings.{tablesOf}
+use Rattle.judging.specs.Standings.{ledgerOfTables}
 use Rattle.choosing.specs.Deciding.{admittingSet, setJudge, askSets}
 use Rattle.choosing.specs.Opening.{NoLess, OpenFrom}
 use Rattle.choosing.proofs.Opening.{no-less-same, open-on}
-use Rattle.asking.specs.Answers.{Answers}
+use Rattle.asking.specs.Answers.{IsOutcome}
 
 -- a place of a table, after a store of no less
 stored : (ys : List ℕ) (c v i b : ℕ) → (i ≡ c → b ≤ v) → b ≤ getD ys i 0 → b ≤ getD (set ys c v) i 0
@@ -74,16 +74,16 @@ ask-grows km0 gs c l r = fault (requestRecordFault r)
     judged true e = same-grown l
     judged false e = settled (in-time (ltb (number 56 8 r) (l .loaded)) e) (judgedBySets gs (admittingSet km0 (wantedOf r none) gs) c (unspentAt l (requestWith r []) gs))
 
-    fault : (f : Option ℕ) → Grown l (unlessFault l f (settle l (number 56 8 r) permitted (setJudge l km0 gs c r)) .ledger)
+    fault : (f : Option ℕ) → Grown l (outcomeUnless l f (settle l (number 56 8 r) permitted (setJudge l km0 gs c r)) .ledger)
     fault none = judged (tooEarly l (requestWith r [])) refl
     fault (some n) = same-grown l
 
 pub open-next : (km0 : Bytes) (gs : List Group) (c o : ℕ) (r acl : Bytes) (bodies counts counters counts′ counters′ : List ℕ) (loaded before n place last : ℕ)
-    → Answers (askSets km0 gs c (tablesOf counts counters loaded before) r) counts′ counters′ loaded n place last
+    → IsOutcome (askSets km0 gs c (ledgerOfTables counts counters loaded before) r) counts′ counters′ loaded n place last
     → OpenFrom counts counters (before - loaded) acl bodies c o → OpenFrom counts′ counters′ (last - loaded) acl bodies c o
 open-next km0 gs c o r acl bodies counts counters counts′ counters′ loaded before n place last a h =
-    let l = tablesOf counts counters loaded before in
-    let g : Grown l (tablesOf counts′ counters′ loaded last) = subst (Grown l) (sym (a .ledger)) (ask-grows km0 gs c l r) in
+    let l = ledgerOfTables counts counters loaded before in
+    let g : Grown l (ledgerOfTables counts′ counters′ loaded last) = subst (Grown l) (sym (a .ledger)) (ask-grows km0 gs c l r) in
     let t = g .later in
     open-on counts counts′ counters counters′ (before - loaded) (last - loaded) acl bodies c o (g .counts) (g .counters) (omega arith) h
 

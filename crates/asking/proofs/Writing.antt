@@ -12,20 +12,20 @@ use Rattle.rules.specs.Basics.{Bytes, number}
 use Rattle.rules.specs.Acl.{Group}
 use Rattle.rules.specs.Request.{requestRecordFault}
 use Rattle.rules.specs.Ledger.{Ledger}
-use Rattle.rules.specs.Gate.{Outcome, Judgement, granted, denied, permitted, settle, unlessFault}
+use Rattle.rules.specs.Gate.{Outcome, Judgement, granted, denied, permitted, settle, outcomeUnless}
 use Rattle.rules.specs.Written.{bigEndian}
 use Rattle.rules.specs.Runs.{answerWith}
 use Rattle.rules.proofs.Rows.{recordsFrom, lentRecord, rows-lent, rows-end}
 use Rattle.rules.proofs.Asking.{Running, overAt, writing, length-over}
 use Rattle.theorems.proofs.Tables.{Sized, charge-sized}
-use Rattle.judging.specs.Standings.{tablesOf}
+use Rattle.judging.specs.Standings.{ledgerOfTables}
 use Rattle.choosing.specs.Deciding.{setJudge, askSets}
-use Rattle.asking.specs.Answers.{Answers}
+use Rattle.asking.specs.Answers.{IsOutcome}
 
 -- The turns of a loop over the requests of a run.
 module _ (ask : Ledger → Bytes → Outcome) (requests : Bytes) (x : Running) (l : Ledger) (buf : Bytes) (out at : ℕ) (inv : writing ask l buf out (recordsFrom requests at) ≡ x) where
-  pub writing-next : (counts counters : List ℕ) (loaded n place last : ℕ) (after : Bytes) → 64 ≤ length requests - at → Answers (ask l (lentRecord requests at)) counts counters loaded n place last
-      → after ≡ overAt out (answerWith n place) buf → writing ask (tablesOf counts counters loaded last) after (out + 8) (recordsFrom requests (at + 64)) ≡ x
+  pub writing-next : (counts counters : List ℕ) (loaded n place last : ℕ) (after : Bytes) → 64 ≤ length requests - at → IsOutcome (ask l (lentRecord requests at)) counts counters loaded n place last
+      → after ≡ overAt out (answerWith n place) buf → writing ask (ledgerOfTables counts counters loaded last) after (out + 8) (recordsFrom requests (at + 64)) ≡ x
   unfolding writing
   writing-next counts counters loaded n place last after h a d = rw (a .ledger, d, a .answer) (sym (ap (writing ask l buf out) (rows-lent requests at h)) ∙ inv)
 
@@ -85,14 +85,14 @@ ask-sized km0 gs c l r h = fault (requestRecordFault r)
     settled (granted k g) = charge-sized l k g (number 56 8 r) h
     settled (denied d) = h
 
-    fault : (f : Option ℕ) → Sized (unlessFault l f (settle l (number 56 8 r) permitted (setJudge l km0 gs c r)) .ledger)
+    fault : (f : Option ℕ) → Sized (outcomeUnless l f (settle l (number 56 8 r) permitted (setJudge l km0 gs c r)) .ledger)
     fault none = settled (setJudge l km0 gs c r)
     fault (some n) = h
 
 module _ (km0 : Bytes) (gs : List Group) (c : ℕ) (r : Bytes) (counts counters counts′ counters′ : List ℕ) (loaded before n place last : ℕ)
-    (a : Answers (askSets km0 gs c (tablesOf counts counters loaded before) r) counts′ counters′ loaded n place last) (g : length counts ≡ groupsMax) (h : length counters ≡ countersMax) where
-  answers-sized : Sized (tablesOf counts′ counters′ loaded last)
-  answers-sized = subst Sized (sym (a .ledger)) (ask-sized km0 gs c (tablesOf counts counters loaded before) r (record { groups = g; named = h }))
+    (a : IsOutcome (askSets km0 gs c (ledgerOfTables counts counters loaded before) r) counts′ counters′ loaded n place last) (g : length counts ≡ groupsMax) (h : length counters ≡ countersMax) where
+  answers-sized : Sized (ledgerOfTables counts′ counters′ loaded last)
+  answers-sized = subst Sized (sym (a .ledger)) (ask-sized km0 gs c (ledgerOfTables counts counters loaded before) r (record { groups = g; named = h }))
 
   pub counts-sized : length counts′ ≡ groupsMax
   counts-sized = answers-sized .groups

@@ -8,21 +8,21 @@ use Rattle.rules.specs.Sizes.{groupsMax}
 use Rattle.rules.specs.Numbers.{noGroup}
 use Rattle.rules.specs.Basics.{if_then_else_}
 use Rattle.rules.specs.Gate.{Outcome}
-use Rattle.rules.specs.Runs.{answerWith, answerOf}
+use Rattle.rules.specs.Runs.{answerWith, bytesOfAnswer}
 use Rattle.refusals.specs.Refusals.{denialNumber, denialGroup}
 use Rattle.judging.specs.declared.Judged.{Judged}
 use Rattle.judging.specs.declared.Judged.the-variants.{Granted, Denied}
-use Rattle.judging.specs.Standings.{tablesOf}
+use Rattle.judging.specs.Standings.{ledgerOfTables}
 
 -- the group that grants, by the code's answer; past the last place where none does
-abbrev pub placeAs : Judged → ℕ
-placeAs (Granted k) = k
-placeAs (Denied d) = groupsMax
+abbrev pub grantedPlace : Judged → ℕ
+grantedPlace (Granted k) = k
+grantedPlace (Denied d) = groupsMax
 
 -- the number of a judgement; a group that grants has none
-abbrev pub numberAs : Judged → ℕ
-numberAs (Granted k) = 0
-numberAs (Denied d) = denialNumber d
+abbrev pub judgedNumber : Judged → ℕ
+judgedNumber (Granted k) = 0
+judgedNumber (Denied d) = denialNumber d
 
 -- a group that is named; past the last place where none is
 abbrev pub placeOr : Option ℕ → ℕ
@@ -30,15 +30,15 @@ placeOr none = groupsMax
 placeOr (some k) = k
 
 -- the group that a judgement names with a denial
-abbrev pub nearAs : Judged → ℕ
-nearAs (Granted k) = groupsMax
-nearAs (Denied d) = placeOr (denialGroup d)
+abbrev pub deniedGroup : Judged → ℕ
+deniedGroup (Granted k) = groupsMax
+deniedGroup (Denied d) = placeOr (denialGroup d)
 
 -- "all ones where none is named": a group as an answer shows it
-unfoldable pub shownAs : ℕ → ℕ
-shownAs k = if ltb k groupsMax then k else noGroup
+unfoldable pub shownGroup : ℕ → ℕ
+shownGroup k = if ltb k groupsMax then k else noGroup
 
 -- the tables, the last time, the number and the group are those of an outcome
-pub record Answers (o : Outcome) (counts counters : List ℕ) (loaded number place last : ℕ) : Type 0 where
-  pub ledger : tablesOf counts counters loaded last ≡ o .ledger
-  pub answer : answerWith number place ≡ answerOf (o .answer)
+pub record IsOutcome (o : Outcome) (counts counters : List ℕ) (loaded number place last : ℕ) : Type 0 where
+  pub ledger : ledgerOfTables counts counters loaded last ≡ o .ledger
+  pub answer : answerWith number place ≡ bytesOfAnswer (o .answer)

@@ -4,7 +4,7 @@ use mathlib.Core.List.{List}
 use mathlib.Core.Path.{_≡_}
 use Rattle.rules.specs.Basics.{Bytes}
 use Rattle.rules.proofs.Asking.{Running}
-use Rattle.judging.specs.Standings.{tablesOf}
+use Rattle.judging.specs.Standings.{ledgerOfTables}
 
 abbrev pub Wrote : List ℕ → List ℕ → ℕ → ℕ → Bytes → Running → Type 0
-Wrote counts counters loaded last buffer w = record { ledger = tablesOf counts counters loaded last; buffer = buffer } ≡ w
+Wrote counts counters loaded last buffer w = record { ledger = ledgerOfTables counts counters loaded last; buffer = buffer } ≡ w

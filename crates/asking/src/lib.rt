@@ -13,12 +13,12 @@ ghost use Rattle.rules.specs.Written.{bigEndian};
 ghost use Rattle.rules.specs.Runs.{answerWith};
 ghost use Rattle.rules.proofs.Asking.{overAt, writing};
 ghost use Rattle.prepared.specs.Places.{Inside};
-ghost use Rattle.judging.specs.Standings.{tablesOf};
+ghost use Rattle.judging.specs.Standings.{ledgerOfTables};
 ghost use Rattle.choosing.specs.Deciding.{Ready, askSets};
 ghost use Rattle.choosing.specs.Opening.{OpenFrom};
 ghost use Rattle.refusals.specs.Refusals.{denialGroup};
 ghost use Rattle.charging.specs.Charges.{Chargeable};
-ghost use Rattle.asking.specs.Answers.{placeAs, numberAs, placeOr, nearAs, shownAs, Answers};
+ghost use Rattle.asking.specs.Answers.{grantedPlace, judgedNumber, placeOr, deniedGroup, shownGroup, IsOutcome};
 ghost use Rattle.asking.specs.Written.{Wrote};
 use choosing::Sets;
 use judging::Judged;
@@ -52,7 +52,7 @@ struct Answered {
 
 // The group that grants; past the last place where none does.
 fn group_of(judged: Judged) -> usize
-    ensures { λ r. ⌜ r ≡ placeAs judged ⌝ }
+    ensures { λ r. ⌜ r ≡ grantedPlace judged ⌝ }
 {
     match judged {
         Judged::Granted(k) => k,
@@ -62,7 +62,7 @@ fn group_of(judged: Judged) -> usize
 
 // The number of a judgement; 0 where a group grants.
 fn number_of(judged: Judged) -> u32
-    ensures { λ r. ⌜ r ≡ numberAs judged ⌝ }
+    ensures { λ r. ⌜ r ≡ judgedNumber judged ⌝ }
 {
     match judged {
         Judged::Granted(_) => 0,
@@ -84,7 +84,7 @@ fn denial_near(denial: Denial) -> usize
 
 // .. of a judgement.
 fn near_of(judged: Judged) -> usize
-    ensures { λ r. ⌜ r ≡ nearAs judged ⌝ }
+    ensures { λ r. ⌜ r ≡ deniedGroup judged ⌝ }
 {
     match judged {
         Judged::Granted(_) => sizes::GROUPS,
@@ -94,7 +94,7 @@ fn near_of(judged: Judged) -> usize
 
 // A group as an answer shows it: all ones past the last place.
 fn shown(near: usize) -> u32
-    ensures { λ r. ⌜ r ≡ shownAs near ⌝ }
+    ensures { λ r. ⌜ r ≡ shownGroup near ⌝ }
 {
     if near < sizes::GROUPS {
         return near as u32;
@@ -104,7 +104,7 @@ fn shown(near: usize) -> u32
 
 // A refusal: the last time stands.
 fn refusal(number: u32, near: usize, last: u64) -> Answered
-    ensures { λ r. ⌜ (r .number ≡ number) × (r .group ≡ shownAs near) × (r .last ≡ last) ⌝ }
+    ensures { λ r. ⌜ (r .number ≡ number) × (r .group ≡ shownGroup near) × (r .last ≡ last) ⌝ }
 {
     Answered {
         number,
@@ -115,7 +115,7 @@ fn refusal(number: u32, near: usize, last: u64) -> Answered
 
 // The answer of a malformed record: 2, and no group.
 fn bad_record(last: u64) -> Answered
-    ensures { λ r. ⌜ (r .number ≡ malformed) × (r .group ≡ shownAs groupsMax) × (r .last ≡ last) ⌝ }
+    ensures { λ r. ⌜ (r .number ≡ malformed) × (r .group ≡ shownGroup groupsMax) × (r .last ≡ last) ⌝ }
 {
     let number = refusals::number(Refusal::Malformed) as u32;
     refusal(number, sizes::GROUPS, last)
@@ -159,7 +159,7 @@ fn answer_one(
     rec: &[u8],
 ) -> Answered
     requires { ⌜ Ready (now acl) (now bodies) (now uses) (sets .working) (sets .recovery) × (length (now counts) ≡ groupsMax) × (length (now counters) ≡ countersMax) × (length (now rec) ≡ recordBytes) × OpenFrom (now counts) (now counters) (last - loaded) (now acl) (now bodies) (sets .certified) unspent ⌝ }
-    ensures { λ r. ⌜ Answers (askSets (now (km0 .entry)) (aclOf (now (acl .entry))) (sets .certified) (tablesOf (now (counts .entry)) (now (counters .entry)) loaded last) (now (rec .entry))) (now (counts .exit)) (now (counters .exit)) loaded (r .number) (r .group) (r .last) ⌝ }
+    ensures { λ r. ⌜ IsOutcome (askSets (now (km0 .entry)) (aclOf (now (acl .entry))) (sets .certified) (ledgerOfTables (now (counts .entry)) (now (counters .entry)) loaded last) (now (rec .entry))) (now (counts .exit)) (now (counters .exit)) loaded (r .number) (r .group) (r .last) ⌝ }
 {
     if !stands_alone(rec) {
         return bad_record(last);
@@ -221,7 +221,7 @@ fn ask_records(
     buf: &mut [u8],
 ) -> u64
     requires { ⌜ Ready (now acl) (now bodies) (now uses) (sets .working) (sets .recovery) × (length (now counts) ≡ groupsMax) × (length (now counters) ≡ countersMax) × (length (now requests) ≤ preparedRecords * recordBytes) × (length (now requests) / recordBytes * answerBytes ≤ length (now buf)) × OpenFrom (now counts) (now counters) (before - loaded) (now acl) (now bodies) (sets .certified) unspent ⌝ }
-    ensures { λ r. ⌜ Wrote (now (counts .exit)) (now (counters .exit)) loaded r (now (buf .exit)) (writing (askSets (now (km0 .entry)) (aclOf (now (acl .entry))) (sets .certified)) (tablesOf (now (counts .entry)) (now (counters .entry)) loaded before) (now (buf .entry)) 0 (records (now (requests .entry)))) ⌝ }
+    ensures { λ r. ⌜ Wrote (now (counts .exit)) (now (counters .exit)) loaded r (now (buf .exit)) (writing (askSets (now (km0 .entry)) (aclOf (now (acl .entry))) (sets .certified)) (ledgerOfTables (now (counts .entry)) (now (counters .entry)) loaded before) (now (buf .entry)) 0 (records (now (requests .entry)))) ⌝ }
 {
     let mut last = before;
     let mut at = 0;
@@ -274,7 +274,7 @@ pub fn run_records(
     buf: &mut [u8],
 ) -> u64
     requires { ⌜ Ready (now acl) (now bodies) (now uses) (sets .working) (sets .recovery) × (length (now counts) ≡ groupsMax) × (length (now counters) ≡ countersMax) × (length (now requests) ≤ preparedRecords * recordBytes) × (length (now requests) / recordBytes * answerBytes ≤ length (now buf)) ⌝ }
-    ensures { λ r. ⌜ Wrote (now (counts .exit)) (now (counters .exit)) loaded r (now (buf .exit)) (writing (askSets (now (km0 .entry)) (aclOf (now (acl .entry))) (sets .certified)) (tablesOf (now (counts .entry)) (now (counters .entry)) loaded before) (now (buf .entry)) 0 (records (now (requests .entry)))) ⌝ }
+    ensures { λ r. ⌜ Wrote (now (counts .exit)) (now (counters .exit)) loaded r (now (buf .exit)) (writing (askSets (now (km0 .entry)) (aclOf (now (acl .entry))) (sets .certified)) (ledgerOfTables (now (counts .entry)) (now (counters .entry)) loaded before) (now (buf .entry)) 0 (records (now (requests .entry)))) ⌝ }
 {
     let since = seconds_used(loaded, before);
     let certified = sets.certified;

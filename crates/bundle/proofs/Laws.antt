@@ -75,11 +75,11 @@ module _ (r : Bytes) (order again : ℕ) (e : order ≡ orderOf r) (f : again �
 
   -- the fault of a record, by its two tests
   module _ (last listed : ℕ) (t : Bool) (p : t ≡ bundleInPlace last r) (h : listed ≤ listedMax) where
-    pub bundle-full : not t ≡ false → listedMax < listed + again → bundleRecordFault (record { last = last; listed = listed }) r ≡ some tooMany
+    pub bundle-full : not t ≡ false → listedMax < listed + again → bundleRecordFault (record { last = last; listedCount = listed }) r ≡ some tooMany
     unfolding bundleRecordFault recordFault firstFault
     bundle-full n l = rw (sym p ∙ not-false t n, sym (room-is listed h) ∙ lt-leb (listed + again) listedMax l)
 
-    pub bundle-sound : not t ≡ false → listed + again ≤ listedMax → bundleRecordFault (record { last = last; listed = listed }) r ≡ none
+    pub bundle-sound : not t ≡ false → listed + again ≤ listedMax → bundleRecordFault (record { last = last; listedCount = listed }) r ≡ none
     unfolding bundleRecordFault recordFault firstFault
     bundle-sound n l = rw (sym p ∙ not-false t n, sym (room-is listed h) ∙ le-leb (listed + again) listedMax l)
 
@@ -88,8 +88,8 @@ unfolding bundleRecordFault recordFault firstFault
 bundle-bad r s t p n = rw (sym p ∙ not-true t n)
 
 -- where reading stands after a record, from its two numbers
-pub bundle-next : (s : BundlePlace) (r : Bytes) (last listed : ℕ) → last ≡ orderOf r → listed ≡ listedAfter (s .listed) r
-    → _≡_ {A = BundlePlace} (record { last = last; listed = listed }) (afterBundleRecord s r)
+pub bundle-next : (s : BundlePlace) (r : Bytes) (last listed : ℕ) → last ≡ orderOf r → listed ≡ listedAfter (s .listedCount) r
+    → _≡_ {A = BundlePlace} (record { last = last; listedCount = listed }) (afterBundleRecord s r)
 bundle-next s r last listed e d = rw (e, d)
 
 -- the end of a bundle

@@ -6,7 +6,7 @@ ghost use lib.Dec.{eqb};
 ghost use Rattle.rules.specs.Sizes.{recordBytes};
 ghost use Rattle.rules.specs.Basics.{if_then_else_, records};
 ghost use Rattle.rules.specs.Bundle.{orderOf, listedOrder, bundleRecordLaidOut, bundleInPlace, bundleFault};
-ghost use Rattle.files.specs.Faults.{faultOf};
+ghost use Rattle.files.specs.Faults.{faultAs};
 use files::Checked;
 use refusals::Refusal;
 
@@ -72,7 +72,7 @@ fn in_place(last: u16, here: u16, again: u16, rec: &[u8]) -> bool
 
 // The first fault of a bundle's records, from the first on; 2 before 3 within a record; a bundle without a policy gives 2 at its end.
 pub fn bundle_records(bundle: &[u8]) -> Checked
-    ensures { λ r. ⌜ faultOf r ≡ bundleFault (records (now (bundle .entry))) ⌝ }
+    ensures { λ r. ⌜ faultAs r ≡ bundleFault (records (now (bundle .entry))) ⌝ }
 {
     let mut last = 0;
     let mut listed = 0;

@@ -19,13 +19,13 @@ use Rattle.rules.specs.Cabinet as rules
 use Rattle.gate.specs.Outcomes.{Settles}
 use Rattle.gate.proofs.Settling.{settles-refused}
 use Rattle.cabinet.specs.declared.Slot.{Slot}
-use Rattle.cabinet.specs.Kept.{slotOf, placeOf, ifThere}
+use Rattle.cabinet.specs.Kept.{slotAs, slotPlace, ifThere}
 
 -- the place of a slot's number, and of one that is none
-pub place-of : (slot r : ℕ) → slot < slotsMax → r ≡ slot → (r < slotsMax) × (r ≡ placeOf slot)
+pub place-of : (slot r : ℕ) → slot < slotsMax → r ≡ slot → (r < slotsMax) × (r ≡ slotPlace slot)
 place-of slot r h e = (rw e h, e ∙ sym (rw (lt-ltb slot slotsMax h)))
 
-pub place-past : (slot r : ℕ) → slotsMax ≤ slot → r ≡ 0 → (r < slotsMax) × (r ≡ placeOf slot)
+pub place-past : (slot r : ℕ) → slotsMax ≤ slot → r ≡ 0 → (r < slotsMax) × (r ≡ slotPlace slot)
 place-past slot r h e = (omega (arith, e), e ∙ sym (rw (le-ltb slot slotsMax h)))
 
 -- a call where there is a slot, and where there is none: that one charges nothing
@@ -38,18 +38,18 @@ module _ (l : Ledger) (gs : List Group) (time : ℕ) (after : Answer → List �
 
 -- the ledger made of a slot and the counters
 pub ledger-made : (xs : List Slot) (counters : List ℕ) (k : ℕ)
-    → rules.ledgerWith (slotOf (getD xs k (record { counts = []; loaded = 0; last = 0 }))) counters ≡ rules.ledgerAt (record { slots = map slotOf xs; counters = counters }) k
-ledger-made xs counters k = ap (λ (s : rules.Slot). rules.ledgerWith s counters) (sym (List·getD-map slotOf xs k (record { counts = []; loaded = 0; last = 0 })))
+    → rules.ledgerWith (slotAs (getD xs k (record { counts = []; loaded = 0; last = 0 }))) counters ≡ rules.ledgerAt (record { slots = map slotAs xs; counters = counters }) k
+ledger-made xs counters k = ap (λ (s : rules.Slot). rules.ledgerWith s counters) (sym (List·getD-map slotAs xs k (record { counts = []; loaded = 0; last = 0 })))
 
-slot-written : (xs : List Slot) (k : ℕ) (x : Slot) → map slotOf (set xs k x) ≡ set (map slotOf xs) k (slotOf x)
+slot-written : (xs : List Slot) (k : ℕ) (x : Slot) → map slotAs (set xs k x) ≡ set (map slotAs xs) k (slotAs x)
 slot-written [] k x = refl
 slot-written (y ∷ ys) zero x = refl
-slot-written (y ∷ ys) (suc k) x = ap (λ (zs : List rules.Slot). slotOf y ∷ zs) (slot-written ys k x)
+slot-written (y ∷ ys) (suc k) x = ap (λ (zs : List rules.Slot). slotAs y ∷ zs) (slot-written ys k x)
 
 -- the cabinet with a ledger put back
 pub ledger-handed : (xs : List Slot) (counters after : List ℕ) (k : ℕ) (x : Slot)
-    → let r : rules.Cabinet = record { slots = map slotOf (set xs k x); counters = after } in
-    r ≡ rules.putBack (record { slots = map slotOf xs; counters = counters }) k (rules.ledgerWith (slotOf x) after)
+    → let r : rules.Cabinet = record { slots = map slotAs (set xs k x); counters = after } in
+    r ≡ rules.putBack (record { slots = map slotAs xs; counters = counters }) k (rules.ledgerWith (slotAs x) after)
 ledger-handed xs counters after k x = ap (λ (ss : List rules.Slot). let r : rules.Cabinet = record { slots = ss; counters = after } in r) (slot-written xs k x)
 
 -- the cabinet with a slot written
@@ -57,10 +57,10 @@ abbrev outcome : Answer → List rules.Slot → List ℕ → rules.CabinetOutcom
 outcome answer slots counters = record { answer = answer; cabinet = record { slots = slots; counters = counters } }
 
 pub handed : (xs : List Slot) (counters after charged : List ℕ) (k : ℕ) (x : Slot) (answer : Answer) → after ≡ charged
-    → outcome answer (map slotOf (set xs k x)) after
-    ≡ rules.asGate (record { slots = map slotOf xs; counters = counters }) k (record { answer = answer; ledger = rules.ledgerWith (slotOf x) charged })
+    → outcome answer (map slotAs (set xs k x)) after
+    ≡ rules.asGate (record { slots = map slotAs xs; counters = counters }) k (record { answer = answer; ledger = rules.ledgerWith (slotAs x) charged })
 handed xs counters after charged k x answer e =
-    ap (λ (ss : List rules.Slot). outcome answer ss after) (slot-written xs k x) ∙ ap (outcome answer (set (map slotOf xs) k (slotOf x))) e
+    ap (λ (ss : List rules.Slot). outcome answer ss after) (slot-written xs k x) ∙ ap (outcome answer (set (map slotAs xs) k (slotAs x))) e
 
 -- a slot's ledger put back as it was
 put-back : (c : rules.Cabinet) (k : ℕ) → rules.putBack c k (rules.ledgerAt c k) ≡ c
@@ -68,22 +68,22 @@ put-back c k = ap (λ (ss : List rules.Slot). let d : rules.Cabinet = record { s
 
 -- A call is the gate's own in its slot, or 13.
 in-place : (c : rules.Cabinet) (slot : ℕ) (f : Ledger → Outcome)
-    → rules.asGate c (placeOf slot) (ifThere (ltb slot slotsMax) (rules.ledgerAt c (placeOf slot)) (f (rules.ledgerAt c (placeOf slot)))) ≡ rules.inSlot c slot (f (rules.ledgerAt c slot))
+    → rules.asGate c (slotPlace slot) (ifThere (ltb slot slotsMax) (rules.ledgerAt c (slotPlace slot)) (f (rules.ledgerAt c (slotPlace slot)))) ≡ rules.inSlot c slot (f (rules.ledgerAt c slot))
 in-place c slot f = pick (ltb slot slotsMax) refl
   where
     pick : (b : Bool) → ltb slot slotsMax ≡ b
-        → rules.asGate c (placeOf slot) (ifThere (ltb slot slotsMax) (rules.ledgerAt c (placeOf slot)) (f (rules.ledgerAt c (placeOf slot)))) ≡ rules.inSlot c slot (f (rules.ledgerAt c slot))
+        → rules.asGate c (slotPlace slot) (ifThere (ltb slot slotsMax) (rules.ledgerAt c (slotPlace slot)) (f (rules.ledgerAt c (slotPlace slot)))) ≡ rules.inSlot c slot (f (rules.ledgerAt c slot))
     pick true e = rw e
     pick false e = rw e (ap (λ (d : rules.Cabinet). let r : rules.CabinetOutcome = record { answer = refuse noSlot none; cabinet = d } in r) (put-back c 0))
 
 pub slot-called : (xs : List Slot) (counts counters : List ℕ) (slot at : ℕ) (there : Bool) (f : Ledger → Outcome) (o : Outcome) (r : rules.CabinetOutcome)
-    → let c : rules.Cabinet = record { slots = map slotOf xs; counters = counters } in
+    → let c : rules.Cabinet = record { slots = map slotAs xs; counters = counters } in
     let s : Slot = getD xs at (record { counts = []; loaded = 0; last = 0 }) in
     let l : Ledger = record { counts = counts; counters = counters; loaded = s .loaded; last = s .last } in
-    there ≡ ltb slot slotsMax → at ≡ placeOf slot → counts ≡ s .counts → o ≡ ifThere there l (f l) → r ≡ rules.asGate c at o
+    there ≡ ltb slot slotsMax → at ≡ slotPlace slot → counts ≡ s .counts → o ≡ ifThere there l (f l) → r ≡ rules.asGate c at o
     → r ≡ rules.inSlot c slot (f (rules.ledgerAt c slot))
 slot-called xs counts counters slot at there f o r t a k d p =
-    let c : rules.Cabinet = record { slots = map slotOf xs; counters = counters } in
+    let c : rules.Cabinet = record { slots = map slotAs xs; counters = counters } in
     let s : Slot = getD xs at (record { counts = []; loaded = 0; last = 0 }) in
     p
     ∙ ap (λ (x : Outcome). rules.asGate c at x)

@@ -9,26 +9,26 @@ use Rattle.rules.specs.Basics.{if_then_else_}
 use Rattle.rules.specs.Ledger.{Ledger}
 use Rattle.rules.specs.Gate.{Outcome, refused}
 use Rattle.rules.specs.Cabinet as rules
-use Rattle.charging.specs.Charges.{answerOf}
+use Rattle.charging.specs.Charges.{answerAs}
 use Rattle.cabinet.specs.declared.Slot.{Slot}
 use Rattle.cabinet.specs.declared.Cabinet.{Cabinet}
 use Rattle.cabinet.specs.declared.CabinetOutcome.{CabinetOutcome}
 
 -- a slot
-abbrev pub slotOf : Slot → rules.Slot
-slotOf s = record { counts = s .counts; loaded = s .loaded; last = s .last }
+abbrev pub slotAs : Slot → rules.Slot
+slotAs s = record { counts = s .counts; loaded = s .loaded; last = s .last }
 
 -- the cabinet
-abbrev pub cabinetOf : Cabinet → rules.Cabinet
-cabinetOf c = record { slots = map slotOf (c .slots); counters = c .counters }
+abbrev pub cabinetAs : Cabinet → rules.Cabinet
+cabinetAs c = record { slots = map slotAs (c .slots); counters = c .counters }
 
 -- what is handed back
-abbrev pub cabinetOutcomeOf : CabinetOutcome → rules.CabinetOutcome
-cabinetOutcomeOf o = record { answer = answerOf (o .reply); cabinet = cabinetOf (o .cabinet) }
+abbrev pub cabinetOutcomeAs : CabinetOutcome → rules.CabinetOutcome
+cabinetOutcomeAs o = record { answer = answerAs (o .reply); cabinet = cabinetAs (o .cabinet) }
 
 -- the place that a call reads and writes: the slot's, or 0 where there is no such slot
-abbrev pub placeOf : ℕ → ℕ
-placeOf slot = if ltb slot slotsMax then slot else 0
+abbrev pub slotPlace : ℕ → ℕ
+slotPlace slot = if ltb slot slotsMax then slot else 0
 
 -- a call on a slot's ledger, where there is such a slot; else 13, and the ledger stands
 abbrev pub ifThere : Bool → Ledger → Outcome → Outcome

@@ -7,14 +7,14 @@ ghost use lib.Dec.{ltb};
 ghost use Rattle.rules.specs.Sizes.{groupsMax, slotsMax};
 ghost use Rattle.rules.specs.Gate.{request, narrow, expand};
 ghost use Rattle.rules.specs.Cabinet.{freshCabinet, ledgerAt, putBack, asGate, cabinetRefused, cabinetLoad, cabinetClear, cabinetRequest, cabinetNarrow, cabinetExpand};
-ghost use Rattle.judging.specs.Standings.{tablesOf};
-ghost use Rattle.charging.specs.Charges.{answerOf, CountersRoom, countersCharged, countsCharged};
+ghost use Rattle.judging.specs.Standings.{ledgerOfTables};
+ghost use Rattle.charging.specs.Charges.{answerAs, CountersRoom, countersCharged, countsCharged};
 ghost use Rattle.carrying.specs.Carried.{countsAfter, noCounts};
-ghost use Rattle.gate.specs.Outcomes.{ledgerOf, narrowedCounts, Settles};
+ghost use Rattle.gate.specs.Outcomes.{ledgerAs, narrowedCounts, Settles};
 ghost use Rattle.rules.specs.Acl.{aclOf};
 ghost use Rattle.rules.specs.Request.{requestOf, hintsOf};
 ghost use Rattle.refusals.specs.Refusals.{refusalNumber};
-ghost use Rattle.cabinet.specs.Kept.{placeOf, ifThere, cabinetOf, cabinetOutcomeOf};
+ghost use Rattle.cabinet.specs.Kept.{slotPlace, ifThere, cabinetAs, cabinetOutcomeAs};
 use charging::Reply;
 use gate::Ledger;
 use refusals::Refusal;
@@ -50,7 +50,7 @@ fn is_slot(slot: usize) -> bool
 // The place that a call reads and writes: the slot's, or 0 where there is no such slot, and then what stands there is written back as it is. So a call to
 // no slot goes the way of all others: where two ways met, the whole cabinet would be copied once more.
 fn place(slot: usize) -> usize
-    ensures { λ r. ⌜ (r < slotsMax) × (r ≡ placeOf slot) ⌝ }
+    ensures { λ r. ⌜ (r < slotsMax) × (r ≡ slotPlace slot) ⌝ }
 {
     if Cabinet::SLOTS <= slot {
         return 0;
@@ -76,7 +76,7 @@ fn request_in<'a>(
     acl: &[u8],
     req: &[u8],
 ) -> Reply
-    ensures { λ r. ⌜ Settles (tablesOf (now (counts .entry)) (now (counters .entry)) loaded last) (aclOf (now (acl .entry))) (requestOf (now (req .entry)) .time) countsCharged (answerOf r) (ifThere there (tablesOf (now (counts .entry)) (now (counters .entry)) loaded last) (request (tablesOf (now (counts .entry)) (now (counters .entry)) loaded last) (now (km0 .entry)) (now (acl .entry)) (now (req .entry)))) ⌝ }
+    ensures { λ r. ⌜ Settles (ledgerOfTables (now (counts .entry)) (now (counters .entry)) loaded last) (aclOf (now (acl .entry))) (requestOf (now (req .entry)) .time) countsCharged (answerAs r) (ifThere there (ledgerOfTables (now (counts .entry)) (now (counters .entry)) loaded last) (request (ledgerOfTables (now (counts .entry)) (now (counters .entry)) loaded last) (now (km0 .entry)) (now (acl .entry)) (now (req .entry)))) ⌝ }
 {
     if !there {
         return Reply::Refuse(Refusal::NoSlot);
@@ -97,7 +97,7 @@ fn narrow_in<'a>(
     new: &[u8],
     hints: &[u8],
 ) -> Reply
-    ensures { λ r. ⌜ Settles (tablesOf (now (counts .entry)) (now (counters .entry)) loaded last) (aclOf (now (acl .entry))) (requestOf (now (req .entry)) .time) (narrowedCounts (hintsOf (now (hints .entry)))) (answerOf r) (ifThere there (tablesOf (now (counts .entry)) (now (counters .entry)) loaded last) (narrow (tablesOf (now (counts .entry)) (now (counters .entry)) loaded last) (now (km0 .entry)) (now (acl .entry)) (now (req .entry)) (now (new .entry)) (now (hints .entry)))) ⌝ }
+    ensures { λ r. ⌜ Settles (ledgerOfTables (now (counts .entry)) (now (counters .entry)) loaded last) (aclOf (now (acl .entry))) (requestOf (now (req .entry)) .time) (narrowedCounts (hintsOf (now (hints .entry)))) (answerAs r) (ifThere there (ledgerOfTables (now (counts .entry)) (now (counters .entry)) loaded last) (narrow (ledgerOfTables (now (counts .entry)) (now (counters .entry)) loaded last) (now (km0 .entry)) (now (acl .entry)) (now (req .entry)) (now (new .entry)) (now (hints .entry)))) ⌝ }
 {
     if !there {
         return Reply::Refuse(Refusal::NoSlot);
@@ -117,7 +117,7 @@ fn expand_in<'a>(
     req: &[u8],
     new: &[u8],
 ) -> Reply
-    ensures { λ r. ⌜ Settles (tablesOf (now (counts .entry)) (now (counters .entry)) loaded last) (aclOf (now (acl .entry))) (requestOf (now (req .entry)) .time) (countsAfter noCounts) (answerOf r) (ifThere there (tablesOf (now (counts .entry)) (now (counters .entry)) loaded last) (expand (tablesOf (now (counts .entry)) (now (counters .entry)) loaded last) (now (km0 .entry)) (now (acl .entry)) (now (req .entry)) (now (new .entry)))) ⌝ }
+    ensures { λ r. ⌜ Settles (ledgerOfTables (now (counts .entry)) (now (counters .entry)) loaded last) (aclOf (now (acl .entry))) (requestOf (now (req .entry)) .time) (countsAfter noCounts) (answerAs r) (ifThere there (ledgerOfTables (now (counts .entry)) (now (counters .entry)) loaded last) (expand (ledgerOfTables (now (counts .entry)) (now (counters .entry)) loaded last) (now (km0 .entry)) (now (acl .entry)) (now (req .entry)) (now (new .entry)))) ⌝ }
 {
     if !there {
         return Reply::Refuse(Refusal::NoSlot);
@@ -131,7 +131,7 @@ impl Cabinet {
 
     // The fresh cabinet: all zero.
     pub fn fresh() -> Self
-        ensures { λ r. ⌜ cabinetOf r ≡ freshCabinet ⌝ }
+        ensures { λ r. ⌜ cabinetAs r ≡ freshCabinet ⌝ }
     {
         let slot = Slot {
             counts: [0u32; Ledger::GROUPS],
@@ -147,7 +147,7 @@ impl Cabinet {
     // The ledger that the gate is handed for a slot.
     pub fn ledger(self, slot: usize) -> Ledger
         requires { ⌜ slot < slotsMax ⌝ }
-        ensures { λ r. ⌜ ledgerOf r ≡ ledgerAt (cabinetOf self) slot ⌝ }
+        ensures { λ r. ⌜ ledgerAs r ≡ ledgerAt (cabinetAs self) slot ⌝ }
     {
         let s = self.slots[slot];
         let counts = s.counts;
@@ -163,7 +163,7 @@ impl Cabinet {
     // The cabinet with the ledger that the gate handed back for a slot, put into its places.
     pub fn with_ledger(mut self, slot: usize, l: Ledger) -> Cabinet
         requires { ⌜ slot < slotsMax ⌝ }
-        ensures { λ r. ⌜ cabinetOf r ≡ putBack (cabinetOf self) slot (ledgerOf l) ⌝ }
+        ensures { λ r. ⌜ cabinetAs r ≡ putBack (cabinetAs self) slot (ledgerAs l) ⌝ }
     {
         let counts = l.counts;
         let counters = l.counters;
@@ -179,7 +179,7 @@ impl Cabinet {
 
     // A refusal: the cabinet stands.
     fn refuse(self, why: Refusal) -> CabinetOutcome
-        ensures { λ r. ⌜ cabinetOutcomeOf r ≡ cabinetRefused (cabinetOf self) (refusalNumber why) ⌝ }
+        ensures { λ r. ⌜ cabinetOutcomeAs r ≡ cabinetRefused (cabinetAs self) (refusalNumber why) ⌝ }
     {
         CabinetOutcome {
             cabinet: self,
@@ -198,8 +198,8 @@ impl Cabinet {
         reply: Reply,
         acl: &[u8],
     ) -> CabinetOutcome
-        requires { ⌜ (at < slotsMax) × CountersRoom (self .counters) (aclOf (now acl)) (answerOf reply) ⌝ }
-        ensures { λ r. ⌜ cabinetOutcomeOf r ≡ asGate (cabinetOf self) at (record { answer = answerOf reply; ledger = tablesOf counts (countersCharged (aclOf (now (acl .entry))) (answerOf reply) (self .counters)) loaded after }) ⌝ }
+        requires { ⌜ (at < slotsMax) × CountersRoom (self .counters) (aclOf (now acl)) (answerAs reply) ⌝ }
+        ensures { λ r. ⌜ cabinetOutcomeAs r ≡ asGate (cabinetAs self) at (record { answer = answerAs reply; ledger = ledgerOfTables counts (countersCharged (aclOf (now (acl .entry))) (answerAs reply) (self .counters)) loaded after }) ⌝ }
     {
         charging::charge_counters(&mut self.counters, reply, acl);
         let s = Slot {
@@ -216,7 +216,7 @@ impl Cabinet {
 
     // A load of a slot, at any time: its group counts zero, both times set to it.
     pub fn load(mut self, slot: usize, time: u64) -> CabinetOutcome
-        ensures { λ r. ⌜ cabinetOutcomeOf r ≡ cabinetLoad (cabinetOf self) slot time ⌝ }
+        ensures { λ r. ⌜ cabinetOutcomeAs r ≡ cabinetLoad (cabinetAs self) slot time ⌝ }
     {
         if Cabinet::SLOTS <= slot {
             return self.refuse(Refusal::NoSlot);
@@ -235,7 +235,7 @@ impl Cabinet {
 
     // A clear of one named counter: it takes no slot.
     pub fn clear(mut self, counter: usize) -> CabinetOutcome
-        ensures { λ r. ⌜ cabinetOutcomeOf r ≡ cabinetClear (cabinetOf self) counter ⌝ }
+        ensures { λ r. ⌜ cabinetOutcomeAs r ≡ cabinetClear (cabinetAs self) counter ⌝ }
     {
         if Ledger::COUNTERS <= counter {
             return self.refuse(Refusal::OutOfRange);
@@ -249,7 +249,7 @@ impl Cabinet {
 
     // A request to a slot. A refusal hands the cabinet back as it was.
     pub fn request(self, slot: usize, km0: &[u8], acl: &[u8], req: &[u8]) -> CabinetOutcome
-        ensures { λ r. ⌜ cabinetOutcomeOf r ≡ cabinetRequest (cabinetOf self) slot (now (km0 .entry)) (now (acl .entry)) (now (req .entry)) ⌝ }
+        ensures { λ r. ⌜ cabinetOutcomeAs r ≡ cabinetRequest (cabinetAs self) slot (now (km0 .entry)) (now (acl .entry)) (now (req .entry)) ⌝ }
     {
         let there = is_slot(slot);
         let at = place(slot);
@@ -273,7 +273,7 @@ impl Cabinet {
         new: &[u8],
         hints: &[u8],
     ) -> CabinetOutcome
-        ensures { λ r. ⌜ cabinetOutcomeOf r ≡ cabinetNarrow (cabinetOf self) slot (now (km0 .entry)) (now (acl .entry)) (now (req .entry)) (now (new .entry)) (now (hints .entry)) ⌝ }
+        ensures { λ r. ⌜ cabinetOutcomeAs r ≡ cabinetNarrow (cabinetAs self) slot (now (km0 .entry)) (now (acl .entry)) (now (req .entry)) (now (new .entry)) (now (hints .entry)) ⌝ }
     {
         let there = is_slot(slot);
         let at = place(slot);
@@ -308,7 +308,7 @@ impl Cabinet {
         req: &[u8],
         new: &[u8],
     ) -> CabinetOutcome
-        ensures { λ r. ⌜ cabinetOutcomeOf r ≡ cabinetExpand (cabinetOf self) slot (now (km0 .entry)) (now (acl .entry)) (now (req .entry)) (now (new .entry)) ⌝ }
+        ensures { λ r. ⌜ cabinetOutcomeAs r ≡ cabinetExpand (cabinetAs self) slot (now (km0 .entry)) (now (acl .entry)) (now (req .entry)) (now (new .entry)) ⌝ }
     {
         let there = is_slot(slot);
         let at = place(slot);

@@ -3,7 +3,7 @@ ghost use mathlib.Core.Path.{_≡_};
 ghost use lib.ListN.{length, getD, set};
 ghost use Rattle.rules.specs.Sizes.{groupsMax};
 ghost use Rattle.rules.specs.Request.{hintsOf};
-ghost use Rattle.charging.specs.Charges.{answerOf};
+ghost use Rattle.charging.specs.Charges.{answerAs};
 ghost use Rattle.carrying.specs.Carried.{carriedFrom, carriedOf, noCounts, countsAfter};
 use charging::Reply;
 
@@ -46,7 +46,7 @@ fn carry_all(table: &mut [u32; sizes::GROUPS], from: &[u32], hints: &[u8])
 // The counts that a narrowing leaves, where the reply permits: each new group takes its source's.
 pub fn carry_counts(counts: &mut [u32; sizes::GROUPS], reply: Reply, hints: &[u8])
     requires { ⌜ length (now counts) ≡ groupsMax ⌝ }
-    ensures { λ _. ⌜ now (counts .exit) ≡ countsAfter (carriedOf (hintsOf (now (hints .entry)))) (answerOf reply) (now (counts .entry)) ⌝ }
+    ensures { λ _. ⌜ now (counts .exit) ≡ countsAfter (carriedOf (hintsOf (now (hints .entry)))) (answerAs reply) (now (counts .entry)) ⌝ }
 {
     if !charging::permits(reply) {
         return;
@@ -58,7 +58,7 @@ pub fn carry_counts(counts: &mut [u32; sizes::GROUPS], reply: Reply, hints: &[u8
 
 // The counts that an expansion leaves, where the reply permits: all zero.
 pub fn zero_counts(counts: &mut [u32; sizes::GROUPS], reply: Reply)
-    ensures { λ _. ⌜ now (counts .exit) ≡ countsAfter noCounts (answerOf reply) (now (counts .entry)) ⌝ }
+    ensures { λ _. ⌜ now (counts .exit) ≡ countsAfter noCounts (answerAs reply) (now (counts .entry)) ⌝ }
 {
     if !charging::permits(reply) {
         return;

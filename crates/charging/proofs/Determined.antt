@@ -5,14 +5,14 @@ use Rattle.rules.specs.Gate as rulesGate
 use Rattle.refusals.proofs.Determined.{refusalBack, refusal-back, denialBack, denial-back, denies, refusal-not-denied, denial-denied}
 use Rattle.charging.specs.declared.Reply.{Reply}
 use Rattle.charging.specs.declared.Reply.the-variants.{Done, Permit, Refuse, Deny}
-use Rattle.charging.specs.Charges.{answerOf}
+use Rattle.charging.specs.Charges.{answerAs}
 
 abbrev pub replyBack : rulesGate.Answer → Reply
 replyBack rulesGate.done = Done
 replyBack (rulesGate.permit place) = Permit place
 replyBack (rulesGate.refuse n near) = if denies n then Deny (denialBack n near) else Refuse (refusalBack n)
 
-pub reply-back : (r : Reply) → replyBack (answerOf r) ≡ r
+pub reply-back : (r : Reply) → replyBack (answerAs r) ≡ r
 reply-back Done = refl
 reply-back (Permit place) = refl
 reply-back (Refuse r) = rw (refusal-not-denied r, refusal-back r)

@@ -15,15 +15,15 @@ use Rattle.rules.specs.Acl.{Limit, Group, aclOf, aclFault}
 use Rattle.rules.specs.Request.{Request}
 use Rattle.rules.specs.Ledger.{Ledger}
 use Rattle.rules.specs.Grant.{limitLeft, limitsLeft, groupAdmits, certified, unspent}
-use Rattle.rules.specs.Gate.{Answer, permit, refuse, Lowest, nobody, group, lowest, early, Judgement, granted, denied, grants, tooEarly, whyNot, judgedBy, judge}
+use Rattle.rules.specs.Gate.{Answer, permit, refuse, Lowest, notFound, group, lowest, early, Judgement, granted, denied, grants, tooEarly, whyNot, judgedBy, judge}
 use Rattle.rules.proofs.Laws.{never, and-left, and-right, and-both, implication}
 use Rattle.theorems.specs.Sizes.{Apart, GroupFits}
 use Rattle.theorems.proofs.AclSizes.{acl-fits}
 use Rattle.groups.specs.Parts.{firstLimits}
 use Rattle.judging.specs.declared.Judged.{Judged}
 use Rattle.judging.specs.declared.Judged.the-variants.{Granted, Denied}
-use Rattle.judging.specs.Standings.{denialAs, judgedAs}
-use Rattle.charging.specs.Charges.{limitHasRoom, Chargeable, permitIf, decided, CountersRoom, CountRoom}
+use Rattle.judging.specs.Standings.{denialFor, judgedFor}
+use Rattle.charging.specs.Charges.{limitNotFull, Chargeable, permitIf, decided, CountersRoom, CountRoom}
 
 -- of groups that fit, the limits of the one at a place name no counter twice
 first-apart : (k : ℕ) (gs : List Group) → Every GroupFits gs → Apart (firstLimits (drop k gs))
@@ -52,11 +52,11 @@ lowest-at test place (x ∷ xs) k g e = pick (test place x) refl (lowest-at test
         (suc (r .0), omega (arith, r .1), r .2, r .3)
 
 -- the counters that the limits of an unspent group name are not full
-pub limits-room : (counters : List ℕ) (own elapsed : ℕ) (ms : List Limit) → limitsLeft counters own elapsed ms ≡ true → all (limitHasRoom counters) ms ≡ true
-unfolding all limitLeft limitHasRoom
+pub limits-room : (counters : List ℕ) (own elapsed : ℕ) (ms : List Limit) → limitsLeft counters own elapsed ms ≡ true → all (limitNotFull counters) ms ≡ true
+unfolding all limitLeft limitNotFull
 limits-room counters own elapsed [] e = refl
 limits-room counters own elapsed (m ∷ ms) e =
-    and-both (limitHasRoom counters m) (all (limitHasRoom counters) ms)
+    and-both (limitNotFull counters m) (all (limitNotFull counters) ms)
     (implication (eqb (m .sort) 2) (ltb (getD counters (m .counter) 0) fullCount) one)
     (limits-room counters own elapsed ms (and-right (limitLeft counters own elapsed m) (all (limitLeft counters own elapsed) ms) e))
   where
@@ -74,7 +74,7 @@ module _ (l : Ledger) (km0 : Bytes) (gs : List Group) (q : Request) where
   judge-found k g e = pick (tooEarly l q) refl
     where
       low : (r : Lowest) → judgedBy (whyNot km0 gs q) r ≡ granted k g → r ≡ group k g
-      low nobody f = absurd (never (cc))
+      low notFound f = absurd (never (cc))
       low (group j x) f = let a : j ≡ k = cc in let b : x ≡ g = cc in rw (a, b)
 
       pick : (b : Bool) → tooEarly l q ≡ b → lowest (grants l km0 q) 0 gs ≡ group k g
@@ -82,15 +82,15 @@ module _ (l : Ledger) (km0 : Bytes) (gs : List Group) (q : Request) where
       pick false d = low (lowest (grants l km0 q) 0 gs) (rw d at e)
 
   -- what the code's answer says
-  granted-as : (k : ℕ) → Granted k ≡ judgedAs (judge l km0 gs q) → (g : Group) × (judge l km0 gs q ≡ granted k g)
+  granted-as : (k : ℕ) → Granted k ≡ judgedFor (judge l km0 gs q) → (g : Group) × (judge l km0 gs q ≡ granted k g)
   granted-as k e = pick (judge l km0 gs q) refl
     where
       pick : (j : Judgement) → judge l km0 gs q ≡ j → (g : Group) × (j ≡ granted k g)
-      pick (granted p g) d = let c : Granted k ≡ Granted p = e ∙ ap judgedAs d in let n : p ≡ k = cc in (g, ap (λ (z : ℕ). granted z g) n)
-      pick (denied x) d = let c : Granted k ≡ Denied (denialAs x) = e ∙ ap judgedAs d in absurd (never (cc))
+      pick (granted p g) d = let c : Granted k ≡ Granted p = e ∙ ap judgedFor d in let n : p ≡ k = cc in (g, ap (λ (z : ℕ). granted z g) n)
+      pick (denied x) d = let c : Granted k ≡ Denied (denialFor x) = e ∙ ap judgedFor d in absurd (never (cc))
 
   -- the group that grants has the limits that stand at its place
-  pub granted-limits : (k : ℕ) → Granted k ≡ judgedAs (judge l km0 gs q) → (g : Group) × (judge l km0 gs q ≡ granted k g) × (firstLimits (drop k gs) ≡ g .limits) × (grants l km0 q k g ≡ true)
+  pub granted-limits : (k : ℕ) → Granted k ≡ judgedFor (judge l km0 gs q) → (g : Group) × (judge l km0 gs q ≡ granted k g) × (firstLimits (drop k gs) ≡ g .limits) × (grants l km0 q k g ≡ true)
   granted-limits k e =
       let j = granted-as k e in
       let r = lowest-at (grants l km0 q) 0 gs k (j .0) (judge-found k (j .0) (j .1)) in
@@ -104,7 +104,7 @@ module _ (l : Ledger) (km0 : Bytes) (gs : List Group) (q : Request) where
       let own = getD (l .counts) k 0 in
       ltb-true own fullCount (and-left (ltb own fullCount) (limitsLeft (l .counters) own (q .time - l .loaded) (g .limits)) u)
 
-  charge-able : (k : ℕ) (ms : List Limit) → Every GroupFits gs → Granted k ≡ judgedAs (judge l km0 gs q) → ms ≡ firstLimits (drop k gs)
+  charge-able : (k : ℕ) (ms : List Limit) → Every GroupFits gs → Granted k ≡ judgedFor (judge l km0 gs q) → ms ≡ firstLimits (drop k gs)
       → (getD (l .counts) k 0 < fullCount) × Chargeable (l .counters) ms
   charge-able k ms f e m =
       let r = granted-limits k e in
@@ -117,7 +117,7 @@ module _ (l : Ledger) (km0 : Bytes) (gs : List Group) (q : Request) where
       )
 
 -- .. on an ACL without fault
-pub grant-able : (l : Ledger) (km0 acl : Bytes) (q : Request) (k : ℕ) (ms : List Limit) → aclFault (records acl) ≡ none → Granted k ≡ judgedAs (judge l km0 (aclOf acl) q)
+pub grant-able : (l : Ledger) (km0 acl : Bytes) (q : Request) (k : ℕ) (ms : List Limit) → aclFault (records acl) ≡ none → Granted k ≡ judgedFor (judge l km0 (aclOf acl) q)
     → ms ≡ firstLimits (drop k (aclOf acl)) → (getD (l .counts) k 0 < fullCount) × Chargeable (l .counters) ms
 grant-able l km0 acl q k ms f = charge-able l km0 (aclOf acl) q k ms (acl-fits acl f .each)
 
@@ -138,11 +138,11 @@ permit-place false k place e = absurd (never (cc))
 
 -- Where the answer permits, the group can be charged.
 module _ (l : Ledger) (km0 acl : Bytes) (q : Request) (shown : Bool) (j : Judged) (a : Answer) (sound : aclFault (records acl) ≡ none)
-    (e : j ≡ judgedAs (judge l km0 (aclOf acl) q)) (d : a ≡ decided shown j) where
-  permit-granted : (place : ℕ) → a ≡ permit place → Granted place ≡ judgedAs (judge l km0 (aclOf acl) q)
+    (e : j ≡ judgedFor (judge l km0 (aclOf acl) q)) (d : a ≡ decided shown j) where
+  permit-granted : (place : ℕ) → a ≡ permit place → Granted place ≡ judgedFor (judge l km0 (aclOf acl) q)
   permit-granted place p = pick j e (sym d ∙ p)
     where
-      pick : (x : Judged) → x ≡ judgedAs (judge l km0 (aclOf acl) q) → decided shown x ≡ permit place → Granted place ≡ judgedAs (judge l km0 (aclOf acl) q)
+      pick : (x : Judged) → x ≡ judgedFor (judge l km0 (aclOf acl) q) → decided shown x ≡ permit place → Granted place ≡ judgedFor (judge l km0 (aclOf acl) q)
       pick (Granted k) f g = ap Granted (sym (permit-place shown k place g)) ∙ f
       pick (Denied x) f g = absurd (never (cc))
 

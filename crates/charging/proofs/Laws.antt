@@ -16,7 +16,7 @@ use Rattle.rules.specs.Ledger.{raised, raisedBy}
 use Rattle.rules.proofs.Laws.{and-left, and-right}
 use Rattle.rules.proofs.Rows.{recordsFrom, lent-record}
 use Rattle.groups.proofs.Laws.{limits-step, limits-stop, limits-end}
-use Rattle.charging.specs.Charges.{hasRoom, limitHasRoom, Chargeable, raisedOnce}
+use Rattle.charging.specs.Charges.{counterNotFull, limitNotFull, Chargeable, raisedOnce}
 
 -- a place past the table changes nothing
 pub count-past : (counts : List ℕ) (place n : ℕ) → length counts ≡ n → n ≤ place → counts ≡ raised counts place counts
@@ -43,7 +43,7 @@ module _ (table : List ℕ) (sort counter : ℕ) where
       pick true = length-set table counter (getD table counter 0 + 1) ∙ l
       pick false = l
 
-pub room-left : (table : List ℕ) (sort counter : ℕ) → hasRoom table sort counter ≡ true → sort ≡ 2 → getD table counter 0 < fullCount
+pub room-left : (table : List ℕ) (sort counter : ℕ) → counterNotFull table sort counter ≡ true → sort ≡ 2 → getD table counter 0 < fullCount
 room-left table sort counter h e = ltb-true (getD table counter 0) fullCount (rw (eq-eqb sort 2 e) at h)
 
 -- the counters that limits name stand as they were before
@@ -52,14 +52,14 @@ Kept before table ms = (j : ℕ) (n : Limit) → getElem? ms j ≡ some n → n 
 
 -- Of limits that name no counter twice, the first raises its counter where it stands, and the counters of the others stand.
 module _ (before table : List ℕ) (m : Limit) (ms : List Limit) (able : Chargeable before (m ∷ ms)) (kept : Kept before table (m ∷ ms)) where
-  first-room : hasRoom table (m .sort) (m .counter) ≡ true
-  unfolding all limitHasRoom
+  first-room : counterNotFull table (m .sort) (m .counter) ≡ true
+  unfolding all limitNotFull
   first-room = pick (eqb (m .sort) 2) refl
     where
-      room : hasRoom before (m .sort) (m .counter) ≡ true
-      room = and-left (limitHasRoom before m) (all (limitHasRoom before) ms) (able .room)
+      room : counterNotFull before (m .sort) (m .counter) ≡ true
+      room = and-left (limitNotFull before m) (all (limitNotFull before) ms) (able .room)
 
-      pick : (b : Bool) → eqb (m .sort) 2 ≡ b → hasRoom table (m .sort) (m .counter) ≡ true
+      pick : (b : Bool) → eqb (m .sort) 2 ≡ b → counterNotFull table (m .sort) (m .counter) ≡ true
       pick true q = rw (kept zero m refl (eqb-true (m .sort) 2 q)) room
       pick false q = rw q
 
@@ -67,7 +67,7 @@ module _ (before table : List ℕ) (m : Limit) (ms : List Limit) (able : Chargea
   unfolding all
   others-able =
       record {
-        room = and-right (limitHasRoom before m) (all (limitHasRoom before) ms) (able .room);
+        room = and-right (limitNotFull before m) (all (limitNotFull before) ms) (able .room);
         apart = λ i j x y l d e. able .apart (suc i) (suc j) x y (omega arith) d e;
       }
 
@@ -128,7 +128,7 @@ module _ (before : List ℕ) (s : Bytes) (at : ℕ) (table : List ℕ) (r : Rais
     kept-here : Kept before table (m ∷ ms)
     kept-here = rw limits-at at (r .kept)
 
-    pub raising-room : hasRoom table (getD s (at + 4) 0) (getD s (at + 5) 0) ≡ true
+    pub raising-room : counterNotFull table (getD s (at + 4) 0) (getD s (at + 5) 0) ≡ true
     raising-room = rw (byte-at s at 4 (omega arith), byte-at s at 5 (omega arith)) at (first-room before table m ms able-here kept-here)
 
     pub raising-next : (next : List ℕ) → next ≡ raisedOnce table (getD s (at + 4) 0) (getD s (at + 5) 0) → Raising before s (at + 64) next

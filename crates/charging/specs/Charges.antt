@@ -21,23 +21,23 @@ use Rattle.charging.specs.declared.Reply.{Reply}
 use Rattle.charging.specs.declared.Reply.the-variants.{Done, Permit, Refuse, Deny}
 
 -- a reply, by document 01's numbers
-abbrev pub answerOf : Reply → rulesGate.Answer
-answerOf Done = rulesGate.done
-answerOf (Permit place) = rulesGate.permit place
-answerOf (Refuse r) = rulesGate.refuse (refusalNumber r) none
-answerOf (Deny d) = rulesGate.refuse (denialNumber d) (denialGroup d)
+abbrev pub answerAs : Reply → rulesGate.Answer
+answerAs Done = rulesGate.done
+answerAs (Permit place) = rulesGate.permit place
+answerAs (Refuse r) = rulesGate.refuse (refusalNumber r) none
+answerAs (Deny d) = rulesGate.refuse (denialNumber d) (denialGroup d)
 
 -- a counter that a limit of sort 2 names is not full
-abbrev pub hasRoom : List ℕ → ℕ → ℕ → Bool
-hasRoom before sort counter = implies (eqb sort 2) (ltb (getD before counter 0) fullCount)
+abbrev pub counterNotFull : List ℕ → ℕ → ℕ → Bool
+counterNotFull before sort counter = implies (eqb sort 2) (ltb (getD before counter 0) fullCount)
 
 -- .. of every limit
-unfoldable pub limitHasRoom : List ℕ → Limit → Bool
-limitHasRoom before m = hasRoom before (m .sort) (m .counter)
+unfoldable pub limitNotFull : List ℕ → Limit → Bool
+limitNotFull before m = counterNotFull before (m .sort) (m .counter)
 
 -- limits that a charge can raise counters for where they stand: none is full, and no two limits name the same one
 pub record Chargeable (counters : List ℕ) (ms : List Limit) : Type 0 where
-  pub room : all (limitHasRoom counters) ms ≡ true
+  pub room : all (limitNotFull counters) ms ≡ true
   pub apart : Apart ms
 
 -- "each named counter plus 1", for one limit

@@ -7,7 +7,7 @@ ghost use Rattle.rules.specs.Sizes.{groupsMax, countersMax, fullCount};
 ghost use Rattle.rules.specs.Basics.{records};
 ghost use Rattle.rules.specs.Acl.{limitsOf, aclOf};
 ghost use Rattle.rules.specs.Ledger.{raised, raisedBy};
-ghost use Rattle.charging.specs.Charges.{answerOf, hasRoom, Chargeable, raisedOnce, permitIf, decided, isPermit, CountersRoom, CountRoom, countersCharged, countsCharged, lastAfter};
+ghost use Rattle.charging.specs.Charges.{answerAs, counterNotFull, Chargeable, raisedOnce, permitIf, decided, isPermit, CountersRoom, CountRoom, countersCharged, countsCharged, lastAfter};
 use judging::Judged;
 use refusals::Denial;
 use refusals::Refusal;
@@ -22,7 +22,7 @@ pub enum Reply {
 
 // A limit of sort 2 raises its counter by 1. Another limit, or a number past the table, raises nothing.
 fn raise_one(table: &mut [u32; sizes::COUNTERS], sort: u8, counter: u8)
-    requires { ⌜ (length (now table) ≡ countersMax) × (hasRoom (now table) sort counter ≡ true) ⌝ }
+    requires { ⌜ (length (now table) ≡ countersMax) × (counterNotFull (now table) sort counter ≡ true) ⌝ }
     ensures { λ _. ⌜ now (table .exit) ≡ raisedOnce (now (table .entry)) sort counter ⌝ }
 {
     if sort != 2 {
@@ -79,7 +79,7 @@ pub fn charge(
 
 // What a grant comes to: a permit, but 8 where hints are to show a narrowing and do not.
 fn grant(place: usize, shown: bool) -> Reply
-    ensures { λ r. ⌜ answerOf r ≡ permitIf shown place ⌝ }
+    ensures { λ r. ⌜ answerAs r ≡ permitIf shown place ⌝ }
 {
     if !shown {
         return Reply::Refuse(Refusal::NotNarrower);
@@ -89,7 +89,7 @@ fn grant(place: usize, shown: bool) -> Reply
 
 // What a judgement comes to: a grant as above, or the denial. `shown` is whether the hints show a narrowing, true where there are none.
 pub fn decide(judged: Judged, shown: bool) -> Reply
-    ensures { λ r. ⌜ answerOf r ≡ decided shown judged ⌝ }
+    ensures { λ r. ⌜ answerAs r ≡ decided shown judged ⌝ }
 {
     match judged {
         Judged::Granted(k) => grant(k, shown),
@@ -99,8 +99,8 @@ pub fn decide(judged: Judged, shown: bool) -> Reply
 
 // The counters after a reply: where it permits, each that the group names is raised where it stands. The group is unspent, so that none is full.
 pub fn charge_counters(counters: &mut [u32; sizes::COUNTERS], reply: Reply, acl: &[u8])
-    requires { ⌜ (length (now counters) ≡ countersMax) × CountersRoom (now counters) (aclOf (now acl)) (answerOf reply) ⌝ }
-    ensures { λ _. ⌜ now (counters .exit) ≡ countersCharged (aclOf (now (acl .entry))) (answerOf reply) (now (counters .entry)) ⌝ }
+    requires { ⌜ (length (now counters) ≡ countersMax) × CountersRoom (now counters) (aclOf (now acl)) (answerAs reply) ⌝ }
+    ensures { λ _. ⌜ now (counters .exit) ≡ countersCharged (aclOf (now (acl .entry))) (answerAs reply) (now (counters .entry)) ⌝ }
 {
     match reply {
         Reply::Done => {}
@@ -112,8 +112,8 @@ pub fn charge_counters(counters: &mut [u32; sizes::COUNTERS], reply: Reply, acl:
 
 // The group counts after a reply: where it permits, the group's own is raised.
 pub fn charge_count(counts: &mut [u32; sizes::GROUPS], reply: Reply)
-    requires { ⌜ (length (now counts) ≡ groupsMax) × CountRoom (now counts) (answerOf reply) ⌝ }
-    ensures { λ _. ⌜ (length (now (counts .exit)) ≡ groupsMax) × (now (counts .exit) ≡ countsCharged (answerOf reply) (now (counts .entry))) ⌝ }
+    requires { ⌜ (length (now counts) ≡ groupsMax) × CountRoom (now counts) (answerAs reply) ⌝ }
+    ensures { λ _. ⌜ (length (now (counts .exit)) ≡ groupsMax) × (now (counts .exit) ≡ countsCharged (answerAs reply) (now (counts .entry))) ⌝ }
 {
     match reply {
         Reply::Done => {}
@@ -125,7 +125,7 @@ pub fn charge_count(counts: &mut [u32; sizes::GROUPS], reply: Reply)
 
 // Whether a reply permits.
 pub fn permits(reply: Reply) -> bool
-    ensures { λ r. ⌜ r ≡ isPermit (answerOf reply) ⌝ }
+    ensures { λ r. ⌜ r ≡ isPermit (answerAs reply) ⌝ }
 {
     match reply {
         Reply::Done => false,
@@ -137,7 +137,7 @@ pub fn permits(reply: Reply) -> bool
 
 // The last time after a reply: the request's where it permits.
 pub fn last_after(reply: Reply, last: u64, when: u64) -> u64
-    ensures { λ r. ⌜ r ≡ lastAfter (answerOf reply) last when ⌝ }
+    ensures { λ r. ⌜ r ≡ lastAfter (answerAs reply) last when ⌝ }
 {
     if permits(reply) {
         return when;

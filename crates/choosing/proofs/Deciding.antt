@@ -30,7 +30,7 @@ use Rattle.prepared.specs.Places.{Inside, Bodies}
 use Rattle.judging.specs.declared.Judged.{Judged}
 use Rattle.judging.specs.declared.Judged.the-variants.{Denied}
 use Rattle.refusals.specs.declared.Denial.the-variants.{Early}
-use Rattle.judging.specs.Standings.{judgedAs, tablesOf}
+use Rattle.judging.specs.Standings.{judgedFor, ledgerOfTables}
 use Rattle.choosing.specs.Members.{leftAt, admitsAt, membersIn}
 use Rattle.choosing.specs.Deciding.{Ready, admittingSet, candidates, setJudge}
 
@@ -91,24 +91,24 @@ admitting-below km0 w gs a e = rw e (set-bits (λ g. any (admits km0 w) (g .acti
 
 -- The judgement, by the code's tests of the time.
 module _ (counts counters : List ℕ) (loaded last : ℕ) (km0 : Bytes) (gs : List Group) (c : ℕ) (r : Bytes) (time : ℕ) (e : time ≡ number 56 8 r) where
-  pub judged-early : time < loaded → Denied Early ≡ judgedAs (setJudge (tablesOf counts counters loaded last) km0 gs c r)
+  pub judged-early : time < loaded → Denied Early ≡ judgedFor (setJudge (ledgerOfTables counts counters loaded last) km0 gs c r)
   unfolding setJudge
   judged-early h = sym (rw (← e, lt-ltb time loaded h))
 
-  pub judged-late : loaded ≤ time → time < last → Denied Early ≡ judgedAs (setJudge (tablesOf counts counters loaded last) km0 gs c r)
+  pub judged-late : loaded ≤ time → time < last → Denied Early ≡ judgedFor (setJudge (ledgerOfTables counts counters loaded last) km0 gs c r)
   unfolding setJudge
   judged-late k h = sym (rw (← e, le-ltb time loaded k, lt-ltb time last h))
 
 pub judged-sets : (counts counters : List ℕ) (loaded last : ℕ) (km0 acl : Bytes) (bodies uses : List ℕ) (working recovery c : ℕ) (r : Bytes) (time a : ℕ) (j : Judged)
     → Ready acl bodies uses working recovery → time ≡ number 56 8 r → loaded ≤ time → last ≤ time → a ≡ admittingSet km0 (wantedOf r none) (aclOf acl)
-    → j ≡ judgedAs (judgedBySets (aclOf acl) a c (leftAt counts counters (time - loaded) acl bodies)) → j ≡ judgedAs (setJudge (tablesOf counts counters loaded last) km0 (aclOf acl) c r)
+    → j ≡ judgedFor (judgedBySets (aclOf acl) a c (leftAt counts counters (time - loaded) acl bodies)) → j ≡ judgedFor (setJudge (ledgerOfTables counts counters loaded last) km0 (aclOf acl) c r)
 unfolding setJudge
 judged-sets counts counters loaded last km0 acl bodies uses working recovery c r time a j ready e h k d p =
-    let l = tablesOf counts counters loaded last in
+    let l = ledgerOfTables counts counters loaded last in
     let q : time - loaded ≡ number 56 8 r - loaded = rw e in
     let m : judgedBySets (aclOf acl) a c (unspentAt l (requestWith r []) (aclOf acl)) ≡ judgedBySets (aclOf acl) (admittingSet km0 (wantedOf r none) (aclOf acl)) c (unspentAt l (requestWith r []) (aclOf acl)) = rw d in
     let s = judged-alike (aclOf acl) a c (leftAt counts counters (time - loaded) acl bodies) (unspentAt l (requestWith r []) (aclOf acl)) (admitting-below km0 (wantedOf r none) (aclOf acl) a d) (λ i b. left-is acl bodies (ready .places) l r (time - loaded) i q b) in
-    p ∙ ap judgedAs (s ∙ m) ∙ sym (rw (← e, le-ltb time loaded h, le-ltb time last k))
+    p ∙ ap judgedFor (s ∙ m) ∙ sym (rw (← e, le-ltb time loaded h, le-ltb time last k))
 
 -- The groups that admit, by the form.
 members-set : (test : ℕ → Bool) (p u : Group → Bool) (gs : List Group) (w : ℕ) → length gs ≤ w → ((k : ℕ) (g : Group) → getElem? gs k ≡ some g → test k ≡ u g)

@@ -18,13 +18,13 @@ use Rattle.rules.specs.Basics.{if_then_else_, Bytes, Every, any, records}
 use Rattle.rules.specs.Acl.{limitsOf, actionsOf, Group}
 use Rattle.rules.specs.Request.{blobFileNext, wantedOf}
 use Rattle.rules.specs.Grant.{admits, unspentWith}
-use Rattle.rules.specs.Gate.{nobody}
+use Rattle.rules.specs.Gate.{notFound}
 use Rattle.rules.proofs.Rows.{lentRest, lent-rest, no-rows}
 use Rattle.rules.proofs.GroupSets.{firstIn, first-stop, first-next, first-done, lowest-out, member-below, first-below, placed, placed-there, placed-past, judgedBySets}
 use Rattle.prepared.specs.Places.{Inside}
 use Rattle.judging.specs.declared.Judged.the-variants.{Granted, Denied}
 use Rattle.refusals.specs.declared.Denial.the-variants.{Unadmitted, Uncertified, Exhausted}
-use Rattle.judging.specs.Standings.{judgedAs}
+use Rattle.judging.specs.Standings.{judgedFor}
 use Rattle.choosing.specs.Members.{leftAt, admitsAt, membersIn}
 
 -- `u64::trailing_zeros(set)` of a set that has a member
@@ -202,17 +202,17 @@ both-within gs a c fit h = let m : 2 ^ length gs ≤ 2 ^ groupsMax = pow-mono fi
 
 -- Of a judgement by two sets, the first of groups that there are.
 module _ (gs : List Group) (a c : ℕ) (left : ℕ → Bool) (fit : length gs ≤ groupsMax) where
-  none-there : placed gs 64 ≡ nobody
+  none-there : placed gs 64 ≡ notFound
   none-there = placed-past gs 64 (omega arith)
 
-  pub judged-none : a < 1 → Denied Unadmitted ≡ judgedAs (judgedBySets gs a c left)
+  pub judged-none : a < 1 → Denied Unadmitted ≡ judgedFor (judgedBySets gs a c left)
   unfolding judgedBySets
   judged-none h =
       let z : a ≡ 0 = omega arith in
       sym (rw (z, and-zero-l c, trailing-of-zero 64, first-done left 64, none-there))
 
   module _ (h : a < 2 ^ length gs) where
-    pub judged-uncertified : (k : ℕ) → 1 ≤ a → bitAnd a c < 1 → k ≡ trailingZeros 64 a → Denied (Uncertified k) ≡ judgedAs (judgedBySets gs a c left)
+    pub judged-uncertified : (k : ℕ) → 1 ≤ a → bitAnd a c < 1 → k ≡ trailingZeros 64 a → Denied (Uncertified k) ≡ judgedFor (judgedBySets gs a c left)
     unfolding judgedBySets
     judged-uncertified k p b e =
         let z : bitAnd a c ≡ 0 = omega arith in
@@ -227,7 +227,7 @@ module _ (gs : List Group) (a c : ℕ) (left : ℕ → Bool) (fit : length gs �
       member : trailingZeros 64 (bitAnd a c) < length gs
       member = member-below 64 (length gs) (bitAnd a c) (omega arith) both-below (omega arith)
 
-      pub judged-exhausted : (j : ℕ) → 64 ≤ k → j ≡ trailingZeros 64 (bitAnd a c) → Denied (Exhausted j) ≡ judgedAs (judgedBySets gs a c left)
+      pub judged-exhausted : (j : ℕ) → 64 ≤ k → j ≡ trailingZeros 64 (bitAnd a c) → Denied (Exhausted j) ≡ judgedFor (judgedBySets gs a c left)
       unfolding judgedBySets
       judged-exhausted j f d =
           let g = placed-there gs (trailingZeros 64 (bitAnd a c)) member in
@@ -237,10 +237,10 @@ module _ (gs : List Group) (a c : ℕ) (left : ℕ → Bool) (fit : length gs �
           past (inl q) = absurd (omega arith)
           past (inr q) = q
 
-          none : placed gs (firstIn left 64 (bitAnd a c)) ≡ nobody
+          none : placed gs (firstIn left 64 (bitAnd a c)) ≡ notFound
           none = ap (placed gs) (past (first-below left 64 (length gs) (bitAnd a c) both-below (omega arith))) ∙ none-there
 
-      pub judged-granted : k < 64 → Granted k ≡ judgedAs (judgedBySets gs a c left)
+      pub judged-granted : k < 64 → Granted k ≡ judgedFor (judgedBySets gs a c left)
       unfolding judgedBySets
       judged-granted f =
           let g = placed-there gs (firstIn left 64 (bitAnd a c)) (past (first-below left 64 (length gs) (bitAnd a c) both-below (omega arith))) in

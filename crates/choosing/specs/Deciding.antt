@@ -9,7 +9,7 @@ use Rattle.rules.specs.Acl.{Group, aclOf, aclFault}
 use Rattle.rules.specs.Request.{Wanted, wantedOf, requestRecordFault}
 use Rattle.rules.specs.Ledger.{Ledger}
 use Rattle.rules.specs.Grant.{admits}
-use Rattle.rules.specs.Gate.{Outcome, early, Judgement, denied, tooEarly, permitted, settle, unlessFault}
+use Rattle.rules.specs.Gate.{Outcome, early, Judgement, denied, tooEarly, permitted, settle, outcomeUnless}
 use Rattle.rules.specs.Runs.{requestWith}
 use Rattle.rules.specs.Prepared.{formOf}
 use Rattle.rules.proofs.GroupSets.{judgedBySets, unspentAt}
@@ -40,4 +40,4 @@ setJudge l km0 gs certified r =
 -- one request of a run, by the set of the groups that are certified
 unfoldable pub askSets : Bytes → List Group → ℕ → Ledger → Bytes → Outcome
 askSets km0 gs certified l r =
-    unlessFault l (requestRecordFault r) (settle l (number 56 8 r) permitted (setJudge l km0 gs certified r))
+    outcomeUnless l (requestRecordFault r) (settle l (number 56 8 r) permitted (setJudge l km0 gs certified r))

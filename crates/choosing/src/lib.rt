@@ -11,7 +11,7 @@ ghost use Rattle.rules.specs.Acl.{aclOf};
 ghost use Rattle.rules.specs.Request.{wantedOf, requestLaidOut};
 ghost use Rattle.rules.proofs.GroupSets.{firstIn, judgedBySets};
 ghost use Rattle.prepared.specs.Places.{Inside};
-ghost use Rattle.judging.specs.Standings.{judgedAs, tablesOf};
+ghost use Rattle.judging.specs.Standings.{judgedFor, ledgerOfTables};
 ghost use Rattle.choosing.specs.Members.{leftAt, admitsAt, membersIn};
 ghost use Rattle.choosing.specs.Deciding.{Ready, admittingSet, candidates, setJudge};
 ghost use Rattle.choosing.specs.Opening.{Opened, OpenFrom};
@@ -80,7 +80,7 @@ fn admits_at(km0: &[u8], rec: &[u8], acl: &[u8], bodies: &[usize; sizes::GROUPS]
     ensures { λ r. ⌜ r ≡ admitsAt (now (km0 .entry)) (wantedOf (now (rec .entry)) none) (now (acl .entry)) (now (bodies .entry)) k ⌝ }
 {
     let at = bodies[k];
-    admitting::group_admits(km0, rec, &rec[0..0], &acl[at..])
+    gate_actions::group_admits(km0, rec, &rec[0..0], &acl[at..])
 }
 
 // A set with the member more by which two others differ.
@@ -156,7 +156,7 @@ fn judge_sets(
     unspent: u64,
 ) -> Judged
     requires { ⌜ (admitting < 2 ^ length (aclOf (now acl))) × (length (aclOf (now acl)) ≤ groupsMax) × Inside (now acl) (now bodies) × Opened (leftAt (now counts) (now counters) elapsed (now acl) (now bodies)) certified unspent ⌝ }
-    ensures { λ r. ⌜ r ≡ judgedAs (judgedBySets (aclOf (now (acl .entry))) admitting certified (leftAt (now (counts .entry)) (now (counters .entry)) elapsed (now (acl .entry)) (now (bodies .entry)))) ⌝ }
+    ensures { λ r. ⌜ r ≡ judgedFor (judgedBySets (aclOf (now (acl .entry))) admitting certified (leftAt (now (counts .entry)) (now (counters .entry)) elapsed (now (acl .entry)) (now (bodies .entry)))) ⌝ }
 {
     if admitting < 1 {
         return Judged::Denied(Denial::Unadmitted);
@@ -226,7 +226,7 @@ pub fn judge_record(
     rec: &[u8],
 ) -> Judged
     requires { ⌜ Ready (now acl) (now bodies) (now uses) (sets .working) (sets .recovery) × (length (now rec) ≡ recordBytes) × (requestLaidOut (now rec) ≡ true) × OpenFrom (now counts) (now counters) (last - loaded) (now acl) (now bodies) (sets .certified) unspent ⌝ }
-    ensures { λ r. ⌜ r ≡ judgedAs (setJudge (tablesOf (now (counts .entry)) (now (counters .entry)) loaded last) (now (km0 .entry)) (aclOf (now (acl .entry))) (sets .certified) (now (rec .entry))) ⌝ }
+    ensures { λ r. ⌜ r ≡ judgedFor (setJudge (ledgerOfTables (now (counts .entry)) (now (counters .entry)) loaded last) (now (km0 .entry)) (aclOf (now (acl .entry))) (sets .certified) (now (rec .entry))) ⌝ }
 {
     let time = fields::be64(rec, 56);
     if time < loaded {

@@ -3,7 +3,7 @@ ghost use mathlib.Core.Path.{_≡_};
 ghost use Rattle.rules.specs.Basics.{eachFault, records};
 ghost use Rattle.rules.specs.Request.{requestRecordFault};
 ghost use Rattle.rules.specs.Day.{dayLengthsFit, dayFault};
-ghost use Rattle.files.specs.Faults.{faultOf};
+ghost use Rattle.files.specs.Faults.{faultAs};
 use files::Checked;
 use refusals::Refusal;
 
@@ -21,7 +21,7 @@ fn lengths_fit(km0: &[u8], acl: &[u8], requests: &[u8]) -> bool
 
 // The first fault of the request records, each by itself.
 fn each_request(requests: &[u8]) -> Checked
-    ensures { λ r. ⌜ faultOf r ≡ eachFault requestRecordFault (records (now (requests .entry))) ⌝ }
+    ensures { λ r. ⌜ faultAs r ≡ eachFault requestRecordFault (records (now (requests .entry))) ⌝ }
 {
     let mut at = 0;
     while sizes::RECORD <= requests.len() - at {
@@ -35,7 +35,7 @@ fn each_request(requests: &[u8]) -> Checked
 
 // The first fault of the day's files: lengths, the ACL's records, the request records.
 pub fn first_fault(km0: &[u8], acl: &[u8], requests: &[u8]) -> Checked
-    ensures { λ r. ⌜ faultOf r ≡ dayFault (now (km0 .entry)) (now (acl .entry)) (now (requests .entry)) ⌝ }
+    ensures { λ r. ⌜ faultAs r ≡ dayFault (now (km0 .entry)) (now (acl .entry)) (now (requests .entry)) ⌝ }
 {
     if !lengths_fit(km0, acl, requests) {
         return Checked::Refused(Refusal::BadLength);

@@ -7,12 +7,12 @@ use Rattle.rules.specs.Desk as rules
 use Rattle.refusals.proofs.Determined.{refusalBack, refusal-back}
 use Rattle.steps.specs.declared.Step.{Step}
 use Rattle.steps.specs.declared.Step.the-variants.{WV1, MSCV1, MSCV2, MSCV3, MSCV4, MSCV5, WBCV1, WBCV2, WBCV3, KGCV1, KGCV2, ACLV3, WB1, WB2, WB3, WB6, RB1, RB2, RB3, KV3, CSRL1}
-use Rattle.steps.specs.Steps.{stepOf}
+use Rattle.steps.specs.Steps.{stepAs}
 use Rattle.desk.specs.declared.Protection.{Protection}
 use Rattle.desk.specs.declared.Protection.the-variants.{NotJudged, Module, Softcard, Cardset, NotKept}
 use Rattle.desk.specs.declared.Verdict.{Verdict}
 use Rattle.desk.specs.declared.Verdict.the-variants.{Accepted, Failed, Refused}
-use Rattle.desk.specs.Replies.{Reply, accepting, failing, refusing, protectionNumber, replyOf}
+use Rattle.desk.specs.Replies.{DeskReply, accepting, failing, refusing, protectionNumber, verdictAs}
 
 -- what each number and name stands for
 abbrev pub stepBack : rules.Step → Step
@@ -46,13 +46,13 @@ protectionBack n =
     else if eqb n 4 then NotKept
     else NotJudged
 
-abbrev verdictBack : Reply → Verdict
+abbrev verdictBack : DeskReply → Verdict
 verdictBack (accepting n) = Accepted (record { approach = n .approach; protection = protectionBack (n .protection); recoverable = n .recoverable })
 verdictBack (failing s) = Failed (stepBack s)
 verdictBack (refusing n) = Refused (refusalBack n)
 
 -- .. it is what was read
-pub step-back : (s : Step) → stepBack (stepOf s) ≡ s
+pub step-back : (s : Step) → stepBack (stepAs s) ≡ s
 step-back WV1 = refl
 step-back MSCV1 = refl
 step-back MSCV2 = refl
@@ -82,11 +82,11 @@ protection-back Softcard = refl
 protection-back Cardset = refl
 protection-back NotKept = refl
 
-verdict-back : (v : Verdict) → verdictBack (replyOf v) ≡ v
+verdict-back : (v : Verdict) → verdictBack (verdictAs v) ≡ v
 verdict-back (Accepted a) =
     ap (λ (p : Protection). Accepted (record { approach = a .approach; protection = p; recoverable = a .recoverable })) (protection-back (a .protection))
 verdict-back (Failed s) = ap Failed (step-back s)
 verdict-back (Refused r) = ap Refused (refusal-back r)
 
-pub determined : (v w : Verdict) → replyOf v ≡ replyOf w → v ≡ w
+pub determined : (v w : Verdict) → verdictAs v ≡ verdictAs w → v ≡ w
 determined v w e = sym (verdict-back v) ∙ ap verdictBack e ∙ verdict-back w

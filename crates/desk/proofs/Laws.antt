@@ -14,14 +14,14 @@ use Rattle.rules.specs.Suites.{suite}
 use Rattle.rules.specs.Acl.{Action, permissions, makeBlob, makeArchive, Group, aclOf, aclFault}
 use Rattle.rules.specs.Bundle.{Policy, policyOf, bundleFault}
 use Rattle.rules.proofs.Laws.{never}
-use Rattle.rules.specs.Desk.{Step, KV3, Acceptance, approach1, approach2, actionProtection, softParameters, smallest, officersGroup, keyProtection, recoverableKey, beforeAcl, aclFailure, fullFailure, basicFailure, gradeOf, unlessFailed, attested, deskFault, desk}
+use Rattle.rules.specs.Desk.{Step, KV3, Acceptance, approach1, approach2, actionProtection, softParameters, smallest, officersGroup, keyProtection, recoverableKey, beforeAcl, aclFailure, fullFailure, basicFailure, gradeOf, acceptedUnless, attested, deskFault, desk}
 use Rattle.steps.specs.declared.Failure.{Failure}
 use Rattle.steps.specs.declared.Failure.the-variants.{Nothing, At}
-use Rattle.steps.specs.Steps.{failureOf, csrFailure}
-use Rattle.suites.specs.Calls.{Calls, Answer, calls, refuses, calledFor}
+use Rattle.steps.specs.Steps.{failureAs, csrFailure}
+use Rattle.suites.specs.Calls.{Calls, SuiteAnswer, calls, refuses, calledFor}
 use Rattle.suites.proofs.Laws.{suiteIn, suite-found, suite-measured}
 use Rattle.desk.specs.Replies as replies
-use Rattle.desk.specs.Replies.{Reply, protectionNumber, namedBy, namedFor, replyOf, replyFor, verdictFrom, suiteFault, gradeFailure}
+use Rattle.desk.specs.Replies.{DeskReply, protectionNumber, acceptanceAs, acceptanceFor, verdictAs, verdictFor, verdictFrom, suiteFault, gradeFailure}
 use Rattle.grading.specs.Grades.{Graded, aclGraded}
 use Rattle.grading.proofs.Laws.{protection-most}
 use Rattle.desk.specs.declared.Protection.{Protection}
@@ -54,7 +54,7 @@ protection-least b (g ∷ gs) = pick (officersGroup b g) (protection-least b gs)
     pick false h = let k = smallest-least (g .actions) in omega arith
 
 -- 11, by what the match on the suite's number gave
-module _ (b : List Bytes) (p : Policy) (e : p ≡ policyOf b) (a : Answer) (is : a ≡ calledFor (p .suite)) where
+module _ (b : List Bytes) (p : Policy) (e : p ≡ policyOf b) (a : SuiteAnswer) (is : a ≡ calledFor (p .suite)) where
   found : suiteIn a ≡ suite (policyOf b .suite)
   found = suite-found (p .suite) a is ∙ ap (λ (q : Policy). suite (q .suite)) e
 
@@ -105,23 +105,23 @@ unfolding fullFailure gradeFailure firstFault
 full-is b gs = ap (λ (z : Option Step). orNext (beforeAcl b) (orNext (aclFailure b gs) z)) (sym (or-none (gradeFailure b (keyProtection b gs))))
 
 -- the verdict of a run of steps
-pub verdict-of : (f : Failure) (a : code.Acceptance) (spec : Acceptance) (o : Option Step) → failureOf f ≡ o → namedBy a ≡ namedFor spec → replyOf (verdictFrom f a) ≡ replyFor (unlessFailed o spec)
+pub verdict-of : (f : Failure) (a : code.Acceptance) (spec : Acceptance) (o : Option Step) → failureAs f ≡ o → acceptanceAs a ≡ acceptanceFor spec → verdictAs (verdictFrom f a) ≡ verdictFor (acceptedUnless o spec)
 verdict-of Nothing a spec o e n = rw (← e, n)
 verdict-of (At s) a spec o e n = rw (← e)
 
 -- the approach that the policy names
-pub approach-two : (b : List Bytes) (gs : List Group) (p : Policy) (x : Reply) → p ≡ policyOf b → p .approach ≡ 2 → x ≡ replyFor (unlessFailed (fullFailure b gs) (approach2 (gradeOf b gs))) → x ≡ replyFor (attested b gs)
+pub approach-two : (b : List Bytes) (gs : List Group) (p : Policy) (x : DeskReply) → p ≡ policyOf b → p .approach ≡ 2 → x ≡ verdictFor (acceptedUnless (fullFailure b gs) (approach2 (gradeOf b gs))) → x ≡ verdictFor (attested b gs)
 approach-two b gs p x e h q = let k : eqb (policyOf b .approach) 2 ≡ true = rw (← e) (eq-eqb (p .approach) 2 h) in rw k q
 
-pub approach-one : (b : List Bytes) (gs : List Group) (p : Policy) (x : Reply) → p ≡ policyOf b → (p .approach ≡ 2 → ⊥) → x ≡ replyFor (unlessFailed (basicFailure b) approach1) → x ≡ replyFor (attested b gs)
+pub approach-one : (b : List Bytes) (gs : List Group) (p : Policy) (x : DeskReply) → p ≡ policyOf b → (p .approach ≡ 2 → ⊥) → x ≡ verdictFor (acceptedUnless (basicFailure b) approach1) → x ≡ verdictFor (attested b gs)
 approach-one b gs p x e h q = let k : eqb (policyOf b .approach) 2 ≡ false = rw (← e) (ne-eqb (p .approach) 2 h) in rw k q
 
 -- the whole
-pub sound-files : (bundle acl : Bytes) (x : Reply) → none ≡ deskFault bundle acl → x ≡ replyFor (attested (records bundle) (aclOf acl)) → x ≡ replyFor (desk bundle acl)
+pub sound-files : (bundle acl : Bytes) (x : DeskReply) → none ≡ deskFault bundle acl → x ≡ verdictFor (attested (records bundle) (aclOf acl)) → x ≡ verdictFor (desk bundle acl)
 unfolding desk
 sound-files bundle acl x e q = rw (← e) q
 
-pub faulty-files : (bundle acl : Bytes) (n : ℕ) → some n ≡ deskFault bundle acl → replies.refusing n ≡ replyFor (desk bundle acl)
+pub faulty-files : (bundle acl : Bytes) (n : ℕ) → some n ≡ deskFault bundle acl → replies.refusing n ≡ verdictFor (desk bundle acl)
 unfolding desk
 faulty-files bundle acl n e = rw (← e)
 
@@ -146,5 +146,5 @@ module _ (b : List Bytes) (gs : List Group) (g : Graded) (e : g ≡ aclGraded b 
   full-from o q = q ∙ rw (failure-is, protection-is) (full-is b gs)
 
   pub named-from : (p : Protection) → protectionNumber p ≡ g .protection
-      → namedBy (record { approach = 2; protection = p; recoverable = g .recoverable }) ≡ namedFor (approach2 (gradeOf b gs))
+      → acceptanceAs (record { approach = 2; protection = p; recoverable = g .recoverable }) ≡ acceptanceFor (approach2 (gradeOf b gs))
   named-from p q = rw (q, protection-is, recoverable-is)

@@ -13,7 +13,7 @@ use Rattle.rules.specs.Desk as rules
 use Rattle.refusals.specs.Refusals.{refusalNumber}
 use Rattle.steps.specs.declared.Failure.{Failure}
 use Rattle.steps.specs.declared.Failure.the-variants.{Nothing, At}
-use Rattle.steps.specs.Steps.{stepOf}
+use Rattle.steps.specs.Steps.{stepAs}
 use Rattle.desk.specs.declared.Protection.{Protection}
 use Rattle.desk.specs.declared.Protection.the-variants.{NotJudged, Module, Softcard, Cardset, NotKept}
 use Rattle.desk.specs.declared.Acceptance.{Acceptance}
@@ -27,10 +27,10 @@ pub record Named : Type 0 where
   pub recoverable : Bool
 
 -- an acceptance, the first failing step, or the number of a refusal
-pub data Reply : Type 0 where
-  accepting : Named → Reply
-  failing : rules.Step → Reply
-  refusing : ℕ → Reply
+pub data DeskReply : Type 0 where
+  accepting : Named → DeskReply
+  failing : rules.Step → DeskReply
+  refusing : ℕ → DeskReply
 
 -- "1 module .. 2 softcard .. 3 cardset .. 4, not kept"; 0 where approach 1 judges none
 abbrev pub protectionNumber : Protection → ℕ
@@ -41,25 +41,25 @@ protectionNumber Cardset = numbers.byCardset
 protectionNumber NotKept = numbers.notKept
 
 -- what the code's acceptance names
-abbrev pub namedBy : Acceptance → Named
-namedBy a = record { approach = a .approach; protection = protectionNumber (a .protection); recoverable = a .recoverable }
+abbrev pub acceptanceAs : Acceptance → Named
+acceptanceAs a = record { approach = a .approach; protection = protectionNumber (a .protection); recoverable = a .recoverable }
 
 -- the code's answer
-abbrev pub replyOf : Verdict → Reply
-replyOf (Accepted a) = accepting (namedBy a)
-replyOf (Failed s) = failing (stepOf s)
-replyOf (Refused r) = refusing (refusalNumber r)
+abbrev pub verdictAs : Verdict → DeskReply
+verdictAs (Accepted a) = accepting (acceptanceAs a)
+verdictAs (Failed s) = failing (stepAs s)
+verdictAs (Refused r) = refusing (refusalNumber r)
 
 -- what the definitions' acceptance names: approach 1 looks at the key's generation alone
-abbrev pub namedFor : rules.Acceptance → Named
-namedFor rules.approach1 = record { approach = 1; protection = 0; recoverable = false }
-namedFor (rules.approach2 g) = record { approach = 2; protection = g .protection; recoverable = g .recoverable }
+abbrev pub acceptanceFor : rules.Acceptance → Named
+acceptanceFor rules.approach1 = record { approach = 1; protection = 0; recoverable = false }
+acceptanceFor (rules.approach2 g) = record { approach = 2; protection = g .protection; recoverable = g .recoverable }
 
 -- the definitions' verdict
-abbrev pub replyFor : rules.Verdict → Reply
-replyFor (rules.accepted a) = accepting (namedFor a)
-replyFor (rules.failed s) = failing s
-replyFor (rules.faulty n) = refusing n
+abbrev pub verdictFor : rules.Verdict → DeskReply
+verdictFor (rules.accepted a) = accepting (acceptanceFor a)
+verdictFor (rules.failed s) = failing s
+verdictFor (rules.faulty n) = refusing n
 
 -- an acceptance, unless a step fails
 abbrev pub verdictFrom : Failure → Acceptance → Verdict

@@ -6,12 +6,12 @@ ghost use lib.ListN.{replicate};
 ghost use Rattle.rules.specs.Basics.{orNext, records};
 ghost use Rattle.rules.specs.Acl.{aclOf};
 ghost use Rattle.rules.specs.Bundle.{policyOf};
-ghost use Rattle.rules.specs.Desk.{beforeAcl, fullFailure, basicFailure, gradeOf, approach1, approach2, unlessFailed, deskFault, attested, desk};
-ghost use Rattle.files.specs.Faults.{faultOf};
+ghost use Rattle.rules.specs.Desk.{beforeAcl, fullFailure, basicFailure, gradeOf, approach1, approach2, acceptedUnless, deskFault, attested, desk};
+ghost use Rattle.files.specs.Faults.{faultAs};
 ghost use Rattle.facts.specs.Found.{policyAs};
 ghost use Rattle.facts.specs.Places.{entries, Found};
-ghost use Rattle.steps.specs.Steps.{failureOf};
-ghost use Rattle.desk.specs.Replies.{protectionNumber, replyOf, replyFor, verdictFrom, suiteFault, gradeFailure};
+ghost use Rattle.steps.specs.Steps.{failureAs};
+ghost use Rattle.desk.specs.Replies.{protectionNumber, verdictAs, verdictFor, verdictFrom, suiteFault, gradeFailure};
 use facts::Policy;
 use files::Checked;
 use grading::Grade;
@@ -76,7 +76,7 @@ fn protection_of(n: u8) -> Protection
 // Whether the policy names a suite.
 fn suite_known(places: &[usize; facts::ENTRIES], bundle: &[u8]) -> Checked
     requires { ⌜ Found (now bundle) (now places) ⌝ }
-    ensures { λ r. ⌜ faultOf r ≡ suiteFault (records (now (bundle .entry))) ⌝ }
+    ensures { λ r. ⌜ faultAs r ≡ suiteFault (records (now (bundle .entry))) ⌝ }
 {
     let policy = facts::policy_of(places, bundle);
     let found = suites::suite_of(policy.suite as u64);
@@ -89,7 +89,7 @@ fn suite_known(places: &[usize; facts::ENTRIES], bundle: &[u8]) -> Checked
 // The first fault of the two files: the length of either, the bundle's records, the ACL's, the suite. Where there is none, the bundle's records were found.
 pub fn read_both(places: &mut [usize; facts::ENTRIES], bundle: &[u8], acl: &[u8]) -> Checked
     requires { ⌜ now places ≡ replicate entries 0 ⌝ }
-    ensures { λ r. ⌜ (faultOf r ≡ deskFault (now (bundle .entry)) (now (acl .entry))) × (faultOf r ≡ none → Found (now (bundle .entry)) (now (places .exit))) ⌝ }
+    ensures { λ r. ⌜ (faultAs r ≡ deskFault (now (bundle .entry)) (now (acl .entry))) × (faultAs r ≡ none → Found (now (bundle .entry)) (now (places .exit))) ⌝ }
 {
     if !(files::whole(sizes::BUNDLE_RECORDS, bundle) & files::whole(sizes::ACL_RECORDS, acl)) {
         return Checked::Refused(Refusal::BadLength);
@@ -109,7 +109,7 @@ fn grade_steps(
     protection: u8,
 ) -> Failure
     requires { ⌜ (policyAs policy ≡ policyOf (records (now bundle))) × Found (now bundle) (now places) ⌝ }
-    ensures { λ r. ⌜ failureOf r ≡ gradeFailure (records (now (bundle .entry))) protection ⌝ }
+    ensures { λ r. ⌜ failureAs r ≡ gradeFailure (records (now (bundle .entry))) protection ⌝ }
 {
     if protection < policy.lowest {
         return Failure::At(Step::KV3);
@@ -125,7 +125,7 @@ fn full_steps(
     grade: Grade,
 ) -> Failure
     requires { ⌜ (policyAs policy ≡ policyOf (records (now bundle))) × Found (now bundle) (now places) ⌝ }
-    ensures { λ r. ⌜ failureOf r ≡ orNext (beforeAcl (records (now (bundle .entry)))) (orNext (failureOf (grade .failure)) (gradeFailure (records (now (bundle .entry))) (grade .protection))) ⌝ }
+    ensures { λ r. ⌜ failureAs r ≡ orNext (beforeAcl (records (now (bundle .entry)))) (orNext (failureAs (grade .failure)) (gradeFailure (records (now (bundle .entry))) (grade .protection))) ⌝ }
 {
     let of_acl = grade.failure;
     let after = steps::first_of(
@@ -153,7 +153,7 @@ fn judge_policy(
     acl: &[u8],
 ) -> Verdict
     requires { ⌜ (policyAs policy ≡ policyOf (records (now bundle))) × Found (now bundle) (now places) ⌝ }
-    ensures { λ r. ⌜ replyOf r ≡ replyFor (unlessFailed (fullFailure (records (now (bundle .entry))) (aclOf (now (acl .entry)))) (approach2 (gradeOf (records (now (bundle .entry))) (aclOf (now (acl .entry)))))) ⌝ }
+    ensures { λ r. ⌜ verdictAs r ≡ verdictFor (acceptedUnless (fullFailure (records (now (bundle .entry))) (aclOf (now (acl .entry)))) (approach2 (gradeOf (records (now (bundle .entry))) (aclOf (now (acl .entry)))))) ⌝ }
 {
     let grade = grading::acl_grade(policy, places, bundle, acl);
     let failure = full_steps(policy, places, bundle, grade);
@@ -168,7 +168,7 @@ fn judge_policy(
 // Approach 1.
 fn judge_generation(policy: Policy, places: &[usize; facts::ENTRIES], bundle: &[u8]) -> Verdict
     requires { ⌜ (policyAs policy ≡ policyOf (records (now bundle))) × Found (now bundle) (now places) ⌝ }
-    ensures { λ r. ⌜ replyOf r ≡ replyFor (unlessFailed (basicFailure (records (now (bundle .entry)))) approach1) ⌝ }
+    ensures { λ r. ⌜ verdictAs r ≡ verdictFor (acceptedUnless (basicFailure (records (now (bundle .entry)))) approach1) ⌝ }
 {
     let acceptance = Acceptance {
         approach: 1,
@@ -181,7 +181,7 @@ fn judge_generation(policy: Policy, places: &[usize; facts::ENTRIES], bundle: &[
 // The steps of the approach that the policy names, for files that were read.
 fn judge_read(places: &[usize; facts::ENTRIES], bundle: &[u8], acl: &[u8]) -> Verdict
     requires { ⌜ Found (now bundle) (now places) ⌝ }
-    ensures { λ r. ⌜ replyOf r ≡ replyFor (attested (records (now (bundle .entry))) (aclOf (now (acl .entry)))) ⌝ }
+    ensures { λ r. ⌜ verdictAs r ≡ verdictFor (attested (records (now (bundle .entry))) (aclOf (now (acl .entry)))) ⌝ }
 {
     let policy = facts::policy_of(places, bundle);
     if policy.approach == 2 {
@@ -192,7 +192,7 @@ fn judge_read(places: &[usize; facts::ENTRIES], bundle: &[u8], acl: &[u8]) -> Ve
 
 // The verdict on a bundle and an ACL, whatever bytes they are.
 pub fn assess(bundle: &[u8], acl: &[u8]) -> Verdict
-    ensures { λ r. ⌜ replyOf r ≡ replyFor (desk (now (bundle .entry)) (now (acl .entry))) ⌝ }
+    ensures { λ r. ⌜ verdictAs r ≡ verdictFor (desk (now (bundle .entry)) (now (acl .entry))) ⌝ }
 {
     let mut places = [0usize; facts::ENTRIES];
     let checked = read_both(&mut places, bundle, acl);

@@ -4,9 +4,9 @@ ghost use mathlib.Core.Path.{_≡_};
 ghost use mathlib.Core.Bool.{_&&_, _||_};
 ghost use Prim.Native.Nat.{_<_};
 ghost use Rattle.rules.specs.Basics.{present, bothSame, records};
-ghost use Rattle.rules.specs.Bundle.{field, has, reported, isGood, good, policyOf};
+ghost use Rattle.rules.specs.Bundle.{field, hasField, reported, isGood, good, policyOf};
 ghost use Rattle.rules.specs.Desk.{kmVouched, kmFipsVouched, kreVouched, moduleKey, recoveryKey, isListed, csrLinked};
-ghost use Rattle.facts.specs.Found.{outcomeOf, policyAs};
+ghost use Rattle.facts.specs.Found.{signatureAs, policyAs};
 ghost use Rattle.facts.specs.Places.{Found};
 ghost use Rattle.evidence.specs.Given.{given};
 use facts::Policy;
@@ -28,7 +28,7 @@ pub fn both_same(a: &[u8], b: &[u8]) -> bool
 
 // Whether an outcome is reported, and good.
 fn good_outcome(s: Signature) -> bool
-    ensures { λ r. ⌜ r ≡ isGood (outcomeOf s) ⌝ }
+    ensures { λ r. ⌜ r ≡ isGood (signatureAs s) ⌝ }
 {
     match s {
         Signature::Absent => false,
@@ -39,7 +39,7 @@ fn good_outcome(s: Signature) -> bool
 
 // Whether an outcome is reported.
 fn any_outcome(s: Signature) -> bool
-    ensures { λ r. ⌜ r ≡ present (outcomeOf s) ⌝ }
+    ensures { λ r. ⌜ r ≡ present (signatureAs s) ⌝ }
 {
     match s {
         Signature::Absent => false,
@@ -75,7 +75,7 @@ pub fn field_of<'a>(n: u8, places: &[usize; facts::ENTRIES], bundle: &'a [u8]) -
 // Whether field n is there.
 pub fn has_field(n: u8, places: &[usize; facts::ENTRIES], bundle: &[u8]) -> bool
     requires { ⌜ (n < 16) × Found (now bundle) (now places) ⌝ }
-    ensures { λ r. ⌜ r ≡ has n (records (now (bundle .entry))) ⌝ }
+    ensures { λ r. ⌜ r ≡ hasField n (records (now (bundle .entry))) ⌝ }
 {
     is_there(field_of(n, places, bundle))
 }
@@ -91,7 +91,7 @@ pub fn same_fields(m: u8, n: u8, places: &[usize; facts::ENTRIES], bundle: &[u8]
 // What certificates 3 and 4 both vouch with: the officer's key, the module key and its confirmation.
 fn km_confirmed(places: &[usize; facts::ENTRIES], bundle: &[u8]) -> bool
     requires { ⌜ Found (now bundle) (now places) ⌝ }
-    ensures { λ r. ⌜ r ≡ (has 5 (records (now (bundle .entry))) && has 6 (records (now (bundle .entry))) && has 12 (records (now (bundle .entry)))) ⌝ }
+    ensures { λ r. ⌜ r ≡ (hasField 5 (records (now (bundle .entry))) && hasField 6 (records (now (bundle .entry))) && hasField 12 (records (now (bundle .entry)))) ⌝ }
 {
     has_field(5, places, bundle) & has_field(6, places, bundle) & has_field(12, places, bundle)
 }

@@ -14,10 +14,10 @@ orEmpty none = []
 orEmpty (some bs) = bs
 
 -- a signature's outcome: whether it is good, if it is there
-abbrev pub outcomeOf : Signature → Option Bool
-outcomeOf Absent = none
-outcomeOf Bad = some false
-outcomeOf Good = some true
+abbrev pub signatureAs : Signature → Option Bool
+signatureAs Absent = none
+signatureAs Bad = some false
+signatureAs Good = some true
 
 -- the policy
 abbrev pub policyAs : Policy → bundle.Policy

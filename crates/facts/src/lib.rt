@@ -6,7 +6,7 @@ ghost use lib.ListN.{length, replicate};
 ghost use Rattle.rules.specs.Sizes.{recordBytes};
 ghost use Rattle.rules.specs.Basics.{bit, records};
 ghost use Rattle.rules.specs.Bundle.{firstRecord, field, lists, listed, signatureOutcome, policyOf};
-ghost use Rattle.facts.specs.Found.{orEmpty, outcomeOf, policyAs};
+ghost use Rattle.facts.specs.Found.{orEmpty, signatureAs, policyAs};
 ghost use Rattle.facts.specs.Places.{entries, unasked, entryOf, entered, Found};
 
 // The outcome of a signature that a bundle reports.
@@ -93,7 +93,7 @@ pub fn content<'a>(n: u8, places: &[usize; ENTRIES], bundle: &'a [u8]) -> &'a [u
 // The outcome of signature n.
 pub fn outcome(n: u8, places: &[usize; ENTRIES], bundle: &[u8]) -> Signature
     requires { ⌜ (n < 8) × Found (now bundle) (now places) ⌝ }
-    ensures { λ r. ⌜ outcomeOf r ≡ signatureOutcome n (records (now (bundle .entry))) ⌝ }
+    ensures { λ r. ⌜ signatureAs r ≡ signatureOutcome n (records (now (bundle .entry))) ⌝ }
 {
     let rec = first_entered(16 + (n as usize), places, bundle);
     if rec.len() < sizes::RECORD {

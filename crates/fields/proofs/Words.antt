@@ -10,7 +10,7 @@ use lib.Dec.{eqb}
 use lib.Seq.{drop-cons, take-add, take-all, drop-drop, length-take-le}
 use borrow.Author.Tests.{eqb-true, eqb-false, eq-eqb, ne-eqb}
 use Rattle.rules.specs.Basics.{Bytes, Every, allZero, same, numberFrom, part, number, blank}
-use Rattle.fields.specs.Words.{littleNumber, Word, swapped16, swapped32, swapped64}
+use Rattle.fields.specs.Words.{littleNumber, LittleEndian, swapped16, swapped32, swapped64}
 use Rattle.rules.proofs.Laws.{and-right, same-eq, same-refl}
 use Rattle.fields.proofs.Laws.{and-false, and-true, and-assoc, number-halves}
 
@@ -37,15 +37,15 @@ same-word-number (x ∷ xs) (y ∷ ys) l h k = pick (eqb x y) refl (same xs ys) 
     pick true e false f m a b = let p = eqb-true x y e in let q = eqb-false (littleNumber xs) (littleNumber ys) (m ∙ f) in rw (e, f) (ne-eqb (x + littleNumber xs * 256) (y + littleNumber ys * 256) (λ z. q (omega arith)))
     pick false e u f m a b = let p = eqb-false x y e in rw e (ne-eqb (x + littleNumber xs * 256) (y + littleNumber ys * 256) (λ z. p (omega arith)))
 
-pub word-zero : (s : Bytes) (at n : ℕ) → Word (part at 8 s) n → eqb n 0 ≡ blank at 8 s
-unfolding Word
+pub word-zero : (s : Bytes) (at n : ℕ) → LittleEndian (part at 8 s) n → eqb n 0 ≡ blank at 8 s
+unfolding LittleEndian
 word-zero s at n h = rw (h .0) (zero-word-number (part at 8 s))
 
 part-length : (s : Bytes) (at n : ℕ) → at + n ≤ length s → length (part at n s) ≡ n
 part-length s at n h = length-take-le n (drop at s) (omega (arith, length-drop at s))
 
-pub word-same : (a b : Bytes) (at m n : ℕ) → at + 8 ≤ length a → at + 8 ≤ length b → Word (part at 8 a) m → Word (part at 8 b) n → eqb m n ≡ same (part at 8 a) (part at 8 b)
-unfolding Word
+pub word-same : (a b : Bytes) (at m n : ℕ) → at + 8 ≤ length a → at + 8 ≤ length b → LittleEndian (part at 8 a) m → LittleEndian (part at 8 b) n → eqb m n ≡ same (part at 8 a) (part at 8 b)
+unfolding LittleEndian
 word-same a b at m n p q h k =
     rw (h .0, k .0) (same-word-number (part at 8 a) (part at 8 b) (part-length a at 8 p ∙ sym (part-length b at 8 q)) (h .1) (k .1))
 
@@ -65,8 +65,8 @@ part-add : (s : Bytes) (at m n : ℕ) → part at (m + n) s ≡ part at m s ++ p
 part-add s at m n = take-add m n (drop at s) ∙ ap (λ (l : Bytes). part at m s ++ take n l) (drop-drop m at s)
 
 -- the halves are of n bytes each, w being the weight of the upper one
-pub word-halves : (n w : ℕ) (s : Bytes) (at r hi lo : ℕ) → w ≡ 256 ^ n → at + (n + n) ≤ length s → Word (part (at + n) n s) hi → Word (part at n s) lo → r ≡ hi * w + lo → Word (part at (n + n) s) r
-unfolding Word
+pub word-halves : (n w : ℕ) (s : Bytes) (at r hi lo : ℕ) → w ≡ 256 ^ n → at + (n + n) ≤ length s → LittleEndian (part (at + n) n s) hi → LittleEndian (part at n s) lo → r ≡ hi * w + lo → LittleEndian (part at (n + n) s) r
+unfolding LittleEndian
 word-halves n w s at r hi lo p h k l q =
     let e = number-append (part at n s) (part (at + n) n s) in
     let d : littleNumber (part at n s ++ part (at + n) n s) ≡ lo + hi * w =
@@ -76,8 +76,8 @@ word-halves n w s at r hi lo p h k l q =
 part-one : (s : Bytes) (at : ℕ) → at < length s → part at 1 s ≡ (getD s at 0 ∷ [])
 part-one s at h = rw (drop-cons s at 0) refl
 
-pub word-two : (s : Bytes) (at r : ℕ) → at + 2 ≤ length s → getD s at 0 < 256 → getD s (at + 1) 0 < 256 → r ≡ getD s (at + 1) 0 * 256 + getD s at 0 → Word (part at 2 s) r
-unfolding Word littleNumber
+pub word-two : (s : Bytes) (at r : ℕ) → at + 2 ≤ length s → getD s at 0 < 256 → getD s (at + 1) 0 < 256 → r ≡ getD s (at + 1) 0 * 256 + getD s at 0 → LittleEndian (part at 2 s) r
+unfolding LittleEndian littleNumber
 word-two s at r h p q e =
     rw (part-add s at 1 1, part-one s at (omega arith), part-one s (at + 1) (omega arith)) (omega arith, (p, (q, tt)))
 
@@ -92,10 +92,10 @@ every-front P [] ys h = (tt, h)
 every-front P (x ∷ xs) ys h = let i = every-front P xs ys (h .1) in ((h .0, i .0), i .1)
 
 -- .. from its halves of k bytes, of which the order is known; w is the weight of the upper one
-module _ (k w : ℕ) (p : w ≡ 256 ^ k) (swap : ℕ → ℕ) (known : (s : Bytes) (at n : ℕ) → at + k ≤ length s → Word (part at k s) n → swap n ≡ number at k s)
+module _ (k w : ℕ) (p : w ≡ 256 ^ k) (swap : ℕ → ℕ) (known : (s : Bytes) (at n : ℕ) → at + k ≤ length s → LittleEndian (part at k s) n → swap n ≡ number at k s)
     (split : (lo hi : ℕ) → lo < w → ((lo + hi * w) % w ≡ lo) × ((lo + hi * w) / w ≡ hi)) where
-  swap-halves : (s : Bytes) (at n : ℕ) → at + (k + k) ≤ length s → Word (part at (k + k) s) n → swap (n % w) * w + swap (n / w) ≡ number at (k + k) s
-  unfolding Word
+  swap-halves : (s : Bytes) (at n : ℕ) → at + (k + k) ≤ length s → LittleEndian (part at (k + k) s) n → swap (n % w) * w + swap (n / w) ≡ number at (k + k) s
+  unfolding LittleEndian
   swap-halves s at n h word =
       let xs = part at k s in
       let ys = part (at + k) k s in
@@ -108,19 +108,19 @@ module _ (k w : ℕ) (p : w ≡ 256 ^ k) (swap : ℕ → ℕ) (known : (s : Byte
       let hi : n / w ≡ littleNumber ys = ap (λ (m : ℕ). m / w) e ∙ q .1 in
       number-halves k w s at _ (swap (n % w)) (swap (n / w)) p h (known s at (n % w) (omega arith) (lo, o .0)) (known s (at + k) (n / w) (omega arith) (hi, o .1)) refl
 
-one-byte : (s : Bytes) (at n : ℕ) → at + 1 ≤ length s → Word (part at 1 s) n → n ≡ number at 1 s
-unfolding Word littleNumber numberFrom
+one-byte : (s : Bytes) (at n : ℕ) → at + 1 ≤ length s → LittleEndian (part at 1 s) n → n ≡ number at 1 s
+unfolding LittleEndian littleNumber numberFrom
 one-byte s at n h word = word .0 ∙ rw (part-one s at (omega arith)) (omega arith)
 
-swap-two : (s : Bytes) (at n : ℕ) → at + 2 ≤ length s → Word (part at 2 s) n → swapped16 n ≡ number at 2 s
+swap-two : (s : Bytes) (at n : ℕ) → at + 2 ≤ length s → LittleEndian (part at 2 s) n → swapped16 n ≡ number at 2 s
 unfolding swapped16
 swap-two = swap-halves 1 256 refl (λ n. n) one-byte (λ lo hi h. (omega arith, omega arith))
 
-swap-four : (s : Bytes) (at n : ℕ) → at + 4 ≤ length s → Word (part at 4 s) n → swapped32 n ≡ number at 4 s
+swap-four : (s : Bytes) (at n : ℕ) → at + 4 ≤ length s → LittleEndian (part at 4 s) n → swapped32 n ≡ number at 4 s
 unfolding swapped32
 swap-four = swap-halves 2 65536 refl swapped16 swap-two (λ lo hi h. (omega arith, omega arith))
 
-pub swap-eight : (s : Bytes) (at n r : ℕ) → at + 8 ≤ length s → Word (part at 8 s) n → r ≡ swapped64 n → r ≡ number at 8 s
+pub swap-eight : (s : Bytes) (at n r : ℕ) → at + 8 ≤ length s → LittleEndian (part at 8 s) n → r ≡ swapped64 n → r ≡ number at 8 s
 unfolding swapped64
 swap-eight s at n r h word e = e ∙ swap-halves 4 4294967296 refl swapped32 swap-four (λ lo hi h. (omega arith, omega arith)) s at n h word
 

@@ -10,8 +10,8 @@ littleNumber [] = 0
 littleNumber (b ∷ bs) = b + littleNumber bs * 256
 
 -- n is that number, and each byte is one
-unfoldable pub Word : Bytes → ℕ → Type 0
-Word bs n = (n ≡ littleNumber bs) × Every (λ b. b < 256) bs
+unfoldable pub LittleEndian : Bytes → ℕ → Type 0
+LittleEndian bs n = (n ≡ littleNumber bs) × Every (λ b. b < 256) bs
 
 -- the number of two, four and eight bytes with its bytes in the other order
 unfoldable pub swapped16 : ℕ → ℕ

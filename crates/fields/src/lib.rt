@@ -6,7 +6,7 @@ ghost use lib.ListN.{length};
 ghost use lib.Dec.{eqb};
 ghost use Rattle.rules.specs.Basics.{allZero, same, bit, bitCount, within, part, number, blank, flag};
 ghost use Rattle.rules.specs.Layout.{tokenParametersAt};
-ghost use Rattle.fields.specs.Words.{Word, swapped16, swapped32, swapped64};
+ghost use Rattle.fields.specs.Words.{LittleEndian, swapped16, swapped32, swapped64};
 
 // Whether two runs of bytes of one length are the same, byte by byte: for runs of fewer than eight. No test here stops at the first difference, for
 // joining the answers costs less than a jump after each.
@@ -117,21 +117,21 @@ fn join64(hi: u32, lo: u32) -> u64
 // The little-endian number of 2, 4 and 8 bytes from an offset on: the order of the processor, so that each is one load.
 fn little16(s: &[u8], at: usize) -> u16
     requires { ⌜ at + 2 ≤ length (now s) ⌝ }
-    ensures { λ r. ⌜ Word (part at 2 (now (s .entry))) r ⌝ }
+    ensures { λ r. ⌜ LittleEndian (part at 2 (now (s .entry))) r ⌝ }
 {
     join16(s[at + 1], s[at])
 }
 
 fn little32(s: &[u8], at: usize) -> u32
     requires { ⌜ at + 4 ≤ length (now s) ⌝ }
-    ensures { λ r. ⌜ Word (part at 4 (now (s .entry))) r ⌝ }
+    ensures { λ r. ⌜ LittleEndian (part at 4 (now (s .entry))) r ⌝ }
 {
     join32(little16(s, at + 2), little16(s, at))
 }
 
 fn little64(s: &[u8], at: usize) -> u64
     requires { ⌜ at + 8 ≤ length (now s) ⌝ }
-    ensures { λ r. ⌜ Word (part at 8 (now (s .entry))) r ⌝ }
+    ensures { λ r. ⌜ LittleEndian (part at 8 (now (s .entry))) r ⌝ }
 {
     join64(little32(s, at + 4), little32(s, at))
 }

@@ -6,6 +6,6 @@ use Rattle.files.specs.declared.Checked.{Checked}
 use Rattle.files.specs.declared.Checked.the-variants.{Sound, Refused}
 
 -- the first fault that a reader found, if any, by its number
-abbrev pub faultOf : Checked → Option ℕ
-faultOf Sound = none
-faultOf (Refused r) = some (refusalNumber r)
+abbrev pub faultAs : Checked → Option ℕ
+faultAs Sound = none
+faultAs (Refused r) = some (refusalNumber r)

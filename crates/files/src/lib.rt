@@ -2,7 +2,7 @@
 ghost use mathlib.Core.Path.{_≡_};
 ghost use Prim.Native.Nat.{_≤_};
 ghost use Rattle.rules.specs.Basics.{fits, orNext};
-ghost use Rattle.files.specs.Faults.{faultOf};
+ghost use Rattle.files.specs.Faults.{faultAs};
 use refusals::Refusal;
 
 // What a reader finds: no fault, or the first one.
@@ -13,7 +13,7 @@ pub enum Checked {
 
 // The first fault of two readings, one after the other.
 pub fn first_fault(a: Checked, b: Checked) -> Checked
-    ensures { λ r. ⌜ faultOf r ≡ orNext (faultOf a) (faultOf b) ⌝ }
+    ensures { λ r. ⌜ faultAs r ≡ orNext (faultAs a) (faultAs b) ⌝ }
 {
     match a {
         Checked::Sound => b,

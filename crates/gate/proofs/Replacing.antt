@@ -18,14 +18,14 @@ use Rattle.refusals.specs.declared.Refusal.{Refusal}
 use Rattle.refusals.specs.Refusals.{refusalNumber}
 use Rattle.files.specs.declared.Checked.{Checked}
 use Rattle.files.specs.declared.Checked.the-variants as checked
-use Rattle.files.specs.Faults.{faultOf}
+use Rattle.files.specs.Faults.{faultAs}
 use Rattle.judging.specs.declared.Judged.{Judged}
-use Rattle.judging.specs.Standings.{judgedAs}
+use Rattle.judging.specs.Standings.{judgedFor}
 use Rattle.charging.specs.Charges.{decided, countersCharged, countsCharged, lastAfter}
 use Rattle.carrying.specs.Carried.{carriedOf, noCounts, countsAfter}
 use Rattle.carrying.proofs.Laws.{carried-is}
 use Rattle.gate_files.proofs.Passed.{narrow-sound, expand-sound, no-fault, a-fault}
-use Rattle.gate.specs.Outcomes.{permittedIf, settledAs, narrowedCounts, Settles}
+use Rattle.gate.specs.Outcomes.{permittedIf, outcomeWith, narrowedCounts, Settles}
 use Rattle.gate.proofs.Settling.{settled-by, refused-by, not-refused, settles-refused, settles-judged, settles-outcome}
 
 -- what a replacement makes of an outcome: of a permit's group counts others, and nothing else
@@ -58,25 +58,25 @@ module _ (l : Ledger) (km0 : Bytes) (gs : List Group) (q : Request) (a : Answer)
   abbrev o : Outcome
   o = record { answer = a; ledger = record { counts = end; counters = counters; loaded = loaded; last = n } }
 
-  replaced-is : (f : List ℕ → List ℕ) → end ≡ countsAfter f a counts → o ≡ replaced f (settledAs a counts counters loaded last (q .time))
+  replaced-is : (f : List ℕ → List ℕ) → end ≡ countsAfter f a counts → o ≡ replaced f (outcomeWith a counts counters loaded last (q .time))
   replaced-is f d =
       ap (λ (x : List ℕ). record { answer = a; ledger = record { counts = x; counters = counters; loaded = loaded; last = n } }) d
       ∙ ap (λ (x : ℕ). record { answer = a; ledger = record { counts = countsAfter f a counts; counters = counters; loaded = loaded; last = x } }) (e ∙ ap (lastAfter a last) w)
 
   pub narrow-settled : (new : List Group) (hs : List Hint) (shown : Bool) → length hs ≤ groupsMax → shown ≡ narrows gs new hs
-      → settledAs a counts counters loaded last (q .time) ≡ settle l (q .time) (permittedIf l shown) (judge l km0 gs q) → end ≡ countsAfter (carriedOf hs) a counts
+      → outcomeWith a counts counters loaded last (q .time) ≡ settle l (q .time) (permittedIf l shown) (judge l km0 gs q) → end ≡ countsAfter (carriedOf hs) a counts
       → o ≡ settle l (q .time) (narrowed l gs new hs) (judge l km0 gs q)
   narrow-settled new hs shown few s p d =
       replaced-is (carriedOf hs) d
       ∙ ap (replaced (carriedOf hs)) (p ∙ ap (λ (b : Bool). settle l (q .time) (permittedIf l b) (judge l km0 gs q)) s)
       ∙ settled-narrowed l (q .time) gs new hs few (judge l km0 gs q)
 
-  pub expand-settled : settledAs a counts counters loaded last (q .time) ≡ settle l (q .time) (permittedIf l true) (judge l km0 gs q) → end ≡ countsAfter noCounts a counts
+  pub expand-settled : outcomeWith a counts counters loaded last (q .time) ≡ settle l (q .time) (permittedIf l true) (judge l km0 gs q) → end ≡ countsAfter noCounts a counts
       → o ≡ settle l (q .time) expanded (judge l km0 gs q)
   expand-settled p d = replaced-is noCounts d ∙ ap (replaced noCounts) p ∙ settled-expanded l (q .time) (judge l km0 gs q)
 
 -- A narrowing: its files have a fault, or it is judged.
-module _ (km0 acl req new hints : Bytes) (x : Checked) (e : faultOf x ≡ narrowFiles km0 acl req new hints) where
+module _ (km0 acl req new hints : Bytes) (x : Checked) (e : faultAs x ≡ narrowFiles km0 acl req new hints) where
   pub narrow-begun : x ≡ checked.Sound → Sound req
   narrow-begun p = narrow-sound km0 acl req new hints (no-fault _ x e p) .0
 
@@ -87,7 +87,7 @@ module _ (km0 acl req new hints : Bytes) (x : Checked) (e : faultOf x ≡ narrow
       settles-refused l (aclOf acl) (requestOf req .time) (narrowedCounts (hintsOf hints)) (narrow l km0 acl req new hints) (refusalNumber why) refl
       (refused-by l (narrowFiles km0 acl req new hints) _ _ (refusalNumber why) (a-fault _ x e why p) refl)
 
-  pub narrow-judged : (l : Ledger) (shown : Bool) (j : Judged) (a : Answer) → x ≡ checked.Sound → j ≡ judgedAs (judge l km0 (aclOf acl) (requestOf req)) → shown ≡ narrows (aclOf acl) (aclOf new) (hintsOf hints) → a ≡ decided shown j
+  pub narrow-judged : (l : Ledger) (shown : Bool) (j : Judged) (a : Answer) → x ≡ checked.Sound → j ≡ judgedFor (judge l km0 (aclOf acl) (requestOf req)) → shown ≡ narrows (aclOf acl) (aclOf new) (hintsOf hints) → a ≡ decided shown j
       → Settles l (aclOf acl) (requestOf req .time) (narrowedCounts (hintsOf hints)) a (narrow l km0 acl req new hints)
   unfolding narrow
   narrow-judged l shown j a p f s d =
@@ -114,7 +114,7 @@ zeroed (permit place) counts = refl
 zeroed (refuse n near) counts = refl
 
 -- An expansion: its files have a fault, or it is judged.
-module _ (km0 acl req new : Bytes) (x : Checked) (e : faultOf x ≡ expandFiles km0 acl req new) where
+module _ (km0 acl req new : Bytes) (x : Checked) (e : faultAs x ≡ expandFiles km0 acl req new) where
   pub expand-begun : x ≡ checked.Sound → Sound req
   expand-begun p = expand-sound km0 acl req new (no-fault _ x e p) .0
 
@@ -125,7 +125,7 @@ module _ (km0 acl req new : Bytes) (x : Checked) (e : faultOf x ≡ expandFiles 
       settles-refused l (aclOf acl) (requestOf req .time) (countsAfter noCounts) (expand l km0 acl req new) (refusalNumber why) refl
       (refused-by l (expandFiles km0 acl req new) _ _ (refusalNumber why) (a-fault _ x e why p) refl)
 
-  pub expand-judged : (l : Ledger) (j : Judged) (a : Answer) → x ≡ checked.Sound → j ≡ judgedAs (judge l km0 (aclOf acl) (requestOf req)) → a ≡ decided true j
+  pub expand-judged : (l : Ledger) (j : Judged) (a : Answer) → x ≡ checked.Sound → j ≡ judgedFor (judge l km0 (aclOf acl) (requestOf req)) → a ≡ decided true j
       → Settles l (aclOf acl) (requestOf req .time) (countsAfter noCounts) a (expand l km0 acl req new)
   unfolding expand
   expand-judged l j a p f d =

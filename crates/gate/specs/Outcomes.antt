@@ -11,16 +11,16 @@ use Rattle.rules.specs.Ledger as rules
 use Rattle.rules.specs.Gate as rulesGate
 use Rattle.gate.specs.declared.Ledger.{Ledger}
 use Rattle.gate.specs.declared.Outcome.{Outcome}
-use Rattle.charging.specs.Charges.{answerOf, CountersRoom, CountRoom, countersCharged, countsCharged, lastAfter}
+use Rattle.charging.specs.Charges.{answerAs, CountersRoom, CountRoom, countersCharged, countsCharged, lastAfter}
 use Rattle.carrying.specs.Carried.{carriedOf, countsAfter}
 
 -- the ledger
-abbrev pub ledgerOf : Ledger → rules.Ledger
-ledgerOf l = record { counts = l .counts; counters = l .counters; loaded = l .loaded; last = l .last }
+abbrev pub ledgerAs : Ledger → rules.Ledger
+ledgerAs l = record { counts = l .counts; counters = l .counters; loaded = l .loaded; last = l .last }
 
 -- "Every step takes the ledger whole and hands it back."
-abbrev pub outcomeOf : Outcome → rulesGate.Outcome
-outcomeOf o = record { answer = answerOf (o .reply); ledger = ledgerOf (o .ledger) }
+abbrev pub outcomeAs : Outcome → rulesGate.Outcome
+outcomeAs o = record { answer = answerAs (o .reply); ledger = ledgerAs (o .ledger) }
 
 -- "charged: own count and each named counter plus 1, last time set to the request's", by the group's limits
 abbrev pub chargedWith : rules.Ledger → ℕ → List Limit → ℕ → rules.Ledger
@@ -37,8 +37,8 @@ unfoldable pub permittedIf : rules.Ledger → Bool → ℕ → rules.Ledger → 
 permittedIf l shown place charged = if shown then rulesGate.permitted place charged else rulesGate.refused l notNarrower
 
 -- an outcome by its answer and the ledger's tables
-abbrev pub settledAs : rulesGate.Answer → List ℕ → List ℕ → ℕ → ℕ → ℕ → rulesGate.Outcome
-settledAs a counts counters loaded last time =
+abbrev pub outcomeWith : rulesGate.Answer → List ℕ → List ℕ → ℕ → ℕ → ℕ → rulesGate.Outcome
+outcomeWith a counts counters loaded last time =
     record {
       answer = a;
       ledger = record { counts = counts; counters = counters; loaded = loaded; last = lastAfter a last time };
@@ -53,4 +53,4 @@ narrowedCounts hs a counts = countsAfter (carriedOf hs) a (countsCharged a count
 pub record Settles (l : rules.Ledger) (gs : List Group) (time : ℕ) (after : rulesGate.Answer → List ℕ → List ℕ) (a : rulesGate.Answer) (o : rulesGate.Outcome) : Type 0 where
   pub counters-room : CountersRoom (l .counters) gs a
   pub count-room : CountRoom (l .counts) a
-  pub settled : settledAs a (after a (l .counts)) (countersCharged gs a (l .counters)) (l .loaded) (l .last) time ≡ o
+  pub settled : outcomeWith a (after a (l .counts)) (countersCharged gs a (l .counters)) (l .loaded) (l .last) time ≡ o

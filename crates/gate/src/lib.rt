@@ -5,10 +5,10 @@ ghost use Rattle.rules.specs.Request.{requestOf, hintsOf};
 ghost use Rattle.rules.specs.Ledger.{freshLedger};
 ghost use Rattle.rules.specs.Gate.{load, clear, request, refused, narrow, expand};
 ghost use Rattle.refusals.specs.Refusals.{refusalNumber};
-ghost use Rattle.judging.specs.Standings.{tablesOf};
-ghost use Rattle.charging.specs.Charges.{answerOf, countsCharged};
+ghost use Rattle.judging.specs.Standings.{ledgerOfTables};
+ghost use Rattle.charging.specs.Charges.{answerAs, countsCharged};
 ghost use Rattle.carrying.specs.Carried.{noCounts, countsAfter};
-ghost use Rattle.gate.specs.Outcomes.{ledgerOf, outcomeOf, narrowedCounts, Settles};
+ghost use Rattle.gate.specs.Outcomes.{ledgerAs, outcomeAs, narrowedCounts, Settles};
 use charging::Reply;
 use files::Checked;
 use refusals::Refusal;
@@ -37,7 +37,7 @@ impl Ledger {
 
     // The fresh ledger: all zero.
     pub fn fresh() -> Self
-        ensures { λ r. ⌜ ledgerOf r ≡ freshLedger ⌝ }
+        ensures { λ r. ⌜ ledgerAs r ≡ freshLedger ⌝ }
     {
         Self {
             counts: [0u32; Ledger::GROUPS],
@@ -49,7 +49,7 @@ impl Ledger {
 
     // A load, at any time: group counts zero, both times set to it.
     pub fn load(mut self, time: u64) -> Outcome
-        ensures { λ r. ⌜ outcomeOf r ≡ load (ledgerOf self) time ⌝ }
+        ensures { λ r. ⌜ outcomeAs r ≡ load (ledgerAs self) time ⌝ }
     {
         self.counts = [0u32; Ledger::GROUPS];
         self.loaded = time;
@@ -62,7 +62,7 @@ impl Ledger {
 
     // A clear of one named counter.
     pub fn clear(mut self, counter: usize) -> Outcome
-        ensures { λ r. ⌜ outcomeOf r ≡ clear (ledgerOf self) counter ⌝ }
+        ensures { λ r. ⌜ outcomeAs r ≡ clear (ledgerAs self) counter ⌝ }
     {
         if Ledger::COUNTERS <= counter {
             return self.refuse(Refusal::OutOfRange);
@@ -76,7 +76,7 @@ impl Ledger {
 
     // A refusal: the ledger stands.
     fn refuse(self, why: Refusal) -> Outcome
-        ensures { λ r. ⌜ outcomeOf r ≡ refused (ledgerOf self) (refusalNumber why) ⌝ }
+        ensures { λ r. ⌜ outcomeAs r ≡ refused (ledgerAs self) (refusalNumber why) ⌝ }
     {
         Outcome {
             ledger: self,
@@ -96,7 +96,7 @@ pub fn request_reply<'a>(
     acl: &[u8],
     req: &[u8],
 ) -> Reply
-    ensures { λ r. ⌜ Settles (tablesOf (now (counts .entry)) (now (counters .entry)) loaded last) (aclOf (now (acl .entry))) (requestOf (now (req .entry)) .time) countsCharged (answerOf r) (request (tablesOf (now (counts .entry)) (now (counters .entry)) loaded last) (now (km0 .entry)) (now (acl .entry)) (now (req .entry))) ⌝ }
+    ensures { λ r. ⌜ Settles (ledgerOfTables (now (counts .entry)) (now (counters .entry)) loaded last) (aclOf (now (acl .entry))) (requestOf (now (req .entry)) .time) countsCharged (answerAs r) (request (ledgerOfTables (now (counts .entry)) (now (counters .entry)) loaded last) (now (km0 .entry)) (now (acl .entry)) (now (req .entry))) ⌝ }
 {
     let fault = gate_files::request_files(km0, acl, req);
     match fault {
@@ -112,7 +112,7 @@ impl Ledger {
     // A request for a use or a blob: KM0, the ACL, the request with its certificates. Any bytes get a reply; a refusal hands the ledger back as it was.
     // The tables are charged where they stand, one after the other.
     pub fn request(mut self, km0: &[u8], acl: &[u8], req: &[u8]) -> Outcome
-        ensures { λ r. ⌜ outcomeOf r ≡ request (ledgerOf self) (now (km0 .entry)) (now (acl .entry)) (now (req .entry)) ⌝ }
+        ensures { λ r. ⌜ outcomeAs r ≡ request (ledgerAs self) (now (km0 .entry)) (now (acl .entry)) (now (req .entry)) ⌝ }
     {
         let loaded = self.loaded;
         let last = self.last;
@@ -139,7 +139,7 @@ pub fn narrow_reply<'a>(
     new: &[u8],
     hints: &[u8],
 ) -> Reply
-    ensures { λ r. ⌜ Settles (tablesOf (now (counts .entry)) (now (counters .entry)) loaded last) (aclOf (now (acl .entry))) (requestOf (now (req .entry)) .time) (narrowedCounts (hintsOf (now (hints .entry)))) (answerOf r) (narrow (tablesOf (now (counts .entry)) (now (counters .entry)) loaded last) (now (km0 .entry)) (now (acl .entry)) (now (req .entry)) (now (new .entry)) (now (hints .entry))) ⌝ }
+    ensures { λ r. ⌜ Settles (ledgerOfTables (now (counts .entry)) (now (counters .entry)) loaded last) (aclOf (now (acl .entry))) (requestOf (now (req .entry)) .time) (narrowedCounts (hintsOf (now (hints .entry)))) (answerAs r) (narrow (ledgerOfTables (now (counts .entry)) (now (counters .entry)) loaded last) (now (km0 .entry)) (now (acl .entry)) (now (req .entry)) (now (new .entry)) (now (hints .entry))) ⌝ }
 {
     let fault = gate_files::narrow_files(km0, acl, req, new, hints);
     match fault {
@@ -162,7 +162,7 @@ pub fn expand_reply<'a>(
     req: &[u8],
     new: &[u8],
 ) -> Reply
-    ensures { λ r. ⌜ Settles (tablesOf (now (counts .entry)) (now (counters .entry)) loaded last) (aclOf (now (acl .entry))) (requestOf (now (req .entry)) .time) (countsAfter noCounts) (answerOf r) (expand (tablesOf (now (counts .entry)) (now (counters .entry)) loaded last) (now (km0 .entry)) (now (acl .entry)) (now (req .entry)) (now (new .entry))) ⌝ }
+    ensures { λ r. ⌜ Settles (ledgerOfTables (now (counts .entry)) (now (counters .entry)) loaded last) (aclOf (now (acl .entry))) (requestOf (now (req .entry)) .time) (countsAfter noCounts) (answerAs r) (expand (ledgerOfTables (now (counts .entry)) (now (counters .entry)) loaded last) (now (km0 .entry)) (now (acl .entry)) (now (req .entry)) (now (new .entry))) ⌝ }
 {
     let fault = gate_files::expand_files(km0, acl, req, new);
     match fault {
@@ -178,7 +178,7 @@ impl Ledger {
     // A narrowing, a use of ReduceACL: KM0, the ACL, the request with its certificates, the new ACL, a hint for each new group. A refusal hands the
     // ledger back as it was.
     pub fn narrow(mut self, km0: &[u8], acl: &[u8], req: &[u8], new: &[u8], hints: &[u8]) -> Outcome
-        ensures { λ r. ⌜ outcomeOf r ≡ narrow (ledgerOf self) (now (km0 .entry)) (now (acl .entry)) (now (req .entry)) (now (new .entry)) (now (hints .entry)) ⌝ }
+        ensures { λ r. ⌜ outcomeAs r ≡ narrow (ledgerAs self) (now (km0 .entry)) (now (acl .entry)) (now (req .entry)) (now (new .entry)) (now (hints .entry)) ⌝ }
     {
         let loaded = self.loaded;
         let last = self.last;
@@ -205,7 +205,7 @@ impl Ledger {
 
     // An expansion, a use of ExpandACL: KM0, the ACL, the request with its certificates, the new ACL. A refusal hands the ledger back as it was.
     pub fn expand(mut self, km0: &[u8], acl: &[u8], req: &[u8], new: &[u8]) -> Outcome
-        ensures { λ r. ⌜ outcomeOf r ≡ expand (ledgerOf self) (now (km0 .entry)) (now (acl .entry)) (now (req .entry)) (now (new .entry)) ⌝ }
+        ensures { λ r. ⌜ outcomeAs r ≡ expand (ledgerAs self) (now (km0 .entry)) (now (acl .entry)) (now (req .entry)) (now (new .entry)) ⌝ }
     {
         let loaded = self.loaded;
         let last = self.last;

@@ -21,7 +21,7 @@ use Rattle.refusals.specs.declared.Refusal.{Refusal}
 use Rattle.refusals.specs.Refusals.{refusalNumber}
 use Rattle.files.specs.declared.Checked.{Checked}
 use Rattle.files.specs.declared.Checked.the-variants as checked
-use Rattle.files.specs.Faults.{faultOf}
+use Rattle.files.specs.Faults.{faultAs}
 use Rattle.request.specs.Following.{followingFault}
 use Rattle.request.specs.Parts.{Sound}
 
@@ -76,9 +76,9 @@ expand-sound km0 acl req new e =
     (sound-request (useOf expandAcl) req (h .1 .1 .0) (fitting-request km0 acl req (and-left (lengthsFit km0 acl req) (fits aclRecords new) t)), h .1 .0)
 
 -- What a call's files came to, by what the code found in them.
-module _ (files : Option ℕ) (x : Checked) (e : faultOf x ≡ files) where
+module _ (files : Option ℕ) (x : Checked) (e : faultAs x ≡ files) where
   pub no-fault : x ≡ checked.Sound → files ≡ none
-  no-fault p = sym e ∙ ap faultOf p
+  no-fault p = sym e ∙ ap faultAs p
 
   pub a-fault : (why : Refusal) → x ≡ checked.Refused why → files ≡ some (refusalNumber why)
-  a-fault why p = sym e ∙ ap faultOf p
+  a-fault why p = sym e ∙ ap faultAs p

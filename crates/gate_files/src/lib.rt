@@ -1,7 +1,7 @@
 // The first fault of a call's files.
 ghost use mathlib.Core.Path.{_≡_};
 ghost use Rattle.rules.specs.Gate.{lengthsFit, requestFiles, narrowFiles, expandFiles};
-ghost use Rattle.files.specs.Faults.{faultOf};
+ghost use Rattle.files.specs.Faults.{faultAs};
 use files::Checked;
 use refusals::Refusal;
 
@@ -21,7 +21,7 @@ fn lengths_fit(km0: &[u8], acl: &[u8], req: &[u8]) -> bool
 
 // The first fault of a request's files.
 pub fn request_files(km0: &[u8], acl: &[u8], req: &[u8]) -> Checked
-    ensures { λ r. ⌜ faultOf r ≡ requestFiles (now (km0 .entry)) (now (acl .entry)) (now (req .entry)) ⌝ }
+    ensures { λ r. ⌜ faultAs r ≡ requestFiles (now (km0 .entry)) (now (acl .entry)) (now (req .entry)) ⌝ }
 {
     if !lengths_fit(km0, acl, req) {
         return Checked::Refused(Refusal::BadLength);
@@ -35,7 +35,7 @@ pub fn request_files(km0: &[u8], acl: &[u8], req: &[u8]) -> Checked
 
 // The first fault of a narrowing's files.
 pub fn narrow_files(km0: &[u8], acl: &[u8], req: &[u8], new: &[u8], hints: &[u8]) -> Checked
-    ensures { λ r. ⌜ faultOf r ≡ narrowFiles (now (km0 .entry)) (now (acl .entry)) (now (req .entry)) (now (new .entry)) (now (hints .entry)) ⌝ }
+    ensures { λ r. ⌜ faultAs r ≡ narrowFiles (now (km0 .entry)) (now (acl .entry)) (now (req .entry)) (now (new .entry)) (now (hints .entry)) ⌝ }
 {
     let fit = lengths_fit(km0, acl, req)
         & files::whole(sizes::ACL_RECORDS, new)
@@ -50,7 +50,7 @@ pub fn narrow_files(km0: &[u8], acl: &[u8], req: &[u8], new: &[u8], hints: &[u8]
 
 // The first fault of an expansion's files.
 pub fn expand_files(km0: &[u8], acl: &[u8], req: &[u8], new: &[u8]) -> Checked
-    ensures { λ r. ⌜ faultOf r ≡ expandFiles (now (km0 .entry)) (now (acl .entry)) (now (req .entry)) (now (new .entry)) ⌝ }
+    ensures { λ r. ⌜ faultAs r ≡ expandFiles (now (km0 .entry)) (now (acl .entry)) (now (req .entry)) (now (new .entry)) ⌝ }
 {
     let fit = lengths_fit(km0, acl, req) & files::whole(sizes::ACL_RECORDS, new);
     if !fit {

@@ -8,7 +8,7 @@ use Rattle.rules.specs.Basics.{if_then_else_, Bytes, bothSame, orNext}
 use Rattle.rules.specs.Acl.{Action, Group}
 use Rattle.rules.specs.Bundle.{Policy}
 use Rattle.rules.specs.Desk.{Step, failureUnder, aclFailure, actionProtection, keyProtection, isArchive, recoverableKey}
-use Rattle.steps.specs.Steps.{failureOf}
+use Rattle.steps.specs.Steps.{failureAs}
 use Rattle.grading.specs.declared.Grade.{Grade}
 
 -- the first failing step, the protection, whether the key is recoverable
@@ -19,11 +19,11 @@ pub record Graded : Type 0 where
 
 -- what the code finds
 abbrev pub gradedAs : Grade → Graded
-gradedAs g = record { failure = failureOf (g .failure); protection = g .protection; recoverable = g .recoverable }
+gradedAs g = record { failure = failureAs (g .failure); protection = g .protection; recoverable = g .recoverable }
 
 -- "ACL, in record order", "The key's is the smallest": two parts, one after the other
-unfoldable pub both : Graded → Graded → Graded
-both x y =
+unfoldable pub gradedTogether : Graded → Graded → Graded
+gradedTogether x y =
     record {
       failure = orNext (x .failure) (y .failure);
       protection = min (x .protection) (y .protection);
@@ -35,9 +35,9 @@ abbrev pub noActions : Bool → Graded
 noActions recoverable = record { failure = none; protection = notKept; recoverable = recoverable }
 
 -- all parts, one after the other
-unfoldable pub inOrder : {A : Type 0} → (A → Graded) → List A → Graded
-inOrder f [] = noActions false
-inOrder f (x ∷ xs) = both (f x) (inOrder f xs)
+unfoldable pub allGraded : {A : Type 0} → (A → Graded) → List A → Graded
+allGraded f [] = noActions false
+allGraded f (x ∷ xs) = gradedTogether (f x) (allGraded f xs)
 
 -- "Else per action": one action, under a policy and the trusted keys ..
 unfoldable pub actionGraded : Policy → Option Bytes → Option Bytes → Action → Graded
@@ -46,7 +46,7 @@ actionGraded policy hkm hkre a =
 
 -- .. and all of a group's
 unfoldable pub actionsGraded : Policy → Option Bytes → Option Bytes → List Action → Graded
-actionsGraded policy hkm hkre list = inOrder (actionGraded policy hkm hkre) list
+actionsGraded policy hkm hkre list = allGraded (actionGraded policy hkm hkre) list
 
 -- a group, under the officer's key too: one of the officer's "marks the key recoverable and is skipped (ACLV1)" ..
 unfoldable pub groupGraded : Option Bytes → Policy → Option Bytes → Option Bytes → Group → Graded
@@ -55,7 +55,7 @@ groupGraded officer policy hkm hkre g =
 
 -- .. and all of an ACL's
 unfoldable pub groupsGraded : Option Bytes → Policy → Option Bytes → Option Bytes → List Group → Graded
-groupsGraded officer policy hkm hkre gs = inOrder (groupGraded officer policy hkm hkre) gs
+groupsGraded officer policy hkm hkre gs = allGraded (groupGraded officer policy hkm hkre) gs
 
 -- an ACL, by the desk's definitions
 unfoldable pub aclGraded : List Bytes → List Group → Graded

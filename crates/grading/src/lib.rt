@@ -10,7 +10,7 @@ ghost use Rattle.rules.specs.Bundle.{policyOf};
 ghost use Rattle.facts.specs.Found.{policyAs};
 ghost use Rattle.facts.specs.Places.{Found};
 ghost use Rattle.evidence.specs.Given.{given};
-ghost use Rattle.grading.specs.Grades.{gradedAs, both, noActions, actionGraded, groupsGraded, aclGraded};
+ghost use Rattle.grading.specs.Grades.{gradedAs, gradedTogether, noActions, actionGraded, groupsGraded, aclGraded};
 use facts::Policy;
 use steps::Failure;
 
@@ -33,7 +33,7 @@ fn weaker(a: u8, b: u8) -> u8
 
 // What two parts come to, one after the other. The key's protection is the weakest of all MakeBlob actions that are checked, not of the first.
 fn joined(a: Grade, b: Grade) -> Grade
-    ensures { λ r. ⌜ gradedAs r ≡ both (gradedAs a) (gradedAs b) ⌝ }
+    ensures { λ r. ⌜ gradedAs r ≡ gradedTogether (gradedAs a) (gradedAs b) ⌝ }
 {
     let first = a.failure;
     let next = b.failure;
@@ -53,21 +53,21 @@ fn action_grade(policy: Policy, hkm: &[u8], hkre: &[u8], rec: &[u8]) -> Grade
     let kind = rec[0];
     if kind == 3 {
         return Grade {
-            failure: actions::permission_step(policy, rec),
-            protection: actions::NOT_KEPT,
+            failure: desk_actions::permission_step(policy, rec),
+            protection: desk_actions::NOT_KEPT,
             recoverable: false,
         };
     }
     if kind == 4 {
         return Grade {
-            failure: actions::blob_steps(hkm, rec),
-            protection: actions::blob_protection(rec),
+            failure: desk_actions::blob_steps(hkm, rec),
+            protection: desk_actions::blob_protection(rec),
             recoverable: false,
         };
     }
     Grade {
-        failure: actions::archive_steps(policy, hkre, rec),
-        protection: actions::NOT_KEPT,
+        failure: desk_actions::archive_steps(policy, hkre, rec),
+        protection: desk_actions::NOT_KEPT,
         recoverable: true,
     }
 }
@@ -78,7 +78,7 @@ fn no_actions(recoverable: bool) -> Grade
 {
     Grade {
         failure: Failure::Nothing,
-        protection: actions::NOT_KEPT,
+        protection: desk_actions::NOT_KEPT,
         recoverable: recoverable,
     }
 }
@@ -94,7 +94,7 @@ fn groups_grade(officer: &[u8], policy: Policy, hkm: &[u8], hkre: &[u8], acl: &[
     while sizes::RECORD <= acl.len() - at {
         let rec = &acl[at..at + sizes::RECORD];
         if acl[at] == 1 {
-            let officers = actions::names_key(officer, 0, 4, rec);
+            let officers = desk_actions::names_key(officer, 0, 4, rec);
             found = joined(found, no_actions(officers));
             checked = !officers;
             at = groups::next_part(acl, at + sizes::RECORD);

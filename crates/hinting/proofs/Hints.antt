@@ -22,7 +22,7 @@ use Rattle.rules.proofs.Trim.{fresh-group, group-places, places-group, places-l
 use Rattle.keeping.specs.declared.Fate.{Fate}
 use Rattle.keeping.specs.Fates.{actionFate, isKept}
 use Rattle.keeping.proofs.Laws.{action-stays}
-use Rattle.subject.specs.Writing.{over}
+use Rattle.subject.specs.Writing.{overwritten}
 use Rattle.hinting.specs.declared.Hint.{Hint}
 use Rattle.hinting.specs.Hinting.{begunHint, named, unnamed, actionHinted, recordHinted, placesAt, SoundFrom}
 use Rattle.hinting.proofs.Written.{Writing, writing-start, writing-room, writing-next, writing-done}
@@ -287,7 +287,7 @@ module _ (b : List Bytes) (acl old new : Bytes) (at groups to : ℕ) (inv : Writ
   pub hints-skip : recordBytes ≤ length acl - at → (getD acl at 0 ≡ 1 → ⊥) → Writing (trimHints b acl) old new (joined (hintsFrom b groups (recordsFrom acl (at + recordBytes)))) to
   hints-skip h n = rw (hints-other b groups acl at h (no-group acl at n)) at inv
 
-  pub hints-done : length (trimHints b acl) ≤ length old → length acl - at < recordBytes → new ≡ over (trimHints b acl) old
+  pub hints-done : length (trimHints b acl) ≤ length old → length acl - at < recordBytes → new ≡ overwritten (trimHints b acl) old
   unfolding joined
   hints-done fits h = writing-done (trimHints b acl) old new (joined (hintsFrom b groups (recordsFrom acl at))) to inv fits (ap joined (hints-end b groups acl at h))
 
@@ -312,8 +312,8 @@ module _ (b : List Bytes) (acl old new : Bytes) (at groups to : ℕ) (inv : Writ
         let m = ap length e in
         omega (arith, l, t, r, m)
 
-    pub hints-next : (hint e : Bytes) → hint ≡ hintBytes groups (placesAt b acl at) → e ≡ over hint (take (length new - to) (drop to new))
+    pub hints-next : (hint e : Bytes) → hint ≡ hintBytes groups (placesAt b acl at) → e ≡ overwritten hint (take (length new - to) (drop to new))
         → Writing (trimHints b acl) old (take to new ++ (e ++ drop (length new - to) (drop to new))) (joined (hintsFrom b (groups + 1) (recordsFrom acl (at + recordBytes)))) (to + recordBytes)
     hints-next hint e d q =
         writing-next (trimHints b acl) old new (joined (hintsFrom b groups (recordsFrom acl at))) to inv fits (hintBytes groups (placesAt b acl at)) (joined (hintsFrom b (groups + 1) (recordsFrom acl (at + recordBytes)))) e recordBytes
-        rest-is (sym whole) (q ∙ ap (λ (z : Bytes). over z (take (length new - to) (drop to new))) d)
+        rest-is (sym whole) (q ∙ ap (λ (z : Bytes). overwritten z (take (length new - to) (drop to new))) d)

@@ -5,18 +5,18 @@ use mathlib.Core.Path.{_≡_, refl, sym, _∙_, ap}
 use mathlib.Core.List.{List, [], _++_, append-assoc, append-nil}
 use lib.ListN.{length, take, drop, length-append}
 use Rattle.rules.specs.Basics.{Bytes}
-use Rattle.subject.specs.Writing.{over}
+use Rattle.subject.specs.Writing.{overwritten}
 use Rattle.subject.proofs.Laws.{over-length, over-next}
 
 -- A result written piece by piece over the front of a buffer: what was written, and what is left to write.
 pub record Writing (result old new rest : Bytes) (to : ℕ) : Type 0 where
   pub done : Bytes
-  pub wrote : new ≡ over done old
+  pub wrote : new ≡ overwritten done old
   pub size : length done ≡ to
   pub whole : done ++ rest ≡ result
 
 pub writing-start : (result old : Bytes) → Writing result old old result 0
-unfolding over
+unfolding overwritten
 writing-start result old = record { done = []; wrote = refl; size = refl; whole = refl }
 
 module _ (result old new rest : Bytes) (to : ℕ) (inv : Writing result old new rest to) (fits : length result ≤ length old) where
@@ -30,7 +30,7 @@ module _ (result old new rest : Bytes) (to : ℕ) (inv : Writing result old new 
   pub writing-inside : to ≤ length new
   writing-inside = let l = writing-room in let k = writing-kept in omega arith
 
-  pub writing-next : (piece more e : Bytes) (size : ℕ) → rest ≡ piece ++ more → size ≡ length piece → e ≡ over piece (take (length new - to) (drop to new))
+  pub writing-next : (piece more e : Bytes) (size : ℕ) → rest ≡ piece ++ more → size ≡ length piece → e ≡ overwritten piece (take (length new - to) (drop to new))
       → Writing result old (take to new ++ (e ++ drop (length new - to) (drop to new))) more (to + size)
   writing-next piece more e size p s q =
       let d : List ℕ = inv .done in
@@ -43,5 +43,5 @@ module _ (result old new rest : Bytes) (to : ℕ) (inv : Writing result old new 
         whole = append-assoc d piece more ∙ ap (λ (z : Bytes). d ++ z) (sym p) ∙ inv .whole;
       }
 
-  pub writing-done : rest ≡ [] → new ≡ over result old
-  writing-done e = inv .wrote ∙ ap (λ (z : Bytes). over z old) (sym (append-nil (inv .done)) ∙ ap (λ (z : Bytes). inv .done ++ z) (sym e) ∙ inv .whole)
+  pub writing-done : rest ≡ [] → new ≡ overwritten result old
+  writing-done e = inv .wrote ∙ ap (λ (z : Bytes). overwritten z old) (sym (append-nil (inv .done)) ∙ ap (λ (z : Bytes). inv .done ++ z) (sym e) ∙ inv .whole)

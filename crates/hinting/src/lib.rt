@@ -9,7 +9,7 @@ ghost use Rattle.rules.specs.Acl.{aclFault};
 ghost use Rattle.rules.specs.Trim.{trimHints};
 ghost use Rattle.rules.specs.Written.{hintBytes};
 ghost use Rattle.facts.specs.Places.{Found};
-ghost use Rattle.subject.specs.Writing.{over};
+ghost use Rattle.subject.specs.Writing.{overwritten};
 ghost use Rattle.keeping.specs.Fates.{actionFate};
 ghost use Rattle.hinting.specs.Hinting.{begunHint, actionHinted, recordHinted, placesAt, SoundFrom};
 
@@ -103,7 +103,7 @@ fn hint_of(
 // The hints, one for each group, over the front of the buffer.
 pub fn write_hints(places: &[usize; facts::ENTRIES], bundle: &[u8], acl: &[u8], hints: &mut [u8])
     requires { ⌜ (Found (now bundle) (now places)) × (aclFault (records (now acl)) ≡ none) × (length (trimHints (records (now bundle)) (now acl)) ≤ length (now hints)) ⌝ }
-    ensures { λ _. ⌜ now (hints .exit) ≡ over (trimHints (records (now (bundle .entry))) (now (acl .entry))) (now (hints .entry)) ⌝ }
+    ensures { λ _. ⌜ now (hints .exit) ≡ overwritten (trimHints (records (now (bundle .entry))) (now (acl .entry))) (now (hints .entry)) ⌝ }
 {
     let mut groups = 0;
     let mut to = 0;

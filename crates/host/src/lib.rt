@@ -11,14 +11,17 @@ ghost use Rattle.rules.specs.Prepared.{prepare, preparedRun};
 ghost use Rattle.rules.specs.CabinetRuns.{cabinetRun, cabinetPreparedRun};
 ghost use Rattle.listings.specs.Listing.{writeListing, readListingInto};
 ghost use Rattle.desk.specs.Replies as replies;
-ghost use Rattle.gate.specs.Outcomes.{ledgerOf};
-ghost use Rattle.cabinet.specs.Kept.{cabinetOf};
+ghost use Rattle.gate.specs.Outcomes.{ledgerAs};
+ghost use Rattle.cabinet.specs.Kept.{cabinetAs};
 ghost use Rattle.prepared.specs.Forms.{formAs, preparationFor};
 ghost use Rattle.row.specs.Rows.{rowAs};
-ghost use Rattle.told.specs.Surface.{hostRunOf, hostRunFor, hostCabinetRunOf, hostCabinetRunFor, hostFormOf, formTold};
-ghost use Rattle.surface.specs.Surface.{toldBy, toldFor, cabinetToldBy, cabinetToldFor, wroteBy, wroteFor, judgedBy, judgedIn, listedBy, listedFor, trimmedBy, trimmedFor};
+ghost use Rattle.host_runs.specs.Surface.{hostRunAs, hostRunFor, hostCabinetRunAs, hostCabinetRunFor, hostFormAs, hostFormFor};
+ghost use Rattle.surface.specs.Surface.{hostOutcomeAs, hostOutcomeFor, hostCabinetOutcomeAs, hostCabinetOutcomeFor, hostWrittenAs, hostWrittenFor, hostVerdictAs, hostVerdictFor, hostListingAs, hostListingFor, hostTrimmedAs, hostTrimmedFor};
 use cabinet::Cabinet;
 use gate::Ledger;
+use host_runs::HostCabinetRun;
+use host_runs::HostForm;
+use host_runs::HostRun;
 use prepared::Prepared;
 use row::Certificate;
 use surface::HostCabinetOutcome;
@@ -27,14 +30,11 @@ use surface::HostOutcome;
 use surface::HostTrimmed;
 use surface::HostVerdict;
 use surface::HostWritten;
-use told::HostCabinetRun;
-use told::HostForm;
-use told::HostRun;
 
 // The fresh ledger.
 #[no_mangle]
 pub extern "C" fn akubolinfe_fresh() -> Ledger
-    ensures { λ r. ⌜ ledgerOf r ≡ freshLedger ⌝ }
+    ensures { λ r. ⌜ ledgerAs r ≡ freshLedger ⌝ }
 {
     Ledger::fresh()
 }
@@ -42,17 +42,17 @@ pub extern "C" fn akubolinfe_fresh() -> Ledger
 // A load, at any time.
 #[no_mangle]
 pub extern "C" fn akubolinfe_load(ledger: Ledger, time: u64) -> HostOutcome
-    ensures { λ r. ⌜ toldBy r ≡ toldFor (load (ledgerOf ledger) time) ⌝ }
+    ensures { λ r. ⌜ hostOutcomeAs r ≡ hostOutcomeFor (load (ledgerAs ledger) time) ⌝ }
 {
-    surface::told(ledger.load(time))
+    surface::host_outcome(ledger.load(time))
 }
 
 // A clear of one named counter.
 #[no_mangle]
 pub extern "C" fn akubolinfe_clear(ledger: Ledger, counter: usize) -> HostOutcome
-    ensures { λ r. ⌜ toldBy r ≡ toldFor (clear (ledgerOf ledger) counter) ⌝ }
+    ensures { λ r. ⌜ hostOutcomeAs r ≡ hostOutcomeFor (clear (ledgerAs ledger) counter) ⌝ }
 {
-    surface::told(ledger.clear(counter))
+    surface::host_outcome(ledger.clear(counter))
 }
 
 // A request for a use or a blob.
@@ -63,9 +63,9 @@ pub extern "C" fn akubolinfe_request(
     acl: &[u8],
     req: &[u8],
 ) -> HostOutcome
-    ensures { λ r. ⌜ toldBy r ≡ toldFor (request (ledgerOf ledger) (now (km0 .entry)) (now (acl .entry)) (now (req .entry))) ⌝ }
+    ensures { λ r. ⌜ hostOutcomeAs r ≡ hostOutcomeFor (request (ledgerAs ledger) (now (km0 .entry)) (now (acl .entry)) (now (req .entry))) ⌝ }
 {
-    surface::told(ledger.request(km0, acl, req))
+    surface::host_outcome(ledger.request(km0, acl, req))
 }
 
 // A narrowing.
@@ -78,9 +78,9 @@ pub extern "C" fn akubolinfe_narrow(
     new: &[u8],
     hints: &[u8],
 ) -> HostOutcome
-    ensures { λ r. ⌜ toldBy r ≡ toldFor (narrow (ledgerOf ledger) (now (km0 .entry)) (now (acl .entry)) (now (req .entry)) (now (new .entry)) (now (hints .entry))) ⌝ }
+    ensures { λ r. ⌜ hostOutcomeAs r ≡ hostOutcomeFor (narrow (ledgerAs ledger) (now (km0 .entry)) (now (acl .entry)) (now (req .entry)) (now (new .entry)) (now (hints .entry))) ⌝ }
 {
-    surface::told(ledger.narrow(km0, acl, req, new, hints))
+    surface::host_outcome(ledger.narrow(km0, acl, req, new, hints))
 }
 
 // An expansion.
@@ -92,15 +92,15 @@ pub extern "C" fn akubolinfe_expand(
     req: &[u8],
     new: &[u8],
 ) -> HostOutcome
-    ensures { λ r. ⌜ toldBy r ≡ toldFor (expand (ledgerOf ledger) (now (km0 .entry)) (now (acl .entry)) (now (req .entry)) (now (new .entry))) ⌝ }
+    ensures { λ r. ⌜ hostOutcomeAs r ≡ hostOutcomeFor (expand (ledgerAs ledger) (now (km0 .entry)) (now (acl .entry)) (now (req .entry)) (now (new .entry))) ⌝ }
 {
-    surface::told(ledger.expand(km0, acl, req, new))
+    surface::host_outcome(ledger.expand(km0, acl, req, new))
 }
 
 // The fresh cabinet.
 #[no_mangle]
 pub extern "C" fn akubolinfe_cabinet_fresh() -> Cabinet
-    ensures { λ r. ⌜ cabinetOf r ≡ freshCabinet ⌝ }
+    ensures { λ r. ⌜ cabinetAs r ≡ freshCabinet ⌝ }
 {
     Cabinet::fresh()
 }
@@ -112,17 +112,17 @@ pub extern "C" fn akubolinfe_cabinet_load(
     slot: usize,
     time: u64,
 ) -> HostCabinetOutcome
-    ensures { λ r. ⌜ cabinetToldBy r ≡ cabinetToldFor (cabinetLoad (cabinetOf cabinet) slot time) ⌝ }
+    ensures { λ r. ⌜ hostCabinetOutcomeAs r ≡ hostCabinetOutcomeFor (cabinetLoad (cabinetAs cabinet) slot time) ⌝ }
 {
-    surface::cabinet_told(cabinet.load(slot, time))
+    surface::host_cabinet_outcome(cabinet.load(slot, time))
 }
 
 // A clear of one named counter, for every slot.
 #[no_mangle]
 pub extern "C" fn akubolinfe_cabinet_clear(cabinet: Cabinet, counter: usize) -> HostCabinetOutcome
-    ensures { λ r. ⌜ cabinetToldBy r ≡ cabinetToldFor (cabinetClear (cabinetOf cabinet) counter) ⌝ }
+    ensures { λ r. ⌜ hostCabinetOutcomeAs r ≡ hostCabinetOutcomeFor (cabinetClear (cabinetAs cabinet) counter) ⌝ }
 {
-    surface::cabinet_told(cabinet.clear(counter))
+    surface::host_cabinet_outcome(cabinet.clear(counter))
 }
 
 // A request to a slot.
@@ -134,9 +134,9 @@ pub extern "C" fn akubolinfe_cabinet_request(
     acl: &[u8],
     req: &[u8],
 ) -> HostCabinetOutcome
-    ensures { λ r. ⌜ cabinetToldBy r ≡ cabinetToldFor (cabinetRequest (cabinetOf cabinet) slot (now (km0 .entry)) (now (acl .entry)) (now (req .entry))) ⌝ }
+    ensures { λ r. ⌜ hostCabinetOutcomeAs r ≡ hostCabinetOutcomeFor (cabinetRequest (cabinetAs cabinet) slot (now (km0 .entry)) (now (acl .entry)) (now (req .entry))) ⌝ }
 {
-    surface::cabinet_told(cabinet.request(slot, km0, acl, req))
+    surface::host_cabinet_outcome(cabinet.request(slot, km0, acl, req))
 }
 
 // A narrowing in a slot.
@@ -150,9 +150,9 @@ pub extern "C" fn akubolinfe_cabinet_narrow(
     new: &[u8],
     hints: &[u8],
 ) -> HostCabinetOutcome
-    ensures { λ r. ⌜ cabinetToldBy r ≡ cabinetToldFor (cabinetNarrow (cabinetOf cabinet) slot (now (km0 .entry)) (now (acl .entry)) (now (req .entry)) (now (new .entry)) (now (hints .entry))) ⌝ }
+    ensures { λ r. ⌜ hostCabinetOutcomeAs r ≡ hostCabinetOutcomeFor (cabinetNarrow (cabinetAs cabinet) slot (now (km0 .entry)) (now (acl .entry)) (now (req .entry)) (now (new .entry)) (now (hints .entry))) ⌝ }
 {
-    surface::cabinet_told(cabinet.narrow(slot, km0, acl, req, new, hints))
+    surface::host_cabinet_outcome(cabinet.narrow(slot, km0, acl, req, new, hints))
 }
 
 // An expansion in a slot.
@@ -165,17 +165,17 @@ pub extern "C" fn akubolinfe_cabinet_expand(
     req: &[u8],
     new: &[u8],
 ) -> HostCabinetOutcome
-    ensures { λ r. ⌜ cabinetToldBy r ≡ cabinetToldFor (cabinetExpand (cabinetOf cabinet) slot (now (km0 .entry)) (now (acl .entry)) (now (req .entry)) (now (new .entry))) ⌝ }
+    ensures { λ r. ⌜ hostCabinetOutcomeAs r ≡ hostCabinetOutcomeFor (cabinetExpand (cabinetAs cabinet) slot (now (km0 .entry)) (now (acl .entry)) (now (req .entry)) (now (new .entry))) ⌝ }
 {
-    surface::cabinet_told(cabinet.expand(slot, km0, acl, req, new))
+    surface::host_cabinet_outcome(cabinet.expand(slot, km0, acl, req, new))
 }
 
 // The desk's verdict on a bundle and an ACL.
 #[no_mangle]
 pub extern "C" fn akubolinfe_desk(bundle: &[u8], acl: &[u8]) -> HostVerdict
-    ensures { λ r. ⌜ judgedBy r ≡ judgedIn (replies.replyFor (desk (now (bundle .entry)) (now (acl .entry)))) ⌝ }
+    ensures { λ r. ⌜ hostVerdictAs r ≡ hostVerdictFor (replies.verdictFor (desk (now (bundle .entry)) (now (acl .entry)))) ⌝ }
 {
-    surface::judged(desk::assess(bundle, acl))
+    surface::host_verdict(desk::assess(bundle, acl))
 }
 
 // The subject of a world certificate, at the front of the buffer.
@@ -186,36 +186,36 @@ pub extern "C" fn akubolinfe_subject(
     hashes: &[u8],
     buffer: &mut [u8],
 ) -> HostWritten
-    ensures reply { λ r. ⌜ wroteBy r ≡ wroteFor (subjectReply certificate suite (now (hashes .entry)) (now (buffer .entry))) ⌝ }
+    ensures reply { λ r. ⌜ hostWrittenAs r ≡ hostWrittenFor (subjectReply certificate suite (now (hashes .entry)) (now (buffer .entry))) ⌝ }
     ensures bytes { λ _. ⌜ now (buffer .exit) ≡ subjectBuffer certificate suite (now (hashes .entry)) (now (buffer .entry)) ⌝ }
 {
-    surface::wrote(subject::write_subject(certificate, suite, hashes, buffer))
+    surface::host_written(subject::write_subject(certificate, suite, hashes, buffer))
 }
 
 // An ACL's listing, at the front of the buffer.
 #[no_mangle]
 pub extern "C" fn akubolinfe_write_listing(acl: &[u8], buffer: &mut [u8]) -> HostListing
-    ensures reply { λ r. ⌜ listedBy r ≡ listedFor (writeListing (now (acl .entry)) (now (buffer .entry)) .reply) ⌝ }
+    ensures reply { λ r. ⌜ hostListingAs r ≡ hostListingFor (writeListing (now (acl .entry)) (now (buffer .entry)) .reply) ⌝ }
     ensures bytes { λ _. ⌜ now (buffer .exit) ≡ writeListing (now (acl .entry)) (now (buffer .entry)) .buffer ⌝ }
 {
-    surface::listed(listing::write_listing(acl, buffer))
+    surface::host_listing(listing::write_listing(acl, buffer))
 }
 
 // A listing's ACL, at the front of the buffer.
 #[no_mangle]
 pub extern "C" fn akubolinfe_read_listing(text: &[u8], buffer: &mut [u8]) -> HostListing
-    ensures reply { λ r. ⌜ listedBy r ≡ listedFor (readListingInto (now (text .entry)) (now (buffer .entry)) .reply) ⌝ }
+    ensures reply { λ r. ⌜ hostListingAs r ≡ hostListingFor (readListingInto (now (text .entry)) (now (buffer .entry)) .reply) ⌝ }
     ensures bytes { λ _. ⌜ now (buffer .exit) ≡ readListingInto (now (text .entry)) (now (buffer .entry)) .buffer ⌝ }
 {
-    surface::listed(listing::read_listing(text, buffer))
+    surface::host_listing(listing::read_listing(text, buffer))
 }
 
 // The form of an ACL.
 #[no_mangle]
 pub extern "C" fn akubolinfe_prepare(acl: &[u8]) -> HostForm
-    ensures { λ r. ⌜ hostFormOf r ≡ formTold (preparationFor (prepare (now (acl .entry)))) ⌝ }
+    ensures { λ r. ⌜ hostFormAs r ≡ hostFormFor (preparationFor (prepare (now (acl .entry)))) ⌝ }
 {
-    told::form(prepared::prepare(acl))
+    host_runs::form(prepared::prepare(acl))
 }
 
 // A run over decoded certificates.
@@ -228,9 +228,9 @@ pub extern "C" fn akubolinfe_run(
     requests: &[u8],
     answers: &mut [u8],
 ) -> HostRun
-    ensures { λ r. ⌜ hostRunOf r (now (answers .exit)) ≡ hostRunFor (run (ledgerOf ledger) (now (km0 .entry)) (now (acl .entry)) (rowAs (now (row .entry))) (now (requests .entry)) (now (answers .entry))) ⌝ }
+    ensures { λ r. ⌜ hostRunAs r (now (answers .exit)) ≡ hostRunFor (run (ledgerAs ledger) (now (km0 .entry)) (now (acl .entry)) (rowAs (now (row .entry))) (now (requests .entry)) (now (answers .entry))) ⌝ }
 {
-    told::run(runs::run(ledger, km0, acl, row, requests, answers))
+    host_runs::run(runs::run(ledger, km0, acl, row, requests, answers))
 }
 
 // A run on a prepared ACL.
@@ -244,9 +244,9 @@ pub extern "C" fn akubolinfe_prepared_run(
     requests: &[u8],
     answers: &mut [u8],
 ) -> HostRun
-    ensures { λ r. ⌜ hostRunOf r (now (answers .exit)) ≡ hostRunFor (preparedRun (ledgerOf ledger) (now (km0 .entry)) (now (acl .entry)) (rowAs (now (row .entry))) (formAs form) (now (requests .entry)) (now (answers .entry))) ⌝ }
+    ensures { λ r. ⌜ hostRunAs r (now (answers .exit)) ≡ hostRunFor (preparedRun (ledgerAs ledger) (now (km0 .entry)) (now (acl .entry)) (rowAs (now (row .entry))) (formAs form) (now (requests .entry)) (now (answers .entry))) ⌝ }
 {
-    told::run(runs::prepared_run(ledger, km0, acl, row, form, requests, answers))
+    host_runs::run(runs::prepared_run(ledger, km0, acl, row, form, requests, answers))
 }
 
 // A run over decoded certificates in a slot of a cabinet.
@@ -260,9 +260,9 @@ pub extern "C" fn akubolinfe_cabinet_run(
     requests: &[u8],
     answers: &mut [u8],
 ) -> HostCabinetRun
-    ensures { λ r. ⌜ hostCabinetRunOf r (now (answers .exit)) ≡ hostCabinetRunFor (cabinetRun (cabinetOf cabinet) slot (now (km0 .entry)) (now (acl .entry)) (rowAs (now (row .entry))) (now (requests .entry)) (now (answers .entry))) ⌝ }
+    ensures { λ r. ⌜ hostCabinetRunAs r (now (answers .exit)) ≡ hostCabinetRunFor (cabinetRun (cabinetAs cabinet) slot (now (km0 .entry)) (now (acl .entry)) (rowAs (now (row .entry))) (now (requests .entry)) (now (answers .entry))) ⌝ }
 {
-    told::cabinet_run(slots::run(cabinet, slot, km0, acl, row, requests, answers))
+    host_runs::cabinet_run(slots::run(cabinet, slot, km0, acl, row, requests, answers))
 }
 
 // A run on a prepared ACL in a slot of a cabinet.
@@ -277,9 +277,18 @@ pub extern "C" fn akubolinfe_cabinet_prepared_run(
     requests: &[u8],
     answers: &mut [u8],
 ) -> HostCabinetRun
-    ensures { λ r. ⌜ hostCabinetRunOf r (now (answers .exit)) ≡ hostCabinetRunFor (cabinetPreparedRun (cabinetOf cabinet) slot (now (km0 .entry)) (now (acl .entry)) (rowAs (now (row .entry))) (formAs form) (now (requests .entry)) (now (answers .entry))) ⌝ }
+    ensures { λ r. ⌜ hostCabinetRunAs r (now (answers .exit)) ≡ hostCabinetRunFor (cabinetPreparedRun (cabinetAs cabinet) slot (now (km0 .entry)) (now (acl .entry)) (rowAs (now (row .entry))) (formAs form) (now (requests .entry)) (now (answers .entry))) ⌝ }
 {
-    told::cabinet_run(slots::prepared_run(cabinet, slot, km0, acl, row, form, requests, answers))
+    host_runs::cabinet_run(slots::prepared_run(
+        cabinet,
+        slot,
+        km0,
+        acl,
+        row,
+        form,
+        requests,
+        answers,
+    ))
 }
 
 // The trimmed ACL at the front of one buffer, its hints at the front of the other. Any answer but 1 leaves both.
@@ -290,9 +299,9 @@ pub extern "C" fn akubolinfe_trim(
     new: &mut [u8],
     hints: &mut [u8],
 ) -> HostTrimmed
-    ensures reply { λ r. ⌜ trimmedBy r ≡ trimmedFor (trimReply (now (bundle .entry)) (now (acl .entry)) (now (new .entry)) (now (hints .entry))) ⌝ }
+    ensures reply { λ r. ⌜ hostTrimmedAs r ≡ hostTrimmedFor (trimReply (now (bundle .entry)) (now (acl .entry)) (now (new .entry)) (now (hints .entry))) ⌝ }
     ensures trimmed { λ _. ⌜ now (new .exit) ≡ trimAclBuffer (now (bundle .entry)) (now (acl .entry)) (now (new .entry)) (now (hints .entry)) ⌝ }
     ensures hinted { λ _. ⌜ now (hints .exit) ≡ trimHintBuffer (now (bundle .entry)) (now (acl .entry)) (now (new .entry)) (now (hints .entry)) ⌝ }
 {
-    surface::trimmed(trimming::trim(bundle, acl, new, hints))
+    surface::host_trimmed(trimming::trim(bundle, acl, new, hints))
 }

@@ -14,7 +14,7 @@ use Rattle.rules.specs.Request.{Wanted, blobFileNext, wantedOf, Request, reques
 use Rattle.rules.specs.Grant.{admits, counterLeft, limitLeft}
 use Rattle.rules.proofs.Rows.{wanted-first, recordsFrom, rows-lent, rows-end, rows-rest, lentRecord, lentRest, lent-record, lent-rest, kind-at}
 use Rattle.judging.specs.declared.Standing.{Standing}
-use Rattle.judging.specs.declared.Near.{Near}
+use Rattle.judging.specs.declared.Nearest.{Nearest}
 use Rattle.refusals.specs.declared.Denial.{Denial}
 use Rattle.judging.specs.declared.Judged.{Judged}
 use Rattle.judging.specs.declared.Judged.the-variants.{Granted, Denied}
@@ -59,7 +59,7 @@ module _ (s : Bytes) (at i : ℕ) (inv : groupsOf (recordsFrom s i) ≡ groupsOf
   group-skip h n = sym (ap groupsOf (rows-lent s i h) ∙ rw (lent-record s i, kind-at s i, ne-eqb (getD s i 0) 1 n)) ∙ inv
 
 -- A loop over the groups.
-module _ (f : ℕ → Group → Standing) (s : Bytes) (at : ℕ) (near : Near) (place : ℕ) (x : Judged) (inv : judgedFrom f near place (groupsOf (recordsFrom s at)) ≡ x) where
+module _ (f : ℕ → Group → Standing) (s : Bytes) (at : ℕ) (near : Nearest) (place : ℕ) (x : Judged) (inv : judgedFrom f near place (groupsOf (recordsFrom s at)) ≡ x) where
   groups-step : 64 ≤ length s - at → getD s at 0 ≡ 1 → groupsOf (recordsFrom s at) ≡ groupOf (lentRecord s at) (recordsFrom s (at + 64)) ∷ groupsOf (recordsFrom s (at + 64))
   unfolding groupsOf
   groups-step h e = ap groupsOf (rows-lent s at h) ∙ rw (lent-record s at, kind-at s at, eq-eqb (getD s at 0) 1 e)
@@ -71,14 +71,14 @@ module _ (f : ℕ → Group → Standing) (s : Bytes) (at : ℕ) (near : Near) (
         let g : isGranting (f place (groupOf (lentRecord s at) (recordsFrom s (at + 64)))) ≡ true = sym (ap isGranting d) ∙ sym q ∙ y in
         sym (ap (judgedFrom f near place) (groups-step h e) ∙ rw g) ∙ inv
 
-    groups-after : (n : Near) → b ≡ false → n ≡ nearer near t place → judgedFrom f n (place + 1) (groupsOf (recordsFrom s (at + 64))) ≡ x
+    groups-after : (n : Nearest) → b ≡ false → n ≡ nearer near t place → judgedFrom f n (place + 1) (groupsOf (recordsFrom s (at + 64))) ≡ x
     unfolding judgedFrom
     groups-after n y p =
         let g : isGranting (f place (groupOf (lentRecord s at) (recordsFrom s (at + 64)))) ≡ false = sym (ap isGranting d) ∙ sym q ∙ y in
         let r : nearer near (f place (groupOf (lentRecord s at) (recordsFrom s (at + 64)))) place ≡ n = ap (λ (z : Standing). nearer near z place) (sym d) ∙ sym p in
         rw add-one (sym (ap (judgedFrom f near place) (groups-step h e) ∙ rw (g, r)) ∙ inv)
 
-    pub groups-next : (n : Near) (r : ℕ) → b ≡ false → n ≡ nearer near t place → groupsOf (records (drop r s)) ≡ groupsOf (records (drop (at + 64) s))
+    pub groups-next : (n : Nearest) (r : ℕ) → b ≡ false → n ≡ nearer near t place → groupsOf (records (drop r s)) ≡ groupsOf (records (drop (at + 64) s))
         → judgedFrom f n (place + 1) (groupsOf (recordsFrom s r)) ≡ x
     unfolding recordsFrom
     groups-next n r y p m = ap (judgedFrom f n (place + 1)) m ∙ groups-after n y p

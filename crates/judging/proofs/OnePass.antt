@@ -10,34 +10,34 @@ use Rattle.rules.specs.Acl.{Group}
 use Rattle.rules.specs.Request.{Request}
 use Rattle.rules.specs.Ledger.{Ledger}
 use Rattle.rules.specs.Grant.{groupAdmits, certified, unspent}
-use Rattle.rules.specs.Gate.{Lowest, nobody, group, lowest, ofCertified, whyNot, grants, judgedBy, judge}
+use Rattle.rules.specs.Gate.{Lowest, notFound, group, lowest, ofCertified, whyNot, grants, judgedBy, judge}
 use Rattle.judging.specs.declared.Standing.{Standing}
-use Rattle.judging.specs.declared.Near.{Near}
-use Rattle.judging.specs.declared.Near.the-variants as near
+use Rattle.judging.specs.declared.Nearest.{Nearest}
+use Rattle.judging.specs.declared.Nearest.the-variants as near
 use Rattle.judging.specs.declared.Judged.{Judged}
 use Rattle.refusals.specs.declared.Denial.the-variants.{Early, Uncertified, Exhausted}
 use Rattle.judging.specs.declared.Judged.the-variants.{Granted, Denied}
-use Rattle.judging.specs.Standings.{standingOf, denialOf, judgedFrom, standing, denialAs, judgedAs, tablesOf}
+use Rattle.judging.specs.Standings.{standingOf, denialOf, judgedFrom, standing, denialFor, judgedFor, ledgerOfTables}
 
 -- why no group grants, by the nearest before and the lowest groups from there on
-abbrev combined : Near → Lowest → Lowest → Judged
-combined near.Nothing c a = Denied (denialAs (ofCertified c a))
-combined (near.Admitting k) nobody a = Denied (Uncertified k)
+abbrev combined : Nearest → Lowest → Lowest → Judged
+combined near.Nothing c a = Denied (denialFor (ofCertified c a))
+combined (near.Admitting k) notFound a = Denied (Uncertified k)
 combined (near.Admitting k) (group p g) a = Denied (Exhausted p)
 combined (near.Certified k) c a = Denied (Exhausted k)
 
 -- .. unless one grants
 abbrev unless-granted : Judged → Lowest → Judged
-unless-granted d nobody = d
+unless-granted d notFound = d
 unless-granted d (group p g) = Granted p
 
 -- an admitting group that came before hides those that come later, and serves where none did
 later-hidden : (k : ℕ) (c a b : Lowest) → combined (near.Admitting k) c a ≡ combined (near.Admitting k) c b
-later-hidden k nobody a b = refl
+later-hidden k notFound a b = refl
 later-hidden k (group p g) a b = refl
 
 first-serves : (k : ℕ) (g : Group) (c a : Lowest) → combined (near.Admitting k) c a ≡ combined near.Nothing c (group k g)
-first-serves k g nobody a = refl
+first-serves k g notFound a = refl
 first-serves k g (group p h) a = refl
 
 -- a group's standing by three tests of it, and the three searches
@@ -45,18 +45,18 @@ module _ (admitting certifying : Group → Bool) (left : ℕ → Group → Bool)
   abbrev by : ℕ → Group → Standing
   by place g = standingOf (admitting g) (certifying g) (left place g)
 
-  abbrev searched : Near → ℕ → List Group → Judged
+  abbrev searched : Nearest → ℕ → List Group → Judged
   searched n place gs =
       unless-granted (combined n (lowest (λ k g. admitting g && certifying g) place gs) (lowest (λ k g. admitting g) place gs))
       (lowest (λ k g. admitting g && certifying g && left k g) place gs)
 
-  at-end : (n : Near) (place : ℕ) → Denied (denialOf n) ≡ searched n place []
+  at-end : (n : Nearest) (place : ℕ) → Denied (denialOf n) ≡ searched n place []
   unfolding lowest
   at-end near.Nothing place = refl
   at-end (near.Admitting k) place = refl
   at-end (near.Certified k) place = refl
 
-  one-pass : (n : Near) (place : ℕ) (gs : List Group) → judgedFrom by n place gs ≡ searched n place gs
+  one-pass : (n : Nearest) (place : ℕ) (gs : List Group) → judgedFrom by n place gs ≡ searched n place gs
   unfolding judgedFrom lowest
   one-pass n place [] = at-end n place
   one-pass n place (g ∷ gs) =
@@ -71,7 +71,7 @@ module _ (admitting certifying : Group → Bool) (left : ℕ → Group → Bool)
       granting : Lowest
       granting = lowest (λ k g. admitting g && certifying g && left k g) (suc place) gs
 
-      pick : (a : Bool) → admitting g ≡ a → (c : Bool) → certifying g ≡ c → (u : Bool) → left place g ≡ u → (n : Near) → ((m : Near) → judgedFrom by m (suc place) gs ≡ searched m (suc place) gs)
+      pick : (a : Bool) → admitting g ≡ a → (c : Bool) → certifying g ≡ c → (u : Bool) → left place g ≡ u → (n : Nearest) → ((m : Nearest) → judgedFrom by m (suc place) gs ≡ searched m (suc place) gs)
           → judgedFrom by n place (g ∷ gs) ≡ searched n place (g ∷ gs)
       pick false p c q u r n f = rw p (f n)
       pick true p false q u r near.Nothing f =
@@ -87,31 +87,31 @@ module _ (admitting certifying : Group → Bool) (left : ℕ → Group → Bool)
 -- .. of the ledger and the request
 module _ (l : Ledger) (km0 : Bytes) (q : Request) where
   pub judged-is : (gs : List Group) → judgedFrom (standing (l .counts) (l .counters) (q .time - l .loaded) km0 q) near.Nothing 0 gs
-      ≡ judgedAs (judgedBy (whyNot km0 gs q) (lowest (grants l km0 q) 0 gs))
+      ≡ judgedFor (judgedBy (whyNot km0 gs q) (lowest (grants l km0 q) 0 gs))
   unfolding standing
   judged-is gs = one-pass (groupAdmits km0 q) (certified q) (λ k. unspent l k q) near.Nothing 0 gs ∙ settle (lowest (grants l km0 q) 0 gs)
     where
-      settle : (g : Lowest) → unless-granted (Denied (denialAs (whyNot km0 gs q))) g ≡ judgedAs (judgedBy (whyNot km0 gs q) g)
-      settle nobody = refl
+      settle : (g : Lowest) → unless-granted (Denied (denialFor (whyNot km0 gs q))) g ≡ judgedFor (judgedBy (whyNot km0 gs q) g)
+      settle notFound = refl
       settle (group p g) = refl
 
 -- the clock: `if t < loaded`, `if t < last`
 module _ (counts counters : List ℕ) (loaded last t : ℕ) (km0 : Bytes) (gs : List Group) (q : Request) (e : t ≡ q .time) where
-  pub early-loaded : t < loaded → Denied Early ≡ judgedAs (judge (tablesOf counts counters loaded last) km0 gs q)
+  pub early-loaded : t < loaded → Denied Early ≡ judgedFor (judge (ledgerOfTables counts counters loaded last) km0 gs q)
   unfolding judge
   early-loaded h = sym (rw (← e, lt-ltb t loaded h))
 
-  pub early-last : t < last → Denied Early ≡ judgedAs (judge (tablesOf counts counters loaded last) km0 gs q)
+  pub early-last : t < last → Denied Early ≡ judgedFor (judge (ledgerOfTables counts counters loaded last) km0 gs q)
   unfolding judge
   early-last h = pick (ltb t loaded) refl
     where
-      pick : (b : Bool) → ltb t loaded ≡ b → Denied Early ≡ judgedAs (judge (tablesOf counts counters loaded last) km0 gs q)
+      pick : (b : Bool) → ltb t loaded ≡ b → Denied Early ≡ judgedFor (judge (ledgerOfTables counts counters loaded last) km0 gs q)
       pick true d = sym (rw (← e, d))
       pick false d = sym (rw (← e, d, lt-ltb t last h))
 
   pub in-time : (r : Judged) → loaded ≤ t → last ≤ t → r ≡ judgedFrom (standing counts counters (t - loaded) km0 q) near.Nothing 0 gs
-      → r ≡ judgedAs (judge (tablesOf counts counters loaded last) km0 gs q)
+      → r ≡ judgedFor (judge (ledgerOfTables counts counters loaded last) km0 gs q)
   unfolding judge
   in-time r h k d =
       let x : judgedFrom (standing counts counters (t - loaded) km0 q) near.Nothing 0 gs ≡ judgedFrom (standing counts counters (q .time - loaded) km0 q) near.Nothing 0 gs = ap (λ (n : ℕ). judgedFrom (standing counts counters (n - loaded) km0 q) near.Nothing 0 gs) e in
-      d ∙ x ∙ judged-is (tablesOf counts counters loaded last) km0 q gs ∙ sym (rw (← e, le-ltb t loaded h, le-ltb t last k))
+      d ∙ x ∙ judged-is (ledgerOfTables counts counters loaded last) km0 q gs ∙ sym (rw (← e, le-ltb t loaded h, le-ltb t last k))

@@ -11,9 +11,9 @@ use Rattle.rules.specs.Ledger.{Ledger}
 use Rattle.rules.specs.Grant.{groupAdmits, certified, unspentWith}
 use Rattle.rules.specs.Gate.{Denial, early, unadmitted, uncertified, exhausted, Judgement, granted, denied}
 use Rattle.judging.specs.declared.Standing.{Standing}
-use Rattle.judging.specs.declared.Standing.the-variants.{Silent, Admitting, Certified, Granting}
-use Rattle.judging.specs.declared.Near.{Near}
-use Rattle.judging.specs.declared.Near.the-variants as near
+use Rattle.judging.specs.declared.Standing.the-variants.{NotAdmitting, Admitting, Certified, Granting}
+use Rattle.judging.specs.declared.Nearest.{Nearest}
+use Rattle.judging.specs.declared.Nearest.the-variants as near
 use Rattle.refusals.specs.declared.Denial as code
 use Rattle.refusals.specs.declared.Denial.the-variants.{Early, Unadmitted, Uncertified, Exhausted}
 use Rattle.judging.specs.declared.Judged.{Judged}
@@ -22,18 +22,18 @@ use Rattle.judging.specs.declared.Judged.the-variants.{Granted, Denied}
 -- a group's standing, by whether it admits, is certified and is unspent
 abbrev pub standingOf : Bool → Bool → Bool → Standing
 standingOf admitting certifying left =
-    if admitting then (if certifying then (if left then Granting else Certified) else Admitting) else Silent
+    if admitting then (if certifying then (if left then Granting else Certified) else Admitting) else NotAdmitting
 
 -- "group with all three"
 abbrev pub isGranting : Standing → Bool
-isGranting Silent = false
+isGranting NotAdmitting = false
 isGranting Admitting = false
 isGranting Certified = false
 isGranting Granting = true
 
 -- the nearest that came so far, with one group more
-abbrev pub nearer : Near → Standing → ℕ → Near
-nearer n Silent place = n
+abbrev pub nearer : Nearest → Standing → ℕ → Nearest
+nearer n NotAdmitting place = n
 nearer near.Nothing Admitting place = near.Admitting place
 nearer (near.Admitting k) Admitting place = near.Admitting k
 nearer (near.Certified k) Admitting place = near.Certified k
@@ -43,13 +43,13 @@ nearer (near.Certified k) Certified place = near.Certified k
 nearer n Granting place = n
 
 -- why no group grants, by the nearest
-abbrev pub denialOf : Near → code.Denial
+abbrev pub denialOf : Nearest → code.Denial
 denialOf near.Nothing = Unadmitted
 denialOf (near.Admitting k) = Uncertified k
 denialOf (near.Certified k) = Exhausted k
 
 -- the judgement of groups numbered from `place`, after those whose nearest is given
-unfoldable pub judgedFrom : (ℕ → Group → Standing) → Near → ℕ → List Group → Judged
+unfoldable pub judgedFrom : (ℕ → Group → Standing) → Nearest → ℕ → List Group → Judged
 judgedFrom standing n place [] = Denied (denialOf n)
 judgedFrom standing n place (g ∷ gs) =
     if isGranting (standing place g) then Granted place else judgedFrom standing (nearer n (standing place g) place) (suc place) gs
@@ -67,19 +67,19 @@ unfoldable pub recordStanding : List ℕ → ℕ → ℕ → Bytes → Request �
 recordStanding counters own elapsed km0 q r rest = standingWith counters own elapsed km0 q (groupOf r rest)
 
 -- the denial and the judgement of the definitions, as the code answers them
-abbrev pub denialAs : Denial → code.Denial
-denialAs early = Early
-denialAs unadmitted = Unadmitted
-denialAs (uncertified place g) = Uncertified place
-denialAs (exhausted place g) = Exhausted place
+abbrev pub denialFor : Denial → code.Denial
+denialFor early = Early
+denialFor unadmitted = Unadmitted
+denialFor (uncertified place g) = Uncertified place
+denialFor (exhausted place g) = Exhausted place
 
-abbrev pub judgedAs : Judgement → Judged
-judgedAs (granted place g) = Granted place
-judgedAs (denied d) = Denied (denialAs d)
+abbrev pub judgedFor : Judgement → Judged
+judgedFor (granted place g) = Granted place
+judgedFor (denied d) = Denied (denialFor d)
 
 -- the ledger's tables and times as a ledger of the definitions
-abbrev pub tablesOf : List ℕ → List ℕ → ℕ → ℕ → Ledger
-tablesOf counts counters loaded last = record { counts = counts; counters = counters; loaded = loaded; last = last }
+abbrev pub ledgerOfTables : List ℕ → List ℕ → ℕ → ℕ → Ledger
+ledgerOfTables counts counters loaded last = record { counts = counts; counters = counters; loaded = loaded; last = last }
 
 -- Where the next group stands from `at` on: the same groups are left from there, and a record that stands there begins one. (Where there are no more
 -- groups the file's end serves.)

@@ -9,7 +9,7 @@ ghost use Rattle.rules.specs.Acl.{limitOf, limitsOf, aclOf};
 ghost use Rattle.rules.specs.Request.{requestOf};
 ghost use Rattle.rules.specs.Grant.{counterLeft, limitLeft, limitsLeft, unspentWith};
 ghost use Rattle.rules.specs.Gate.{judge};
-ghost use Rattle.judging.specs.Standings.{isGranting, nearer, denialOf, judgedFrom, standing, recordStanding, judgedAs, tablesOf, NextGroup};
+ghost use Rattle.judging.specs.Standings.{isGranting, nearer, denialOf, judgedFrom, standing, recordStanding, judgedFor, ledgerOfTables, NextGroup};
 ghost use Rattle.request.specs.Parts.{Sound};
 use refusals::Denial;
 
@@ -18,14 +18,14 @@ const FULL: u32 = 4294967295;
 
 // How far a group comes: it does not admit; it admits; it admits and is certified; it admits, is certified and unspent.
 enum Standing {
-    Silent,
+    NotAdmitting,
     Admitting,
     Certified,
     Granting,
 }
 
 // The nearest that came before: no group; the lowest that admits; the lowest that admits and is certified.
-enum Near {
+enum Nearest {
     Nothing,
     Admitting(usize),
     Certified(usize),
@@ -109,8 +109,8 @@ fn group_standing(
     ensures { λ r. ⌜ r ≡ recordStanding (now (counters .entry)) own elapsed (now (km0 .entry)) (requestOf (now (req .entry))) (now (group .entry)) (records (now (body .entry))) ⌝ }
 {
     let rest = &req[sizes::RECORD..];
-    if !admitting::group_admits(km0, &req[0..sizes::RECORD], rest, body) {
-        return Standing::Silent;
+    if !gate_actions::group_admits(km0, &req[0..sizes::RECORD], rest, body) {
+        return Standing::NotAdmitting;
     }
     if !chains::is_certified(group, req) {
         return Standing::Admitting;
@@ -126,7 +126,7 @@ fn grants(s: Standing) -> bool
     ensures { λ r. ⌜ r ≡ isGranting s ⌝ }
 {
     match s {
-        Standing::Silent => false,
+        Standing::NotAdmitting => false,
         Standing::Admitting => false,
         Standing::Certified => false,
         Standing::Granting => true,
@@ -134,33 +134,33 @@ fn grants(s: Standing) -> bool
 }
 
 // The nearest with a group more that admits.
-fn near_admitting(n: Near, place: usize) -> Near
+fn near_admitting(n: Nearest, place: usize) -> Nearest
     ensures { λ r. ⌜ r ≡ nearer n Standing.Admitting place ⌝ }
 {
     match n {
-        Near::Nothing => Near::Admitting(place),
-        Near::Admitting(k) => Near::Admitting(k),
-        Near::Certified(k) => Near::Certified(k),
+        Nearest::Nothing => Nearest::Admitting(place),
+        Nearest::Admitting(k) => Nearest::Admitting(k),
+        Nearest::Certified(k) => Nearest::Certified(k),
     }
 }
 
 // The nearest with a group more that admits and is certified.
-fn near_certified(n: Near, place: usize) -> Near
+fn near_certified(n: Nearest, place: usize) -> Nearest
     ensures { λ r. ⌜ r ≡ nearer n Standing.Certified place ⌝ }
 {
     match n {
-        Near::Nothing => Near::Certified(place),
-        Near::Admitting(_) => Near::Certified(place),
-        Near::Certified(k) => Near::Certified(k),
+        Nearest::Nothing => Nearest::Certified(place),
+        Nearest::Admitting(_) => Nearest::Certified(place),
+        Nearest::Certified(k) => Nearest::Certified(k),
     }
 }
 
 // The nearest with a group more.
-fn near_with(n: Near, s: Standing, place: usize) -> Near
+fn near_with(n: Nearest, s: Standing, place: usize) -> Nearest
     ensures { λ r. ⌜ r ≡ nearer n s place ⌝ }
 {
     match s {
-        Standing::Silent => n,
+        Standing::NotAdmitting => n,
         Standing::Admitting => near_admitting(n, place),
         Standing::Certified => near_certified(n, place),
         Standing::Granting => n,
@@ -168,13 +168,13 @@ fn near_with(n: Near, s: Standing, place: usize) -> Near
 }
 
 // Why no group grants, by the nearest.
-fn why_not(n: Near) -> Denial
+fn why_not(n: Nearest) -> Denial
     ensures { λ r. ⌜ r ≡ denialOf n ⌝ }
 {
     match n {
-        Near::Nothing => Denial::Unadmitted,
-        Near::Admitting(k) => Denial::Uncertified(k),
-        Near::Certified(k) => Denial::Exhausted(k),
+        Nearest::Nothing => Denial::Unadmitted,
+        Nearest::Admitting(k) => Denial::Uncertified(k),
+        Nearest::Certified(k) => Denial::Exhausted(k),
     }
 }
 
@@ -204,9 +204,9 @@ fn judge_groups(
     acl: &[u8],
 ) -> Judged
     requires { ⌜ Sound (now req) ⌝ }
-    ensures { λ r. ⌜ r ≡ judgedFrom (standing (now (counts .entry)) (now (counters .entry)) elapsed (now (km0 .entry)) (requestOf (now (req .entry)))) Near.Nothing 0 (aclOf (now (acl .entry))) ⌝ }
+    ensures { λ r. ⌜ r ≡ judgedFrom (standing (now (counts .entry)) (now (counters .entry)) elapsed (now (km0 .entry)) (requestOf (now (req .entry)))) Nearest.Nothing 0 (aclOf (now (acl .entry))) ⌝ }
 {
-    let mut near = Near::Nothing;
+    let mut near = Nearest::Nothing;
     let mut place = 0;
     let mut at = next_group(acl, 0);
     while sizes::RECORD <= acl.len() - at {
@@ -236,7 +236,7 @@ pub fn judge_request<'a>(
     req: &[u8],
 ) -> Judged
     requires { ⌜ Sound (now req) ⌝ }
-    ensures { λ r. ⌜ r ≡ judgedAs (judge (tablesOf (now (counts .entry)) (now (counters .entry)) loaded last) (now (km0 .entry)) (aclOf (now (acl .entry))) (requestOf (now (req .entry)))) ⌝ }
+    ensures { λ r. ⌜ r ≡ judgedFor (judge (ledgerOfTables (now (counts .entry)) (now (counters .entry)) loaded last) (now (km0 .entry)) (aclOf (now (acl .entry))) (requestOf (now (req .entry)))) ⌝ }
 {
     let time = request::time(req);
     if time < loaded {

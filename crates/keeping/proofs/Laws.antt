@@ -21,7 +21,7 @@ use Rattle.rules.specs.Trim.{keptBelow, keptBits, actionPasses, stays, trimmedR
 use Rattle.rules.proofs.Laws.{not-both}
 use Rattle.rules.proofs.Bits.{kept-below}
 use Rattle.rules.proofs.Trim.{masked}
-use Rattle.actions.specs.Classes.{admittedBit}
+use Rattle.desk_actions.specs.Classes.{admittedBit}
 use Rattle.keeping.specs.declared.Fate.{Fate}
 use Rattle.keeping.specs.declared.Fate.the-variants.{Copied, Fewer, Dropped}
 use Rattle.keeping.specs.Fates.{keptBit, actionFate, recordFate, isKept, sizeOf, leftOf, keptAfter, checkedAfter}

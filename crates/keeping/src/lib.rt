@@ -11,7 +11,7 @@ ghost use Rattle.rules.specs.Desk.{actionFailure};
 ghost use Rattle.rules.specs.Trim.{keptBits, isChecked, actionPasses};
 ghost use Rattle.facts.specs.Found.{policyAs};
 ghost use Rattle.facts.specs.Places.{Found};
-ghost use Rattle.steps.specs.Steps.{failureOf};
+ghost use Rattle.steps.specs.Steps.{failureAs};
 ghost use Rattle.keeping.specs.Fates.{keptBit, isKept, sizeOf, actionFate, fileFate, recordFate, keptAfter, checkedAfter};
 use facts::Policy;
 use steps::Failure;
@@ -36,7 +36,7 @@ fn bit_kept(policy: Policy, bits: u16, b: u16) -> bool
     requires { ⌜ b < 16 ⌝ }
     ensures { λ r. ⌜ r ≡ keptBit (policyAs policy) bits b ⌝ }
 {
-    fields::bit_of(b, bits) & actions::bit_admitted(policy, bits, b)
+    fields::bit_of(b, bits) & desk_actions::bit_admitted(policy, bits, b)
 }
 
 // The permissions that pass ACLV3, of those that are set.
@@ -68,18 +68,18 @@ pub fn is_checked(places: &[usize; facts::ENTRIES], bundle: &[u8], rec: &[u8]) -
     requires { ⌜ (length (now rec) ≡ recordBytes) × Found (now bundle) (now places) ⌝ }
     ensures { λ r. ⌜ r ≡ isChecked (records (now (bundle .entry))) (now (rec .entry)) ⌝ }
 {
-    !actions::names_key(evidence::field_of(4, places, bundle), 0, 4, rec)
+    !desk_actions::names_key(evidence::field_of(4, places, bundle), 0, 4, rec)
 }
 
 // The first step that an action fails, by the bundle's policy and the keys that it vouches for.
 pub fn action_failure(places: &[usize; facts::ENTRIES], bundle: &[u8], rec: &[u8]) -> Failure
     requires { ⌜ (length (now rec) ≡ recordBytes) × Found (now bundle) (now places) ⌝ }
-    ensures { λ r. ⌜ failureOf r ≡ actionFailure (records (now (bundle .entry))) (actionOf (now (rec .entry)) none) ⌝ }
+    ensures { λ r. ⌜ failureAs r ≡ actionFailure (records (now (bundle .entry))) (actionOf (now (rec .entry)) none) ⌝ }
 {
     let policy = facts::policy_of(places, bundle);
     let hkm = evidence::module_key(places, bundle);
     let hkre = evidence::recovery_key(places, bundle);
-    actions::action_steps(policy, hkm, hkre, rec)
+    desk_actions::action_steps(policy, hkm, hkre, rec)
 }
 
 // Whether an action fails none of the steps.

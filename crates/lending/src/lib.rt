@@ -5,10 +5,10 @@ ghost use Prim.Native.Nat.{_≤_};
 ghost use lib.ListN.{length, take};
 ghost use Rattle.rules.specs.Runs.{run};
 ghost use Rattle.rules.specs.Prepared.{preparedRun};
-ghost use Rattle.gate.specs.Outcomes.{ledgerOf};
+ghost use Rattle.gate.specs.Outcomes.{ledgerAs};
 ghost use Rattle.prepared.specs.Forms.{formAs};
 ghost use Rattle.row.specs.Rows.{rowAs};
-ghost use Rattle.runs.specs.Judged.{runAs};
+ghost use Rattle.runs.specs.Judged.{runOutcomeAs};
 use gate::Ledger;
 use prepared::Prepared;
 use row::Certificate;
@@ -85,7 +85,7 @@ fn run_lent(
     answers: &mut [u8],
 ) -> RunOutcome
     requires { ⌜ n ≤ 33 ⌝ }
-    ensures { λ r. ⌜ runAs r (now (answers .exit)) ≡ run (ledgerOf ledger) (now (km0 .entry)) (now (acl .entry)) (rowAs (take n row)) (now (requests .entry)) (now (answers .entry)) ⌝ }
+    ensures { λ r. ⌜ runOutcomeAs r (now (answers .exit)) ≡ run (ledgerAs ledger) (now (km0 .entry)) (now (acl .entry)) (rowAs (take n row)) (now (requests .entry)) (now (answers .entry)) ⌝ }
 {
     runs::run(ledger, km0, acl, &row[..n], requests, answers)
 }
@@ -102,7 +102,7 @@ fn prepared_run_lent(
     answers: &mut [u8],
 ) -> RunOutcome
     requires { ⌜ n ≤ 33 ⌝ }
-    ensures { λ r. ⌜ runAs r (now (answers .exit)) ≡ preparedRun (ledgerOf ledger) (now (km0 .entry)) (now (acl .entry)) (rowAs (take n row)) (formAs form) (now (requests .entry)) (now (answers .entry)) ⌝ }
+    ensures { λ r. ⌜ runOutcomeAs r (now (answers .exit)) ≡ preparedRun (ledgerAs ledger) (now (km0 .entry)) (now (acl .entry)) (rowAs (take n row)) (formAs form) (now (requests .entry)) (now (answers .entry)) ⌝ }
 {
     runs::prepared_run(ledger, km0, acl, &row[..n], form, requests, answers)
 }

@@ -6,12 +6,12 @@ ghost use lib.ListN.{length};
 ghost use Rattle.rules.specs.Sizes.{recordBytes, aclRecords};
 ghost use Rattle.rules.specs.Basics.{same};
 ghost use Rattle.rules.specs.Acl.{aclFileFault};
-ghost use Rattle.files.specs.Faults.{faultOf};
+ghost use Rattle.files.specs.Faults.{faultAs};
 ghost use Rattle.listings.specs.Words.{lineOf, listingOf};
 ghost use Rattle.listings.specs.Decoding.{decoded};
 ghost use Rattle.listings.specs.Listing.{linesOf, listingFault, listedBytes, writeListing, readListingInto};
 ghost use Rattle.text.specs.Putting.{Put};
-ghost use Rattle.listing.specs.Answers.{Answers, goodAs, linesFound};
+ghost use Rattle.listing.specs.Answers.{IsListed, goodWith, linesFound};
 use acl::Place;
 use files::Checked;
 use refusals::Refusal;
@@ -92,7 +92,7 @@ fn put_lines(acl: &[u8], buffer: &mut [u8]) -> usize
 // The listing of an ACL without fault.
 fn write_sound(acl: &[u8], buffer: &mut [u8]) -> Reply
     requires { ⌜ aclFileFault (now acl) ≡ none ⌝ }
-    ensures { λ r. ⌜ Answers (writeListing (now (acl .entry)) (now (buffer .entry))) r (now (buffer .exit)) ⌝ }
+    ensures { λ r. ⌜ IsListed (writeListing (now (acl .entry)) (now (buffer .entry))) r (now (buffer .exit)) ⌝ }
 {
     let n = listing_length(acl);
     if buffer.len() < n {
@@ -105,7 +105,7 @@ fn write_sound(acl: &[u8], buffer: &mut [u8]) -> Reply
 // An ACL's listing at the front of the buffer, and its length. A bad ACL gives its own number; then a short buffer gives 9. Both leave the
 // buffer; else the bytes past the listing stay.
 pub fn write_listing(acl: &[u8], buffer: &mut [u8]) -> Reply
-    ensures { λ r. ⌜ Answers (writeListing (now (acl .entry)) (now (buffer .entry))) r (now (buffer .exit)) ⌝ }
+    ensures { λ r. ⌜ IsListed (writeListing (now (acl .entry)) (now (buffer .entry))) r (now (buffer .exit)) ⌝ }
 {
     let found = acl::acl_file(acl);
     match found {
@@ -126,7 +126,7 @@ fn decoded_record(line: &[u8]) -> [u8; sizes::RECORD]
 // Whether a line is the written form of the record that it tells, of which the reader of ACLs found no fault.
 fn is_good(found: Checked, rec: [u8; sizes::RECORD], line: &[u8]) -> bool
     requires { ⌜ rec ≡ decoded (now line) ⌝ }
-    ensures { λ r. ⌜ r ≡ goodAs (faultOf found) (now (line .entry)) ⌝ }
+    ensures { λ r. ⌜ r ≡ goodWith (faultAs found) (now (line .entry)) ⌝ }
 {
     match found {
         Checked::Refused(_) => false,
@@ -178,7 +178,7 @@ fn put_records(text: &[u8], buffer: &mut [u8]) -> usize
 // The ACL of a listing without a bad line.
 fn read_sound(text: &[u8], count: usize, buffer: &mut [u8]) -> Reply
     requires { ⌜ (listingFault (now text) ≡ none) × (count ≡ length (linesOf (now text))) ⌝ }
-    ensures { λ r. ⌜ Answers (readListingInto (now (text .entry)) (now (buffer .entry))) r (now (buffer .exit)) ⌝ }
+    ensures { λ r. ⌜ IsListed (readListingInto (now (text .entry)) (now (buffer .entry))) r (now (buffer .exit)) ⌝ }
 {
     if buffer.len() / sizes::RECORD < count {
         return Reply::Refused(Refusal::ShortBuffer);
@@ -190,7 +190,7 @@ fn read_sound(text: &[u8], count: usize, buffer: &mut [u8]) -> Reply
 // A listing's ACL at the front of the buffer, and its length. A line that is not the written form of a record valid there gives the first such
 // line's number; then a short buffer gives 9. Both leave the buffer; else the bytes past the ACL stay.
 pub fn read_listing(text: &[u8], buffer: &mut [u8]) -> Reply
-    ensures { λ r. ⌜ Answers (readListingInto (now (text .entry)) (now (buffer .entry))) r (now (buffer .exit)) ⌝ }
+    ensures { λ r. ⌜ IsListed (readListingInto (now (text .entry)) (now (buffer .entry))) r (now (buffer .exit)) ⌝ }
 {
     let found = judge_lines(text);
     match found {

@@ -10,7 +10,7 @@ use borrow.Author.Tests.{le-leb}
 use Rattle.rules.specs.Basics.{Bytes, Every, firstFault}
 use Rattle.rules.proofs.Laws.{never, fault-none-every}
 use Rattle.listings.specs.Words.{listingOf}
-use Rattle.listings.specs.Listing.{Reading, acl, badLine, readListing, produced, isRefusal, roomFault, delivered, writeFault, writeListing, deliveredAs, readListingInto, Octet}
+use Rattle.listings.specs.Listing.{ListingReading, acl, badLine, readListing, produced, isRefusal, roomFault, delivered, writeFault, writeListing, deliveredAs, readListingInto, Octet}
 use Rattle.listings.proofs.Reading.{listing-read-back, accepted-is-written}
 
 -- what was delivered, if the reply is a length
@@ -32,7 +32,7 @@ write-then-read file b c n o e l =
     rw (d .1, listing-read-back file o (f .0), room-enough file c l)
 
 -- What was read is written again.
-written-again : (text b c : Bytes) (n : ℕ) (r : Reading) → readListing text ≡ r → deliveredAs b r .reply ≡ produced n → length text ≤ length c → writeListing (take n (deliveredAs b r .buffer)) c ≡ delivered text c none
+written-again : (text b c : Bytes) (n : ℕ) (r : ListingReading) → readListing text ≡ r → deliveredAs b r .reply ≡ produced n → length text ≤ length c → writeListing (take n (deliveredAs b r .buffer)) c ≡ delivered text c none
 unfolding writeListing writeFault firstFault
 written-again text b c n (acl file) d e l =
     let w = accepted-is-written text file d in
@@ -57,6 +57,6 @@ pub read-refused : (text buffer : Bytes) → isRefusal (readListingInto text buf
 unfolding readListingInto
 read-refused text buffer e = pick (readListing text) e
   where
-    pick : (r : Reading) → isRefusal (deliveredAs buffer r .reply) ≡ true → deliveredAs buffer r .buffer ≡ buffer
+    pick : (r : ListingReading) → isRefusal (deliveredAs buffer r .reply) ≡ true → deliveredAs buffer r .buffer ≡ buffer
     pick (acl file) e = delivered-stays file buffer (roomFault file buffer) e
     pick (badLine m) e = refl

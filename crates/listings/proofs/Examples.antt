@@ -10,8 +10,8 @@ use Rattle.rules.specs.Acl.{aclFileFault}
 use Rattle.rules.proofs.Computing.{computing}
 use Rattle.rules.proofs.Samples.{rec, repeated, hash, openGroup, signAction, keyless}
 use Rattle.listings.specs.Words.{hexDigit, hex, wordText, wordsText, permissionWords, lineOf, listingOf, groupLineMax, limitLineMax, fileLineMax, lineMax, listingMax}
-use Rattle.listings.specs.Decoding.{stands, has, afterWord, hexValue, unhex, hashAfter, afterHash, digitsOf, decimalFrom, numberAfter, afterNumber, bytesOf, ofBits, headed, groupFrom, limitFrom, namesFrom, permissionsFrom, blobFrom, archiveFrom, fileFrom, decoded}
-use Rattle.listings.specs.Listing.{linesOf, isWritten, goodLine, lineFault, afterLine, listingEnd, listingFault, listedBytes, Reading, acl, badLine, readListing, produced, refusedWith, refusedAt, Listed, writeFault, writeListing, readListingInto}
+use Rattle.listings.specs.Decoding.{stands, hasWord, afterWord, hexValue, unhex, hashAfter, afterHash, digitsOf, decimalFrom, numberAfter, afterNumber, bytesOf, ofBits, headed, groupFrom, limitFrom, namesFrom, permissionsFrom, blobFrom, archiveFrom, fileFrom, decoded}
+use Rattle.listings.specs.Listing.{linesOf, isWritten, goodLine, lineFault, afterLine, listingEnd, listingFault, listedBytes, ListingReading, acl, badLine, readListing, produced, refusedWith, refusedAt, Listed, writeFault, writeListing, readListingInto}
 
 -- "Two Sign groups, per load 1, then counter 3 maximum 2"
 abbrev twoGroups : Bytes
@@ -44,7 +44,7 @@ everyWordText =
     ++ ascii "OpPermissions DuplicateHandle Sign SignModuleCert UseAsLoaderKey\n"
 
 -- texts that are read, with what is read
-abbrev rowsRead : List Reading
+abbrev rowsRead : List ListingReading
 rowsRead =
     readListing twoGroupsText
     ∷ readListing everyWordText
@@ -66,7 +66,7 @@ rowsRead =
     ∷ readListing (ascii "group\nMakeBlob AllowKmOnly blobfile\nblobfile devices 0\nOpPermissions Sign\n")
     ∷ []
 
-abbrev rowsExpected : List Reading
+abbrev rowsExpected : List ListingReading
 rowsExpected =
     acl twoGroups
     ∷ acl everyWord
@@ -144,5 +144,5 @@ Reached =
 
 -- All rows hold.
 pub examples-hold : (listingOf twoGroups ≡ twoGroupsText) × (listingOf everyWord ≡ everyWordText) × (rowsRead ≡ rowsExpected) × (entries ≡ entriesExpected) × Reached
-unfolding hexDigit hex wordText wordsText permissionWords lineOf listingOf stands has afterWord hexValue unhex hashAfter afterHash digitsOf decimalFrom numberAfter afterNumber bytesOf ofBits headed groupFrom limitFrom namesFrom permissionsFrom blobFrom archiveFrom fileFrom decoded linesOf isWritten goodLine lineFault afterLine listingEnd listingFault listedBytes readListing writeFault writeListing readListingInto flatten computing
+unfolding hexDigit hex wordText wordsText permissionWords lineOf listingOf stands hasWord afterWord hexValue unhex hashAfter afterHash digitsOf decimalFrom numberAfter afterNumber bytesOf ofBits headed groupFrom limitFrom namesFrom permissionsFrom blobFrom archiveFrom fileFrom decoded linesOf isWritten goodLine lineFault afterLine listingEnd listingFault listedBytes readListing writeFault writeListing readListingInto flatten computing
 examples-hold = (refl, refl, refl, refl, (refl, refl, refl, refl, refl, refl))

@@ -17,7 +17,7 @@ use Rattle.rules.specs.Day.{decimal}
 use Rattle.rules.specs.Acl.{AclPlace, aclStart, limitKey, limitInPlace, actionInPlace, actionLaidOut, placedUnder, placedByKind, inPlace, afterRecord, aclRecordFault, aclEnd, aclFaultUnder, aclFileFault}
 use Rattle.rules.proofs.Laws.{and-left, and-right, and-both, orNext-first, orNext-next}
 use Rattle.rules.proofs.Places.{placed, file-due}
-use Rattle.listings.specs.Words.{space, hex, Word, bare, numbered, hashed, spaced, wordsText, groupWords, limitWords, permissionNames, permissionWords, blobWords, archiveWords, fileWords, lineOf, listingOf, groupLineMax, limitLineMax, fileLineMax, lineMax, listingMax}
+use Rattle.listings.specs.Words.{space, hex, Word, bare, withNumber, withHash, spaced, wordsText, groupWords, limitWords, permissionNames, permissionWords, blobWords, archiveWords, fileWords, lineOf, listingOf, groupLineMax, limitLineMax, fileLineMax, lineMax, listingMax}
 use Rattle.listings.specs.Listing.{Octet, IsRecord}
 use Rattle.listings.proofs.Digits.{decimal-length, hex-length}
 use Rattle.listings.proofs.Words.{text-with, text-without}
@@ -75,8 +75,8 @@ module _ (r : Bytes) (h : IsRecord r) where
   group-length : length (ascii "group" ++ wordsText (groupWords r)) ≤ groupLineMax
   unfolding ascii
   group-length =
-      let m = text-length (numbered (flag 1 r) "mechanism" (number 24 2 r)) [] 6 1 (two-text 24 (omega arith)) end-length in
-      let c = text-length (hashed (flag 0 r) "certifier" (part 4 hashBytes r)) (numbered (flag 1 r) "mechanism" (number 24 2 r) ∷ []) 41 17 (hash-text 4 (omega arith)) m in
+      let m = text-length (withNumber (flag 1 r) "mechanism" (number 24 2 r)) [] 6 1 (two-text 24 (omega arith)) end-length in
+      let c = text-length (withHash (flag 0 r) "certifier" (part 4 hashBytes r)) (withNumber (flag 1 r) "mechanism" (number 24 2 r) ∷ []) 41 17 (hash-text 4 (omega arith)) m in
       omega arith
 
   limit-length : limitLaidOut r ≡ true → length (ascii "limit" ++ wordsText (limitWords r)) ≤ limitLineMax
@@ -89,16 +89,16 @@ module _ (r : Bytes) (h : IsRecord r) where
           let k : counterOfSort (byte 4 r) (byte 5 r) ≡ true = search conj in
           let x : ltb (byte 5 r) countersMax ≡ true = rw s at k in
           let y = ltb-true (byte 5 r) countersMax x in
-          let m = text-length (numbered true "uses" (number 8 4 r)) [] 11 1 (four-text 8 (omega arith)) end-length in
-          let c = text-length (numbered true "counter" (byte 5 r)) (numbered true "uses" (number 8 4 r) ∷ []) 4 17 (number-text 2 (byte 5 r) (omega arith)) m in
+          let m = text-length (withNumber true "uses" (number 8 4 r)) [] 11 1 (four-text 8 (omega arith)) end-length in
+          let c = text-length (withNumber true "counter" (byte 5 r)) (withNumber true "uses" (number 8 4 r) ∷ []) 4 17 (number-text 2 (byte 5 r) (omega arith)) m in
           rw s (omega arith)
       pick false p true q =
-          let m = text-length (numbered true "seconds" (number 8 4 r)) [] 11 1 (four-text 8 (omega arith)) end-length in
-          let t = text-without (numbered false "counter" (byte 5 r)) (numbered true "seconds" (number 8 4 r) ∷ []) refl in
+          let m = text-length (withNumber true "seconds" (number 8 4 r)) [] 11 1 (four-text 8 (omega arith)) end-length in
+          let t = text-without (withNumber false "counter" (byte 5 r)) (withNumber true "seconds" (number 8 4 r) ∷ []) refl in
           rw (p, q, t) (omega arith)
       pick false p false q =
-          let m = text-length (numbered true "uses" (number 8 4 r)) [] 11 1 (four-text 8 (omega arith)) end-length in
-          let t = text-without (numbered false "counter" (byte 5 r)) (numbered true "uses" (number 8 4 r) ∷ []) refl in
+          let m = text-length (withNumber true "uses" (number 8 4 r)) [] 11 1 (four-text 8 (omega arith)) end-length in
+          let t = text-without (withNumber false "counter" (byte 5 r)) (withNumber true "uses" (number 8 4 r) ∷ []) refl in
           rw (p, q, t) (omega arith)
 
   permission-length : length (ascii "OpPermissions" ++ wordsText (permissionWords 0 permissionNames (number 4 2 r))) ≤ lineMax
@@ -132,13 +132,13 @@ module _ (r : Bytes) (h : IsRecord r) where
       let ws : ℕ → List Word = λ i. drop i (blobWords r) in
       let a10 = text-length (bare (flag 6 r) "blobfile") [] 0 1 (omega arith) end-length in
       let a9 = text-length (bare (flag 5 r) "AllowNullKmToken") (ws 10) 0 10 (omega arith) a10 in
-      let a8 = text-length (numbered (flag 4 r) "seconds" (number 48 4 r)) (ws 9) 11 27 (four-text 48 (omega arith)) a9 in
-      let a7 = text-length (numbered (flag 4 r) "total" (byte 47 r)) (ws 8) 3 46 (number-text 1 (byte 47 r) (s .1)) a8 in
-      let a6 = text-length (numbered (flag 4 r) "needed" (byte 46 r)) (ws 7) 3 55 (number-text 1 (byte 46 r) (s .0)) a7 in
+      let a8 = text-length (withNumber (flag 4 r) "seconds" (number 48 4 r)) (ws 9) 11 27 (four-text 48 (omega arith)) a9 in
+      let a7 = text-length (withNumber (flag 4 r) "total" (byte 47 r)) (ws 8) 3 46 (number-text 1 (byte 47 r) (s .1)) a8 in
+      let a6 = text-length (withNumber (flag 4 r) "needed" (byte 46 r)) (ws 7) 3 55 (number-text 1 (byte 46 r) (s .0)) a7 in
       let a5 = text-length (bare (bit 0 (number 44 2 r)) "AllowSoftSlots") (ws 6) 0 65 (omega arith) a6 in
       let a4 = text-length (bare (flag 4 r) "ktparams") (ws 5) 0 80 (omega arith) a5 in
-      let a3 = text-length (hashed (flag 3 r) "kthash" (part 24 hashBytes r)) (ws 4) 41 89 (hash-text 24 (omega arith)) a4 in
-      let a2 = text-length (hashed (flag 2 r) "kmhash" (part 4 hashBytes r)) (ws 3) 41 137 (hash-text 4 (omega arith)) a3 in
+      let a3 = text-length (withHash (flag 3 r) "kthash" (part 24 hashBytes r)) (ws 4) 41 89 (hash-text 24 (omega arith)) a4 in
+      let a2 = text-length (withHash (flag 2 r) "kmhash" (part 4 hashBytes r)) (ws 3) 41 137 (hash-text 4 (omega arith)) a3 in
       let a1 = text-length (bare (flag 1 r) "AllowNonKm0") (ws 2) 0 185 (omega arith) a2 in
       let a0 = text-length (bare (flag 0 r) "AllowKmOnly") (ws 1) 0 197 (omega arith) a1 in
       omega arith
@@ -148,15 +148,15 @@ module _ (r : Bytes) (h : IsRecord r) where
   archive-length =
       let ws : ℕ → List Word = λ i. drop i (archiveWords r) in
       let a2 = text-length (bare (flag 6 r) "blobfile") [] 0 1 (omega arith) end-length in
-      let a1 = text-length (numbered true "mechanism" (number 24 2 r)) (ws 2) 6 10 (two-text 24 (omega arith)) a2 in
-      let a0 = text-length (hashed (flag 0 r) "kahash" (part 4 hashBytes r)) (ws 1) 41 26 (hash-text 4 (omega arith)) a1 in
+      let a1 = text-length (withNumber true "mechanism" (number 24 2 r)) (ws 2) 6 10 (two-text 24 (omega arith)) a2 in
+      let a0 = text-length (withHash (flag 0 r) "kahash" (part 4 hashBytes r)) (ws 1) 41 26 (hash-text 4 (omega arith)) a1 in
       omega arith
 
   file-length : length (ascii "blobfile" ++ wordsText (fileWords r)) ≤ fileLineMax
   unfolding ascii
   file-length =
-      let m = text-length (hashed (flag 1 r) "template" (part 8 hashBytes r)) [] 41 1 (hash-text 8 (omega arith)) end-length in
-      let c = text-length (numbered (flag 0 r) "devices" (number 4 4 r)) (hashed (flag 1 r) "template" (part 8 hashBytes r) ∷ []) 11 51 (four-text 4 (omega arith)) m in
+      let m = text-length (withHash (flag 1 r) "template" (part 8 hashBytes r)) [] 41 1 (hash-text 8 (omega arith)) end-length in
+      let c = text-length (withNumber (flag 0 r) "devices" (number 4 4 r)) (withHash (flag 1 r) "template" (part 8 hashBytes r) ∷ []) 11 51 (four-text 4 (omega arith)) m in
       omega arith
 
   -- A record that may stand in an ACL has a line no longer than its kind's longest.

@@ -13,7 +13,7 @@ use Rattle.rules.specs.Sizes.{hashBytes}
 use Rattle.rules.specs.Basics.{if_then_else_, Bytes, Every, all, ascii, part, number, byte, kind}
 use Rattle.rules.specs.Day.{decimal}
 use Rattle.rules.proofs.Laws.{and-left, and-right, and-both}
-use Rattle.listings.specs.Words.{newline, space, hexDigit, hex, Word, spaced, wordsText, counted, groupWords, limitWords, permissionNames, permissionWords, blobWords, archiveWords, fileWords, lineOf}
+use Rattle.listings.specs.Words.{newline, space, hexDigit, hex, Word, spaced, wordsText, limitUnit, groupWords, limitWords, permissionNames, permissionWords, blobWords, archiveWords, fileWords, lineOf}
 use Rattle.listings.specs.Listing.{ontoFirst, linesOf, lineLength}
 use Rattle.listings.proofs.Digits.{below-or-not, Digit, decimal-every}
 use Rattle.listings.proofs.Words.{text-with, text-without}
@@ -148,11 +148,11 @@ either-line : (b : Bool) (x y : Bytes) → oneLine x ≡ true → oneLine y ≡ 
 either-line true x y p q = p
 either-line false x y p q = q
 
-counted-plain : (sort : ℕ) → plain (spaced (counted sort)) ≡ true
+counted-plain : (sort : ℕ) → plain (spaced (limitUnit sort)) ≡ true
 unfolding all ascii
 counted-plain sort = pick (eqb sort 3) refl
   where
-    pick : (b : Bool) → eqb sort 3 ≡ b → plain (spaced (counted sort)) ≡ true
+    pick : (b : Bool) → eqb sort 3 ≡ b → plain (spaced (limitUnit sort)) ≡ true
     pick true e = rw e refl
     pick false e = rw e refl
 

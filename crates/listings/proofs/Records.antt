@@ -15,8 +15,8 @@ use Rattle.rules.specs.Layout.{header, zeroUnless, mechanismAt, between, tokenP
 use Rattle.rules.specs.Acl.{AclPlace, limitKey, limitInPlace, actionInPlace, actionLaidOut, placedUnder, placedByKind, inPlace}
 use Rattle.rules.proofs.Laws.{and-left, and-right, and-both, not-both, implied, allBelow-at}
 use Rattle.rules.proofs.Places.{placed, file-due}
-use Rattle.listings.specs.Words.{Word, spaced, numbered, hashed, bare, wordsText, groupWords, counted, limitWords, permissionNames, permissionWords, blobWords, archiveWords, fileWords, lineOf}
-use Rattle.listings.specs.Decoding.{stands, has, afterHash, afterNumber, hashAfter, bytesOf, ofBits, headed, groupFrom, sortOf, limitFrom, permissionsFrom, blobFrom, archiveFrom, fileFrom, begins, past, decoded}
+use Rattle.listings.specs.Words.{Word, spaced, withNumber, withHash, bare, wordsText, groupWords, limitUnit, limitWords, permissionNames, permissionWords, blobWords, archiveWords, fileWords, lineOf}
+use Rattle.listings.specs.Decoding.{stands, hasWord, afterHash, afterNumber, hashAfter, bytesOf, ofBits, headed, groupFrom, sortOf, limitFrom, permissionsFrom, blobFrom, archiveFrom, fileFrom, begins, past, decoded}
 use Rattle.listings.specs.Listing.{Octet, IsRecord}
 use Rattle.listings.proofs.Digits.{every-append, bytes-length, bytes-octets, unhex-length, unhex-octets}
 use Rattle.listings.proofs.Bits.{bits-of, within-below}
@@ -41,11 +41,11 @@ unlisted listed i r e l off = pick (flag i r) refl
         absurd (not-both (bit i listed) (implied (flag i r) (bit i listed) (allBelow-at 16 (λ j. implies (bit j (number 2 2 r)) (bit j listed)) i l w) d) off)
 
 -- what is read of a limit's line, by its sort
-limit-read : (sort : ℕ) → (sort ≡ 1) ⊎ (sort ≡ 2) ⊎ (sort ≡ 3) → (c m : ℕ) → c < 10 ^ 10 → m < 10 ^ 10 → (eqb sort 2 ≡ false → c ≡ 0) → limitFrom (wordsText (numbered (eqb sort 2) "counter" c ∷ numbered true (counted sort) m ∷ []))
+limit-read : (sort : ℕ) → (sort ≡ 1) ⊎ (sort ≡ 2) ⊎ (sort ≡ 3) → (c m : ℕ) → c < 10 ^ 10 → m < 10 ^ 10 → (eqb sort 2 ≡ false → c ≡ 0) → limitFrom (wordsText (withNumber (eqb sort 2) "counter" c ∷ withNumber true (limitUnit sort) m ∷ []))
     ≡ flatten (headed 2 [] ∷ (sort ∷ []) ∷ bytesOf 1 c ∷ replicate 2 0 ∷ bytesOf 4 m ∷ replicate 52 0 ∷ [])
 unfolding limitFrom all ascii
 limit-read sort (inl e) c m f g z = rw e (
-    let later = numbered true "uses" m ∷ [] in
+    let later = withNumber true "uses" m ∷ [] in
     rw (
       has-numbered "counter" later refl false c,
       number-first "counter" later refl false c f (λ q. z (rw e)),
@@ -54,7 +54,7 @@ limit-read sort (inl e) c m f g z = rw e (
       number-first "uses" [] refl true m g (λ q. absurd (false≢true (sym q))),
     ))
 limit-read sort (inr (inl e)) c m f g z = rw e (
-    let later = numbered true "uses" m ∷ [] in
+    let later = withNumber true "uses" m ∷ [] in
     rw (
       has-numbered "counter" later refl true c,
       number-first "counter" later refl true c f (λ q. absurd (false≢true (sym q))),
@@ -63,7 +63,7 @@ limit-read sort (inr (inl e)) c m f g z = rw e (
       number-first "uses" [] refl true m g (λ q. absurd (false≢true (sym q))),
     ))
 limit-read sort (inr (inr e)) c m f g z = rw e (
-    let later = numbered true "seconds" m ∷ [] in
+    let later = withNumber true "seconds" m ∷ [] in
     rw (
       has-numbered "counter" later refl false c,
       number-first "counter" later refl false c f (λ q. z (rw e)),
@@ -87,11 +87,11 @@ one-to-three n e = pick (eqb n 1) refl (eqb n 2) refl
 
 module _ (r : Bytes) (h : IsRecord r) where
   -- A hash, a number and a byte of the record, which are zero where the word is not there.
-  hash-field : (name : String) (ws : List Word) → clear name ws ≡ true → (b : Bool) (off : ℕ) → off + hashBytes ≤ recordBytes → (b ≡ false → blank off hashBytes r ≡ true) → hashAfter name (wordsText (hashed b name (part off hashBytes r) ∷ ws)) ≡ part off hashBytes r
+  hash-field : (name : String) (ws : List Word) → clear name ws ≡ true → (b : Bool) (off : ℕ) → off + hashBytes ≤ recordBytes → (b ≡ false → blank off hashBytes r ≡ true) → hashAfter name (wordsText (withHash b name (part off hashBytes r) ∷ ws)) ≡ part off hashBytes r
   hash-field name ws e b off l z =
       hash-first name ws e b (part off hashBytes r) (part-length r h off hashBytes l) (part-octets r h off hashBytes) (λ q. blank-part r h off hashBytes l (z q))
 
-  hash-past : (name : String) (ws : List Word) → clear name ws ≡ true → (b : Bool) (off : ℕ) → off + hashBytes ≤ recordBytes → afterHash name (wordsText (hashed b name (part off hashBytes r) ∷ ws)) ≡ wordsText ws
+  hash-past : (name : String) (ws : List Word) → clear name ws ≡ true → (b : Bool) (off : ℕ) → off + hashBytes ≤ recordBytes → afterHash name (wordsText (withHash b name (part off hashBytes r) ∷ ws)) ≡ wordsText ws
   hash-past name ws e b off l = after-hash name ws e b (part off hashBytes r) (part-length r h off hashBytes l)
 
   two-fits : (off : ℕ) → off + 2 ≤ recordBytes → number off 2 r < 10 ^ 10
@@ -112,7 +112,7 @@ module _ (r : Bytes) (h : IsRecord r) where
       let c : zeroUnless 0 4 hashBytes r ≡ true = search conj in
       let n : certifierMechanism r ≡ true = search conj in
       let z : blank 26 38 r ≡ true = search conj in
-      let later = numbered (flag 1 r) "mechanism" m ∷ [] in
+      let later = withNumber (flag 1 r) "mechanism" m ∷ [] in
       rw (
         has-hashed "certifier" later refl (flag 0 r) (part 4 hashBytes r),
         hash-field "certifier" later refl (flag 0 r) 4 (omega arith) (λ q. zero-unless 0 4 hashBytes r c q),
@@ -146,7 +146,7 @@ module _ (r : Bytes) (h : IsRecord r) where
       let c : zeroUnless 0 4 hashBytes r ≡ true = search conj in
       let z : blank 26 38 r ≡ true = search conj in
       let last = bare (flag 6 r) "blobfile" ∷ [] in
-      let later = numbered true "mechanism" m ∷ last in
+      let later = withNumber true "mechanism" m ∷ last in
       rw (
         has-hashed "kahash" later refl (flag 0 r) (part 4 hashBytes r),
         hash-field "kahash" later refl (flag 0 r) 4 (omega arith) (λ q. zero-unless 0 4 hashBytes r c q),
@@ -169,7 +169,7 @@ module _ (r : Bytes) (h : IsRecord r) where
       let c : zeroUnless 0 4 4 r ≡ true = search conj in
       let t : zeroUnless 1 8 hashBytes r ≡ true = search conj in
       let z : blank 28 36 r ≡ true = search conj in
-      let later = hashed (flag 1 r) "template" (part 8 hashBytes r) ∷ [] in
+      let later = withHash (flag 1 r) "template" (part 8 hashBytes r) ∷ [] in
       rw (
         has-numbered "devices" later refl (flag 0 r) n,
         number-first "devices" later refl (flag 0 r) n (four-fits 4 (omega arith)) (λ q. blank-number r h 4 4 (zero-unless 0 4 4 r c q)),
@@ -376,9 +376,9 @@ sized-headed k flags o =
 
 sized-hash : (name : String) (t : Bytes) → Sized hashBytes (hashAfter name t)
 unfolding hashAfter
-sized-hash name t = pick (has name t) refl
+sized-hash name t = pick (hasWord name t) refl
   where
-    pick : (b : Bool) → has name t ≡ b → Sized hashBytes (hashAfter name t)
+    pick : (b : Bool) → hasWord name t ≡ b → Sized hashBytes (hashAfter name t)
     pick true e = rw e (record { long = unhex-length hashBytes (drop (length (spaced name) + 1) t); bytes = unhex-octets hashBytes (drop (length (spaced name) + 1) t) })
     pick false e = rw e (sized-zeros hashBytes)
 
@@ -398,7 +398,7 @@ group-record t =
 limit-record : (t : Bytes) → IsRecord (limitFrom t)
 unfolding limitFrom flatten
 limit-record t =
-    is-record (limitFrom t) (sized-headed 2 [] (omega arith) then sized-sort (has "counter" t) (has "seconds" (afterNumber "counter" t)) then sized-bytes 1 _ then sized-zeros 2 then sized-bytes 4 _ then sized-zeros 52 then sized-nil)
+    is-record (limitFrom t) (sized-headed 2 [] (omega arith) then sized-sort (hasWord "counter" t) (hasWord "seconds" (afterNumber "counter" t)) then sized-bytes 1 _ then sized-zeros 2 then sized-bytes 4 _ then sized-zeros 52 then sized-nil)
 
 permissions-record : (t : Bytes) → IsRecord (permissionsFrom t)
 unfolding permissionsFrom flatten

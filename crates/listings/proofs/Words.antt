@@ -14,8 +14,8 @@ use Rattle.rules.specs.Basics.{if_then_else_, Bytes, Every, all, bit}
 use Rattle.rules.specs.Layout.{between}
 use Rattle.rules.specs.Day.{decimal}
 use Rattle.rules.proofs.Laws.{and-left, and-right, and-both}
-use Rattle.listings.specs.Words.{space, hex, Word, bare, numbered, hashed, spaced, wordText, wordsText, permissionWords}
-use Rattle.listings.specs.Decoding.{stands, has, afterWord, unhex, hashAfter, afterHash, numberAfter, afterNumber, namesFrom}
+use Rattle.listings.specs.Words.{space, hex, Word, bare, withNumber, withHash, spaced, wordText, wordsText, permissionWords}
+use Rattle.listings.specs.Decoding.{stands, hasWord, afterWord, unhex, hashAfter, afterHash, numberAfter, afterNumber, namesFrom}
 use Rattle.listings.specs.Listing.{Octet}
 use Rattle.listings.proofs.Digits.{decimal-digits, decimal-value, hex-back, hex-length}
 use Rattle.listings.proofs.Bits.{bitsFrom}
@@ -74,13 +74,13 @@ apart-not (x ∷ xs) (y ∷ ys) t e = pick (eqb x y) refl (apart-not xs ys t)
 abbrev pub clear : String → List Word → Bool
 clear name ws = all (λ w. apart (spaced name) (spaced (w .name))) ws
 
-pub absent : (name : String) (ws : List Word) → clear name ws ≡ true → has name (wordsText ws) ≡ false
-unfolding wordsText has stands all
+pub absent : (name : String) (ws : List Word) → clear name ws ≡ true → hasWord name (wordsText ws) ≡ false
+unfolding wordsText hasWord stands all
 absent name [] e = refl
 absent name (w ∷ ws) e =
     pick (w .given) refl (absent name ws (and-right (apart (spaced name) (spaced (w .name))) (clear name ws) e))
   where
-    pick : (b : Bool) → w .given ≡ b → has name (wordsText ws) ≡ false → has name (wordsText (w ∷ ws)) ≡ false
+    pick : (b : Bool) → w .given ≡ b → hasWord name (wordsText ws) ≡ false → hasWord name (wordsText (w ∷ ws)) ≡ false
     pick true d i =
         ap (stands (spaced name)) (text-with w ws d)
         ∙ apart-not (spaced name) (spaced (w .name)) (w .value ++ wordsText ws) (and-left (apart (spaced name) (spaced (w .name))) (clear name ws) e)
@@ -88,19 +88,19 @@ absent name (w ∷ ws) e =
 
 -- The first of a line's words, when no other begins like it.
 module _ (name : String) (ws : List Word) (e : clear name ws ≡ true) where
-  has-first : (b : Bool) (value : Bytes) → Begins (value ++ wordsText ws) → has name (wordsText (record { given = b; name = name; value = value } ∷ ws)) ≡ b
-  unfolding has
+  has-first : (b : Bool) (value : Bytes) → Begins (value ++ wordsText ws) → hasWord name (wordsText (record { given = b; name = name; value = value } ∷ ws)) ≡ b
+  unfolding hasWord
   has-first true value h =
       ap (stands (spaced name)) (text-with (record { given = true; name = name; value = value }) ws refl) ∙ stands-here (spaced name) (value ++ wordsText ws) h
-  has-first false value h = ap (has name) (text-without (record { given = false; name = name; value = value }) ws refl) ∙ absent name ws e
+  has-first false value h = ap (hasWord name) (text-without (record { given = false; name = name; value = value }) ws refl) ∙ absent name ws e
 
-  pub has-bare : (b : Bool) → has name (wordsText (bare b name ∷ ws)) ≡ b
+  pub has-bare : (b : Bool) → hasWord name (wordsText (bare b name ∷ ws)) ≡ b
   has-bare b = has-first b [] (rest-begins ws)
 
-  pub has-numbered : (b : Bool) (n : ℕ) → has name (wordsText (numbered b name n ∷ ws)) ≡ b
+  pub has-numbered : (b : Bool) (n : ℕ) → hasWord name (wordsText (withNumber b name n ∷ ws)) ≡ b
   has-numbered b n = has-first b (space ∷ decimal n) refl
 
-  pub has-hashed : (b : Bool) (h : Bytes) → has name (wordsText (hashed b name h ∷ ws)) ≡ b
+  pub has-hashed : (b : Bool) (h : Bytes) → hasWord name (wordsText (withHash b name h ∷ ws)) ≡ b
   has-hashed b h = has-first b (space ∷ hex h) refl
 
   -- what follows it
@@ -122,24 +122,24 @@ module _ (name : String) (ws : List Word) (e : clear name ws ≡ true) where
       let a = length-append (spaced name) (space ∷ v) in
       drop-at (spaced name ++ (space ∷ v)) (wordsText ws) (length (spaced name) + 1 + n) (omega arith)
 
-  pub hash-first : (b : Bool) (h : Bytes) → length h ≡ hashBytes → Every Octet h → (b ≡ false → h ≡ replicate hashBytes 0) → hashAfter name (wordsText (hashed b name h ∷ ws)) ≡ h
+  pub hash-first : (b : Bool) (h : Bytes) → length h ≡ hashBytes → Every Octet h → (b ≡ false → h ≡ replicate hashBytes 0) → hashAfter name (wordsText (withHash b name h ∷ ws)) ≡ h
   unfolding wordsText wordText hashAfter
   hash-first true h l o z =
       rw (has-hashed true h, value-at (hex h)) (ap (λ (n : ℕ). unhex n (hex h ++ wordsText ws)) (sym l) ∙ hex-back h (wordsText ws) o)
   hash-first false h l o z = rw (has-hashed false h) (sym (z refl))
 
-  pub after-hash : (b : Bool) (h : Bytes) → length h ≡ hashBytes → afterHash name (wordsText (hashed b name h ∷ ws)) ≡ wordsText ws
+  pub after-hash : (b : Bool) (h : Bytes) → length h ≡ hashBytes → afterHash name (wordsText (withHash b name h ∷ ws)) ≡ wordsText ws
   unfolding wordsText wordText afterHash
   after-hash true h l = let x = hex-length h in rw (has-hashed true h) (value-past (hex h) (2 * hashBytes) (omega arith))
   after-hash false h l = rw (has-hashed false h)
 
-  pub number-first : (b : Bool) (n : ℕ) → n < 10 ^ 10 → (b ≡ false → n ≡ 0) → numberAfter name (wordsText (numbered b name n ∷ ws)) ≡ n
+  pub number-first : (b : Bool) (n : ℕ) → n < 10 ^ 10 → (b ≡ false → n ≡ 0) → numberAfter name (wordsText (withNumber b name n ∷ ws)) ≡ n
   unfolding wordsText wordText numberAfter
   number-first true n l z =
       rw (has-numbered true n, value-at (decimal n), decimal-digits n (wordsText ws) l (no-digit (wordsText ws) (rest-begins ws))) (decimal-value n l)
   number-first false n l z = rw (has-numbered false n) (sym (z refl))
 
-  pub after-number : (b : Bool) (n : ℕ) → n < 10 ^ 10 → afterNumber name (wordsText (numbered b name n ∷ ws)) ≡ wordsText ws
+  pub after-number : (b : Bool) (n : ℕ) → n < 10 ^ 10 → afterNumber name (wordsText (withNumber b name n ∷ ws)) ≡ wordsText ws
   unfolding wordsText wordText afterNumber
   after-number true n l =
       rw (has-numbered true n, value-at (decimal n), decimal-digits n (wordsText ws) l (no-digit (wordsText ws) (rest-begins ws)))

@@ -18,12 +18,12 @@ stands (x ∷ w) [] = false
 stands (x ∷ w) (y ∷ t) = eqb x y && stands w t
 
 -- .. after a space
-unfoldable pub has : String → Bytes → Bool
-has name t = stands (spaced name) t
+unfoldable pub hasWord : String → Bytes → Bool
+hasWord name t = stands (spaced name) t
 
 -- what follows a word, where it stands
 unfoldable pub afterWord : String → Bytes → Bytes
-afterWord name t = if has name t then drop (length (spaced name)) t else t
+afterWord name t = if hasWord name t then drop (length (spaced name)) t else t
 
 -- the value of a hexadecimal digit; another byte counts as zero
 unfoldable pub hexValue : ℕ → ℕ
@@ -36,11 +36,11 @@ unhex (suc n) t = (hexValue (getD t 0 0) * 16 + hexValue (getD t 1 0)) ∷ unhex
 
 -- the hash that a word tells; where the word does not stand, "absent optional fields are zero"
 unfoldable pub hashAfter : String → Bytes → Bytes
-hashAfter name t = if has name t then unhex hashBytes (drop (length (spaced name) + 1) t) else replicate hashBytes 0
+hashAfter name t = if hasWord name t then unhex hashBytes (drop (length (spaced name) + 1) t) else replicate hashBytes 0
 
 -- what follows a word and its hash
 unfoldable pub afterHash : String → Bytes → Bytes
-afterHash name t = if has name t then drop (length (spaced name) + 1 + 2 * hashBytes) t else t
+afterHash name t = if hasWord name t then drop (length (spaced name) + 1 + 2 * hashBytes) t else t
 
 -- the digits that a text begins with
 unfoldable pub digitsOf : Bytes → Bytes
@@ -58,12 +58,12 @@ decimalFrom n (c ∷ t) = decimalFrom (n * 10 + (c - 48)) t
 
 -- the number that a word tells, or zero
 unfoldable pub numberAfter : String → Bytes → ℕ
-numberAfter name t = if has name t then decimalFrom 0 (digitsOf (take digitsMax (drop (length (spaced name) + 1) t))) else 0
+numberAfter name t = if hasWord name t then decimalFrom 0 (digitsOf (take digitsMax (drop (length (spaced name) + 1) t))) else 0
 
 -- what follows a word and its number
 unfoldable pub afterNumber : String → Bytes → Bytes
 afterNumber name t =
-    if has name t then drop (length (spaced name) + 1 + length (digitsOf (take digitsMax (drop (length (spaced name) + 1) t)))) t
+    if hasWord name t then drop (length (spaced name) + 1 + length (digitsOf (take digitsMax (drop (length (spaced name) + 1) t)))) t
     else t
 
 -- "Numbers are big-endian.": the lowest n bytes of a number
@@ -85,7 +85,7 @@ unfoldable pub groupFrom : Bytes → Bytes
 groupFrom t =
     let u = afterHash "certifier" t in
     flatten
-    (headed 1 (has "certifier" t ∷ has "mechanism" u ∷ [])
+    (headed 1 (hasWord "certifier" t ∷ hasWord "mechanism" u ∷ [])
     ∷ hashAfter "certifier" t
     ∷ bytesOf 2 (numberAfter "mechanism" u)
     ∷ replicate 38 0
@@ -101,17 +101,17 @@ limitFrom t =
     let u = afterNumber "counter" t in
     flatten
     (headed 2 []
-    ∷ (sortOf (has "counter" t) (has "seconds" u) ∷ [])
+    ∷ (sortOf (hasWord "counter" t) (hasWord "seconds" u) ∷ [])
     ∷ bytesOf 1 (numberAfter "counter" t)
     ∷ replicate 2 0
-    ∷ bytesOf 4 (if has "seconds" u then numberAfter "seconds" u else numberAfter "uses" u)
+    ∷ bytesOf 4 (if hasWord "seconds" u then numberAfter "seconds" u else numberAfter "uses" u)
     ∷ replicate 52 0
     ∷ [])
 
 -- OpPermissions: which of the names stand there, in order
 unfoldable pub namesFrom : List String → Bytes → List Bool
 namesFrom [] t = []
-namesFrom (name ∷ names) t = has name t ∷ namesFrom names (afterWord name t)
+namesFrom (name ∷ names) t = hasWord name t ∷ namesFrom names (afterWord name t)
 
 -- .. the sixteen bits
 unfoldable pub permissionsFrom : Bytes → Bytes
@@ -132,10 +132,10 @@ blobFrom t =
     let blobfile = afterWord "AllowNullKmToken" nullToken in
     flatten
     (headed 4
-    (has "AllowKmOnly" t ∷ has "AllowNonKm0" nonKm0 ∷ has "kmhash" kmhash ∷ has "kthash" kthash ∷ has "ktparams" ktparams ∷ has "AllowNullKmToken" nullToken ∷ has "blobfile" blobfile ∷ [])
+    (hasWord "AllowKmOnly" t ∷ hasWord "AllowNonKm0" nonKm0 ∷ hasWord "kmhash" kmhash ∷ hasWord "kthash" kthash ∷ hasWord "ktparams" ktparams ∷ hasWord "AllowNullKmToken" nullToken ∷ hasWord "blobfile" blobfile ∷ [])
     ∷ hashAfter "kmhash" kmhash
     ∷ hashAfter "kthash" kthash
-    ∷ bytesOf 2 (ofBits (has "AllowSoftSlots" soft ∷ []))
+    ∷ bytesOf 2 (ofBits (hasWord "AllowSoftSlots" soft ∷ []))
     ∷ bytesOf 1 (numberAfter "needed" needed)
     ∷ bytesOf 1 (numberAfter "total" total)
     ∷ bytesOf 4 (numberAfter "seconds" seconds)
@@ -148,7 +148,7 @@ archiveFrom t =
     let u = afterHash "kahash" t in
     let v = afterNumber "mechanism" u in
     flatten
-    (headed 5 (has "kahash" t ∷ false ∷ false ∷ false ∷ false ∷ false ∷ has "blobfile" v ∷ [])
+    (headed 5 (hasWord "kahash" t ∷ false ∷ false ∷ false ∷ false ∷ false ∷ hasWord "blobfile" v ∷ [])
     ∷ hashAfter "kahash" t
     ∷ bytesOf 2 (numberAfter "mechanism" u)
     ∷ replicate 38 0
@@ -159,7 +159,7 @@ unfoldable pub fileFrom : Bytes → Bytes
 fileFrom t =
     let u = afterNumber "devices" t in
     flatten
-    (headed 15 (has "devices" t ∷ has "template" u ∷ [])
+    (headed 15 (hasWord "devices" t ∷ hasWord "template" u ∷ [])
     ∷ bytesOf 4 (numberAfter "devices" t)
     ∷ hashAfter "template" u
     ∷ replicate 36 0

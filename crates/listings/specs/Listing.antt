@@ -67,17 +67,17 @@ unfoldable pub listedBytes : Bytes → Bytes
 listedBytes text = flatten (map decoded (linesOf text))
 
 -- What reading a text gives: an ACL's bytes, or the number of the first bad line.
-pub data Reading : Type 0 where
-  acl : Bytes → Reading
-  badLine : ℕ → Reading
+pub data ListingReading : Type 0 where
+  acl : Bytes → ListingReading
+  badLine : ℕ → ListingReading
 
 -- .. by the first bad line
-abbrev pub readingOf : Bytes → Option ℕ → Reading
+abbrev pub readingOf : Bytes → Option ℕ → ListingReading
 readingOf bytes none = acl bytes
 readingOf bytes (some n) = badLine n
 
 -- a text as an ACL
-unfoldable pub readListing : Bytes → Reading
+unfoldable pub readListing : Bytes → ListingReading
 readListing text = readingOf (listedBytes text) (listingFault text)
 
 -- What the two entry points answer: "the reply is the result's length", a refusal's number, or "a new number 15 and the first such line's number".
@@ -115,7 +115,7 @@ unfoldable pub writeListing : Bytes → Bytes → Listed
 writeListing file buffer = delivered (listingOf file) buffer (writeFault file buffer)
 
 -- "A line that is not the written form of a record valid there gives a new number 15 and the first such line's number .. then a short buffer gives 9."
-abbrev pub deliveredAs : Bytes → Reading → Listed
+abbrev pub deliveredAs : Bytes → ListingReading → Listed
 deliveredAs buffer (acl bytes) = delivered bytes buffer (roomFault bytes buffer)
 deliveredAs buffer (badLine n) = record { reply = refusedAt notListing n; buffer = buffer }
 

@@ -37,12 +37,12 @@ abbrev pub bare : Bool → String → Word
 bare given name = record { given = given; name = name; value = [] }
 
 -- a word and a number
-abbrev pub numbered : Bool → String → ℕ → Word
-numbered given name n = record { given = given; name = name; value = space ∷ decimal n }
+abbrev pub withNumber : Bool → String → ℕ → Word
+withNumber given name n = record { given = given; name = name; value = space ∷ decimal n }
 
 -- a word and a hash
-abbrev pub hashed : Bool → String → Bytes → Word
-hashed given name h = record { given = given; name = name; value = space ∷ hex h }
+abbrev pub withHash : Bool → String → Bytes → Word
+withHash given name h = record { given = given; name = name; value = space ∷ hex h }
 
 -- a name with the space before it
 abbrev pub spaced : String → Bytes
@@ -59,15 +59,15 @@ wordsText (w ∷ ws) = wordText w ++ wordsText ws
 
 -- group [certifier HASH] [mechanism N]
 abbrev pub groupWords : Bytes → List Word
-groupWords r = hashed (flag 0 r) "certifier" (part 4 hashBytes r) ∷ numbered (flag 1 r) "mechanism" (number 24 2 r) ∷ []
+groupWords r = withHash (flag 0 r) "certifier" (part 4 hashBytes r) ∷ withNumber (flag 1 r) "mechanism" (number 24 2 r) ∷ []
 
 -- "byte 4 sort (1 uses per load, 2 named counter, 3 seconds since load)": what a maximum counts
-abbrev pub counted : ℕ → String
-counted sort = if eqb sort 3 then "seconds" else "uses"
+abbrev pub limitUnit : ℕ → String
+limitUnit sort = if eqb sort 3 then "seconds" else "uses"
 
 -- limit uses N; limit counter N uses N; limit seconds N
 abbrev pub limitWords : Bytes → List Word
-limitWords r = numbered (eqb (byte 4 r) 2) "counter" (byte 5 r) ∷ numbered true (counted (byte 4 r)) (number 8 4 r) ∷ []
+limitWords r = withNumber (eqb (byte 4 r) 2) "counter" (byte 5 r) ∷ withNumber true (limitUnit (byte 4 r)) (number 8 4 r) ∷ []
 
 -- document 01, "The permissions": their names, by bit
 abbrev pub permissionNames : List String
@@ -87,13 +87,13 @@ abbrev pub blobWords : Bytes → List Word
 blobWords r =
     bare (flag 0 r) "AllowKmOnly"
     ∷ bare (flag 1 r) "AllowNonKm0"
-    ∷ hashed (flag 2 r) "kmhash" (part 4 hashBytes r)
-    ∷ hashed (flag 3 r) "kthash" (part 24 hashBytes r)
+    ∷ withHash (flag 2 r) "kmhash" (part 4 hashBytes r)
+    ∷ withHash (flag 3 r) "kthash" (part 24 hashBytes r)
     ∷ bare (flag 4 r) "ktparams"
     ∷ bare (bit 0 (number 44 2 r)) "AllowSoftSlots"
-    ∷ numbered (flag 4 r) "needed" (byte 46 r)
-    ∷ numbered (flag 4 r) "total" (byte 47 r)
-    ∷ numbered (flag 4 r) "seconds" (number 48 4 r)
+    ∷ withNumber (flag 4 r) "needed" (byte 46 r)
+    ∷ withNumber (flag 4 r) "total" (byte 47 r)
+    ∷ withNumber (flag 4 r) "seconds" (number 48 4 r)
     ∷ bare (flag 5 r) "AllowNullKmToken"
     ∷ bare (flag 6 r) "blobfile"
     ∷ []
@@ -101,14 +101,14 @@ blobWords r =
 -- MakeArchiveBlob [kahash HASH] mechanism N [blobfile]
 abbrev pub archiveWords : Bytes → List Word
 archiveWords r =
-    hashed (flag 0 r) "kahash" (part 4 hashBytes r)
-    ∷ numbered true "mechanism" (number 24 2 r)
+    withHash (flag 0 r) "kahash" (part 4 hashBytes r)
+    ∷ withNumber true "mechanism" (number 24 2 r)
     ∷ bare (flag 6 r) "blobfile"
     ∷ []
 
 -- "The listing gains a line for kind 15.": blobfile [devices N] [template HASH]
 abbrev pub fileWords : Bytes → List Word
-fileWords r = numbered (flag 0 r) "devices" (number 4 4 r) ∷ hashed (flag 1 r) "template" (part 8 hashBytes r) ∷ []
+fileWords r = withNumber (flag 0 r) "devices" (number 4 4 r) ∷ withHash (flag 1 r) "template" (part 8 hashBytes r) ∷ []
 
 -- A record's line, by its kind. These are meant for the records of an ACL: a kind that is none of theirs is written as the last.
 unfoldable pub lineOf : Bytes → Bytes

@@ -49,7 +49,7 @@ fn kept_parameters(has: bool, new: &[u8], had: bool, old: &[u8]) -> bool
     if !has {
         return false;
     }
-    admitting::is_tighter(new, old)
+    gate_actions::is_tighter(new, old)
 }
 
 // An allowing flag may be dropped and never added.
@@ -200,7 +200,7 @@ fn actions_no_wider(new: &[u8], hints: &[u8], old: &[u8]) -> bool
         if hints.len() <= i {
             return false;
         }
-        let h = wide(hints[i]) as usize;
+        let h = widened(hints[i]) as usize;
         let place = action_at(old, low, from, h);
         if !hinted_no_wider(new, at, old, place) {
             return false;
@@ -311,7 +311,7 @@ pub fn shows_narrowing(old: &[u8], new: &[u8], hints: &[u8]) -> bool
             return false;
         }
         let hint = &hints[h..h + sizes::RECORD];
-        let source = wide(hint[4]);
+        let source = widened(hint[4]);
         if source < low {
             return false;
         }
@@ -333,7 +333,7 @@ pub fn shows_narrowing(old: &[u8], new: &[u8], hints: &[u8]) -> bool
 }
 
 // A byte as a wider number.
-fn wide(b: u8) -> u16
+fn widened(b: u8) -> u16
     ensures { λ r. ⌜ (r ≡ b) × (r < 256) ⌝ }
 {
     b as u16

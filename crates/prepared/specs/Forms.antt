@@ -5,7 +5,7 @@ use mathlib.Core.Option.{Option, none, some}
 use lib.Bits.{bitOr}
 use Rattle.rules.specs.Acl.{Action, permissions, makeBlob, makeArchive}
 use Rattle.rules.specs.Prepared as rules
-use Rattle.files.specs.Faults.{faultOf}
+use Rattle.files.specs.Faults.{faultAs}
 use Rattle.prepared.specs.declared.Prepared.{Prepared}
 use Rattle.prepared.specs.declared.Preparation.{Preparation}
 
@@ -20,7 +20,7 @@ pub record Answered : Type 0 where
 
 -- as the code gives it
 abbrev pub preparationAs : Preparation → Answered
-preparationAs p = record { fault = faultOf (p .fault); form = formAs (p .form) }
+preparationAs p = record { fault = faultAs (p .fault); form = formAs (p .form) }
 
 -- as the definitions do
 abbrev pub preparationFor : rules.Preparation → Answered

@@ -4,7 +4,7 @@ ghost use lib.ListN.{length};
 ghost use Rattle.rules.specs.Sizes.{recordBytes};
 ghost use Rattle.rules.specs.Basics.{records};
 ghost use Rattle.rules.specs.Request.{requestLaidOut, standsAlone, fileRequestRecord, useOf, certificateRecord, delegationRecord, presentedFault, requestFault, requestOf, hintRecord, hintsFault};
-ghost use Rattle.files.specs.Faults.{faultOf};
+ghost use Rattle.files.specs.Faults.{faultAs};
 ghost use Rattle.request.specs.Following.{followingFault};
 ghost use Rattle.request.specs.Parts.{Sound, Parted};
 use files::Checked;
@@ -70,7 +70,7 @@ fn delegation_record(rec: &[u8]) -> bool
 
 // The first fault of the certificates and delegations of a request.
 fn presented_records(rest: &[u8]) -> Checked
-    ensures { λ r. ⌜ faultOf r ≡ presentedFault (records (now (rest .entry))) ⌝ }
+    ensures { λ r. ⌜ faultAs r ≡ presentedFault (records (now (rest .entry))) ⌝ }
 {
     let mut certs = 0;
     let mut dels = 0;
@@ -102,7 +102,7 @@ fn presented_records(rest: &[u8]) -> Checked
 // The first fault of what follows a request record: kind 15 where it is announced, then certificates and delegations.
 fn following_records(rec: &[u8], rest: &[u8]) -> Checked
     requires { ⌜ length (now rec) ≡ recordBytes ⌝ }
-    ensures { λ r. ⌜ faultOf r ≡ followingFault (now (rec .entry)) (records (now (rest .entry))) ⌝ }
+    ensures { λ r. ⌜ faultAs r ≡ followingFault (now (rec .entry)) (records (now (rest .entry))) ⌝ }
 {
     if !fields::flag_of(6, rec) {
         return presented_records(rest);
@@ -118,7 +118,7 @@ fn following_records(rec: &[u8], rest: &[u8]) -> Checked
 
 // The first fault of a request file's records.
 pub fn request_records(req: &[u8]) -> Checked
-    ensures { λ r. ⌜ faultOf r ≡ requestFault requestLaidOut (records (now (req .entry))) ⌝ }
+    ensures { λ r. ⌜ faultAs r ≡ requestFault requestLaidOut (records (now (req .entry))) ⌝ }
 {
     if req.len() < sizes::RECORD {
         return Checked::Refused(Refusal::Malformed);
@@ -131,7 +131,7 @@ pub fn request_records(req: &[u8]) -> Checked
 
 // The first fault of the records of a request file that has to be a use of permission p.
 pub fn use_records(p: u8, req: &[u8]) -> Checked
-    ensures { λ r. ⌜ faultOf r ≡ requestFault (useOf p) (records (now (req .entry))) ⌝ }
+    ensures { λ r. ⌜ faultAs r ≡ requestFault (useOf p) (records (now (req .entry))) ⌝ }
 {
     if req.len() < sizes::RECORD {
         return Checked::Refused(Refusal::Malformed);
@@ -152,7 +152,7 @@ fn hint_record(rec: &[u8]) -> bool
 
 // The first fault of a hints file's records.
 pub fn hint_records(hints: &[u8]) -> Checked
-    ensures { λ r. ⌜ faultOf r ≡ hintsFault (records (now (hints .entry))) ⌝ }
+    ensures { λ r. ⌜ faultAs r ≡ hintsFault (records (now (hints .entry))) ⌝ }
 {
     let mut at = 0;
     while sizes::RECORD <= hints.len() - at {

@@ -17,9 +17,9 @@ use Rattle.rules.specs.Basics.{Bytes, all, Every, number, kind, orNext, 
 use Rattle.rules.specs.Acl.{announcesFile, aclOf, aclFault}
 use Rattle.rules.specs.Request.{Certificate, certificatesOf, delegationsOf, blobFileNext, requestFrom, requestLaidOut, standsAlone, requestRecordFault, certificateFault, presentedRecordFault, afterPresented, presentedEnd, presentedFault, fileRequestRecord, fileNext, requestFault}
 use Rattle.rules.specs.Ledger.{Ledger}
-use Rattle.rules.specs.Gate.{Answer, done, permit, refuse, Outcome, judge, permitted, unlessFault, settle, request}
+use Rattle.rules.specs.Gate.{Answer, done, permit, refuse, Outcome, judge, permitted, outcomeUnless, settle, request}
 use Rattle.rules.specs.Written.{bigEndian, certificateBytes}
-use Rattle.rules.specs.Runs.{withRow, requestWith, askGate, answerOf, asked, requestsIn, runLengthsFit, mechanismNamed, runFault}
+use Rattle.rules.specs.Runs.{withRow, requestWith, askGate, bytesOfAnswer, askedInOrder, requestsIn, runLengthsFit, mechanismNamed, runFault}
 use Rattle.rules.proofs.Laws.{and-left, and-right, unless-passed, fault-none-every}
 use Rattle.rules.proofs.Joined.{Whole, joined-records, joined-fits}
 use Rattle.rules.proofs.Written.{certificate-whole, certificate-read, certificate-laid-out}
@@ -98,7 +98,7 @@ pub record Sound (km0 acl : Bytes) (row : List Certificate) : Type 0 where
 
 -- One request of such a run, asked of the gate: its record's own fault, or else the judgement of what it asks with the row's certificates.
 pub ask-gate : (km0 acl : Bytes) (row : List Certificate) → Sound km0 acl row → (l : Ledger) (r : Bytes) → length r ≡ recordBytes
-    → askGate km0 acl row l r ≡ unlessFault l (requestRecordFault r) (settle l (number 56 8 r) permitted (judge l km0 (aclOf acl) (requestWith r row)))
+    → askGate km0 acl row l r ≡ outcomeUnless l (requestRecordFault r) (settle l (number 56 8 r) permitted (judge l km0 (aclOf acl) (requestWith r row)))
 unfolding request firstFault
 ask-gate km0 acl row s l r n =
     let rs = file-records r row n (s .decoded) in
@@ -107,8 +107,8 @@ ask-gate km0 acl row s l r n =
     rw (rs, s .km0Length, s .aclLength, a, s .aclSound, f) (pick (requestRecordFault r) refl)
   where
     pick : (o : Option ℕ) → requestRecordFault r ≡ o
-        → unlessFault l (orNext (requestRecordFault r) none) (settle l (requestFrom (r ∷ map certificateBytes row) .time) permitted (judge l km0 (aclOf acl) (requestFrom (r ∷ map certificateBytes row))))
-        ≡ unlessFault l (requestRecordFault r) (settle l (number 56 8 r) permitted (judge l km0 (aclOf acl) (requestWith r row)))
+        → outcomeUnless l (orNext (requestRecordFault r) none) (settle l (requestFrom (r ∷ map certificateBytes row) .time) permitted (judge l km0 (aclOf acl) (requestFrom (r ∷ map certificateBytes row))))
+        ≡ outcomeUnless l (requestRecordFault r) (settle l (number 56 8 r) permitted (judge l km0 (aclOf acl) (requestWith r row)))
     pick (some f) e = rw e
     pick none e = rw (e, row-request r row (s .decoded))
 
@@ -133,25 +133,25 @@ run-sound most km0 acl row requests buffer d e =
 
 -- two ways to ask that agree on records of 64 bytes have the same answers and ledger
 pub asked-alike : (ask tell : Ledger → Bytes → Outcome) (l : Ledger) (rs : List Bytes) → Every (λ r. length r ≡ recordBytes) rs
-    → ((l : Ledger) (r : Bytes) → length r ≡ recordBytes → ask l r ≡ tell l r) → asked ask l rs ≡ asked tell l rs
-unfolding asked
+    → ((l : Ledger) (r : Bytes) → length r ≡ recordBytes → ask l r ≡ tell l r) → askedInOrder ask l rs ≡ askedInOrder tell l rs
+unfolding askedInOrder
 asked-alike ask tell l [] n f = refl
 asked-alike ask tell l (r ∷ rs) n f = rw (f l r (n .0), asked-alike ask tell (tell l r .ledger) rs (n .1) f)
 
 -- each answer has eight bytes
-answer-length : (a : Answer) → length (answerOf a) ≡ answerBytes
-unfolding answerOf bigEndian
+answer-length : (a : Answer) → length (bytesOfAnswer a) ≡ answerBytes
+unfolding bytesOfAnswer bigEndian
 answer-length done = refl
 answer-length (permit place) = refl
 answer-length (refuse f near) = refl
 
-pub answers-length : (ask : Ledger → Bytes → Outcome) (l : Ledger) (rs : List Bytes) → length (asked ask l rs .answers) ≡ length rs * answerBytes
-unfolding asked
+pub answers-length : (ask : Ledger → Bytes → Outcome) (l : Ledger) (rs : List Bytes) → length (askedInOrder ask l rs .answers) ≡ length rs * answerBytes
+unfolding askedInOrder
 answers-length ask l [] = refl
 answers-length ask l (r ∷ rs) =
     let i = answers-length ask (ask l r .ledger) rs in
     let n = answer-length (ask l r .answer) in
-    omega (arith, length-append (answerOf (ask l r .answer)) (asked ask (ask l r .ledger) rs .answers))
+    omega (arith, length-append (bytesOfAnswer (ask l r .answer)) (askedInOrder ask (ask l r .ledger) rs .answers))
 
 -- A run as a loop does it: the answer buffer as it stands, the place of the next answer, and the records that are left.
 pub record Running : Type 0 where
@@ -164,7 +164,7 @@ overAt at new old = take at old ++ (new ++ drop (at + length new) old)
 
 unfoldable pub writing : (Ledger → Bytes → Outcome) → Ledger → Bytes → ℕ → List Bytes → Running
 writing ask l buffer at [] = record { ledger = l; buffer = buffer }
-writing ask l buffer at (r ∷ rs) = writing ask (ask l r .ledger) (overAt at (answerOf (ask l r .answer)) buffer) (at + answerBytes) rs
+writing ask l buffer at (r ∷ rs) = writing ask (ask l r .ledger) (overAt at (bytesOfAnswer (ask l r .answer)) buffer) (at + answerBytes) rs
 
 over-none : (at : ℕ) (old : Bytes) → overAt at [] old ≡ old
 unfolding overAt
@@ -194,15 +194,15 @@ length-over at new old h =
 
 -- The loop comes to what asking one by one comes to: so a loop's invariant is that what is left has the whole's answer.
 pub writing-is : (ask : Ledger → Bytes → Outcome) (l : Ledger) (buffer : Bytes) (at : ℕ) (rs : List Bytes) → at + length rs * answerBytes ≤ length buffer
-    → writing ask l buffer at rs ≡ record { ledger = asked ask l rs .ledger; buffer = overAt at (asked ask l rs .answers) buffer }
-unfolding writing asked
+    → writing ask l buffer at rs ≡ record { ledger = askedInOrder ask l rs .ledger; buffer = overAt at (askedInOrder ask l rs .answers) buffer }
+unfolding writing askedInOrder
 writing-is ask l buffer at [] h = rw over-none
 writing-is ask l buffer at (r ∷ rs) h =
     let o = ask l r in
-    let a = answerOf (o .answer) in
+    let a = bytesOfAnswer (o .answer) in
     let n : length a ≡ answerBytes = answer-length (o .answer) in
     let k = answers-length ask (o .ledger) rs in
     let m : at + answerBytes ≡ at + length a = omega arith in
     let sized : length (overAt at a buffer) ≡ length buffer = length-over at a buffer (omega arith) in
     let i = writing-is ask (o .ledger) (overAt at a buffer) (at + answerBytes) rs (omega arith) in
-    i ∙ rw m (ap (λ (b : Bytes). record { ledger = asked ask (o .ledger) rs .ledger; buffer = b }) (over-over at a (asked ask (o .ledger) rs .answers) buffer (omega arith)))
+    i ∙ rw m (ap (λ (b : Bytes). record { ledger = askedInOrder ask (o .ledger) rs .ledger; buffer = b }) (over-over at a (askedInOrder ask (o .ledger) rs .answers) buffer (omega arith)))

@@ -18,7 +18,7 @@ use Rattle.rules.specs.Acl.{Group}
 use Rattle.rules.specs.Request.{Request}
 use Rattle.rules.specs.Ledger.{Ledger}
 use Rattle.rules.specs.Grant.{groupAdmits, certified, unspent}
-use Rattle.rules.specs.Gate.{Lowest, nobody, group, lowest, ofCertified, Judgement, judgedBy, admitsCertified, whyNot, grants}
+use Rattle.rules.specs.Gate.{Lowest, notFound, group, lowest, ofCertified, Judgement, judgedBy, admitsCertified, whyNot, grants}
 use Rattle.rules.proofs.Sets.{set-rest}
 
 -- The lowest bit of a number, and the others.
@@ -159,7 +159,7 @@ first-any (suc w) n = pick (two n) (first-any w (n / 2))
 
 -- the group at a place, if there is one
 abbrev pub placedAt : ℕ → Option Group → Lowest
-placedAt place none = nobody
+placedAt place none = notFound
 placedAt place (some g) = group place g
 
 abbrev pub placed : List Group → ℕ → Lowest
@@ -265,7 +265,7 @@ placed-there [] k h = absurd (omega arith)
 placed-there (g ∷ gs) zero h = (g, refl, refl)
 placed-there (g ∷ gs) (suc k) h = let r = placed-there gs k (omega arith) in (r .0, r .1, rw (r .1))
 
-pub placed-past : (gs : List Group) (k : ℕ) → length gs ≤ k → placed gs k ≡ nobody
+pub placed-past : (gs : List Group) (k : ℕ) → length gs ≤ k → placed gs k ≡ notFound
 placed-past gs k h = rw (past gs k h)
   where
     past : (gs : List Group) (k : ℕ) → length gs ≤ k → getElem? gs k ≡ none

@@ -12,9 +12,9 @@ use Rattle.rules.specs.Acl.{Action, permissions, makeBlob, makeArchive, 
 use Rattle.rules.specs.Request.{Wanted, operation, workingBlob, recoveryBlob, Certificate, Request, timeOf, requestRecordFault}
 use Rattle.rules.specs.Ledger.{Ledger}
 use Rattle.rules.specs.Grant.{admitsUse, admitsWorking, admitsRecovery, certified, unspent}
-use Rattle.rules.specs.Gate.{Outcome, lowest, Denial, early, ofCertified, Judgement, denied, tooEarly, judgedBy, permitted, unlessFault, settle}
+use Rattle.rules.specs.Gate.{Outcome, lowest, Denial, early, ofCertified, Judgement, denied, tooEarly, judgedBy, permitted, outcomeUnless, settle}
 use Rattle.rules.specs.Desk.{isArchive}
-use Rattle.rules.specs.Runs.{requestWith, runFault, RunOutcome, runEnd, asked}
+use Rattle.rules.specs.Runs.{requestWith, runFault, RunOutcome, runEnd, askedInOrder}
 
 -- "an action for it": a MakeBlob action, for working blobs
 abbrev pub isBlobAction : Action → Bool
@@ -52,13 +52,13 @@ pub data Preparation : Type 0 where
   unprepared : ℕ → Preparation
 
 -- the form of an ACL without fault
-abbrev pub unlessBadAcl : Option ℕ → Form → Preparation
-unlessBadAcl none f = prepared f
-unlessBadAcl (some n) f = unprepared n
+abbrev pub preparationUnless : Option ℕ → Form → Preparation
+preparationUnless none f = prepared f
+preparationUnless (some n) f = unprepared n
 
 -- "Build a prepared form made once per ACL"
 unfoldable pub prepare : Bytes → Preparation
-prepare acl = unlessBadAcl (aclFileFault acl) (formOf (aclOf acl))
+prepare acl = preparationUnless (aclFileFault acl) (formOf (aclOf acl))
 
 -- the set of a form for what is asked
 abbrev pub setFor : Form → Wanted → ℕ
@@ -97,7 +97,7 @@ formJudge f l km0 gs q =
 -- one request of a run, by the form
 unfoldable pub askForm : Form → Bytes → List Group → List Certificate → Ledger → Bytes → Outcome
 askForm f km0 gs row l r =
-    unlessFault l (requestRecordFault r)
+    outcomeUnless l (requestRecordFault r)
     (settle l (timeOf r) permitted (formJudge f l km0 gs (requestWith r row)))
 
 -- two forms are the same
@@ -116,4 +116,4 @@ preparedFault km0 acl row f requests buffer =
 unfoldable pub preparedRun : Ledger → Bytes → Bytes → List Certificate → Form → Bytes → Bytes → RunOutcome
 preparedRun l km0 acl row f requests buffer =
     runEnd l requests buffer (preparedFault km0 acl row f requests buffer)
-    (asked (askForm f km0 (aclOf acl) row) l (records requests))
+    (askedInOrder (askForm f km0 (aclOf acl) row) l (records requests))

@@ -38,10 +38,10 @@ groupOr none = noGroup
 groupOr (some place) = place
 
 -- the answer's bytes; 6 and 7 name their group; no request is answered with `done`
-unfoldable pub answerOf : Answer → Bytes
-answerOf done = answerWith 0 noGroup
-answerOf (permit place) = answerWith 0 place
-answerOf (refuse f near) = answerWith f (groupOr near)
+unfoldable pub bytesOfAnswer : Answer → Bytes
+bytesOfAnswer done = answerWith 0 noGroup
+bytesOfAnswer (permit place) = answerWith 0 place
+bytesOfAnswer (refuse f near) = answerWith f (groupOr near)
 
 -- What is handed back of requests: the answers, one after the other, and the ledger.
 pub record Ran : Type 0 where
@@ -50,13 +50,13 @@ pub record Ran : Type 0 where
 
 -- an answer before those that follow
 abbrev pub answeredFirst : Answer → Ran → Ran
-answeredFirst a rest = record { answers = answerOf a ++ rest .answers; ledger = rest .ledger }
+answeredFirst a rest = record { answers = bytesOfAnswer a ++ rest .answers; ledger = rest .ledger }
 
 -- "asking one by one in order": each request on the ledger that the one before it hands back; "a refusal in the middle changes nothing and the run
 -- goes on"
-unfoldable pub asked : (Ledger → Bytes → Outcome) → Ledger → List Bytes → Ran
-asked ask l [] = record { answers = []; ledger = l }
-asked ask l (r ∷ rs) = answeredFirst (ask l r .answer) (asked ask (ask l r .ledger) rs)
+unfoldable pub askedInOrder : (Ledger → Bytes → Outcome) → Ledger → List Bytes → Ran
+askedInOrder ask l [] = record { answers = []; ledger = l }
+askedInOrder ask l (r ∷ rs) = answeredFirst (ask l r .answer) (askedInOrder ask (ask l r .ledger) rs)
 
 -- the number of requests of a run
 abbrev pub requestsIn : Bytes → ℕ
@@ -102,4 +102,4 @@ runEnd l requests buffer (some f) o = record { reply = refusedWhole f; ledger = 
 -- A run: ledger, KM0, ACL, row of certificates, request records, answer buffer.
 unfoldable pub run : Ledger → Bytes → Bytes → List Certificate → Bytes → Bytes → RunOutcome
 run l km0 acl row requests buffer =
-    runEnd l requests buffer (runFault runRecords km0 acl row requests buffer) (asked (askGate km0 acl row) l (records requests))
+    runEnd l requests buffer (runFault runRecords km0 acl row requests buffer) (askedInOrder (askGate km0 acl row) l (records requests))

@@ -114,14 +114,14 @@ trimFault bundle acl aclBuffer hintBuffer =
     ∷ [])
 
 -- "otherwise the reply is both lengths"
-abbrev pub unlessUntrimmed : Option TrimReply → TrimReply → TrimReply
-unlessUntrimmed none reply = reply
-unlessUntrimmed (some f) reply = f
+abbrev pub trimReplyUnless : Option TrimReply → TrimReply → TrimReply
+trimReplyUnless none reply = reply
+trimReplyUnless (some f) reply = f
 
 -- what the tool replies
 unfoldable pub trimReply : Bytes → Bytes → Bytes → Bytes → TrimReply
 trimReply bundle acl aclBuffer hintBuffer =
-    unlessUntrimmed (trimFault bundle acl aclBuffer hintBuffer)
+    trimReplyUnless (trimFault bundle acl aclBuffer hintBuffer)
     (trimmed (length (trimmedAcl (records bundle) acl)) (length (trimHints (records bundle) acl)))
 
 -- the buffer lent for the ACL, after it: "on any of these both stay untouched, otherwise .. bytes past the results stay"

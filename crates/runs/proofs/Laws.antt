@@ -14,14 +14,14 @@ use Rattle.rules.specs.Numbers.{badLength, shortBuffer, otherForm}
 use Rattle.rules.specs.Basics.{Bytes, unless, orNext, firstFault, records, fits}
 use Rattle.rules.specs.Acl.{aclOf}
 use Rattle.rules.specs.Ledger.{Ledger}
-use Rattle.rules.specs.Runs.{requestsIn, runLengthsFit, RunOutcome, ran, runEnd, asked}
+use Rattle.rules.specs.Runs.{requestsIn, runLengthsFit, RunOutcome, ran, runEnd, askedInOrder}
 use Rattle.rules.specs.Prepared.{Form, formOf, sameForm}
 use Rattle.rules.proofs.Laws.{and-left, and-right, unless-passed, fault-none-every, chunks-length}
 use Rattle.rules.proofs.Asking.{Running, overAt, writing, writing-is}
 use Rattle.theorems.proofs.AclSizes.{acl-fits}
 use Rattle.theorems.proofs.Prepared.{same-form}
 use Rattle.prepared.specs.Places.{Inside, Bodies}
-use Rattle.judging.specs.Standings.{tablesOf}
+use Rattle.judging.specs.Standings.{ledgerOfTables}
 use Rattle.choosing.specs.Deciding.{Ready, askSets}
 use Rattle.row.specs.declared.Seen.{Seen}
 use Rattle.runs.specs.Judged.{runRefused, seenFault, Known, askedBySets, runSeen, preparedSeen}
@@ -115,19 +115,19 @@ module _ (acl : Bytes) (form : Form) (requests : Bytes) (room : ℕ) (known : Kn
 -- what they come to
 pub ran-is : (km0 acl : Bytes) (form : Form) (requests buffer after : Bytes) (counts counters counts′ counters′ : List ℕ) (loaded before last c d n : ℕ)
     → Known acl form requests (length buffer) → d ≡ c
-    → _≡_ {A = Running} (record { ledger = tablesOf counts′ counters′ loaded last; buffer = after }) (writing (askSets km0 (aclOf acl) d) (tablesOf counts counters loaded before) buffer 0 (records requests))
+    → _≡_ {A = Running} (record { ledger = ledgerOfTables counts′ counters′ loaded last; buffer = after }) (writing (askSets km0 (aclOf acl) d) (ledgerOfTables counts counters loaded before) buffer 0 (records requests))
     → n ≡ length requests / 64
-    → _≡_ {A = RunOutcome} (record { reply = ran n; ledger = tablesOf counts′ counters′ loaded last; buffer = after })
-    (runEnd (tablesOf counts counters loaded before) requests buffer none (asked (askSets km0 (aclOf acl) c) (tablesOf counts counters loaded before) (records requests)))
+    → _≡_ {A = RunOutcome} (record { reply = ran n; ledger = ledgerOfTables counts′ counters′ loaded last; buffer = after })
+    (runEnd (ledgerOfTables counts counters loaded before) requests buffer none (askedInOrder (askSets km0 (aclOf acl) c) (ledgerOfTables counts counters loaded before) (records requests)))
 unfolding overAt
 ran-is km0 acl form requests buffer after counts counters counts′ counters′ loaded before last c d n known same w e =
     let ask = askSets km0 (aclOf acl) c in
-    let l = tablesOf counts counters loaded before in
-    let o = asked ask l (records requests) in
+    let l = ledgerOfTables counts counters loaded before in
+    let o = askedInOrder ask l (records requests) in
     let i = requests-in requests in
     let h = known .roomy in
-    let x : _≡_ {A = Running} (record { ledger = tablesOf counts′ counters′ loaded last; buffer = after }) (record { ledger = o .ledger; buffer = overAt 0 (o .answers) buffer }) = w ∙ ap (λ (m : ℕ). writing (askSets km0 (aclOf acl) m) l buffer 0 (records requests)) same ∙ writing-is ask l buffer 0 (records requests) (omega arith) in
-    let y : tablesOf counts′ counters′ loaded last ≡ o .ledger = ap (λ (z : Running). z .ledger) x in
+    let x : _≡_ {A = Running} (record { ledger = ledgerOfTables counts′ counters′ loaded last; buffer = after }) (record { ledger = o .ledger; buffer = overAt 0 (o .answers) buffer }) = w ∙ ap (λ (m : ℕ). writing (askSets km0 (aclOf acl) m) l buffer 0 (records requests)) same ∙ writing-is ask l buffer 0 (records requests) (omega arith) in
+    let y : ledgerOfTables counts′ counters′ loaded last ≡ o .ledger = ap (λ (z : Running). z .ledger) x in
     let z : after ≡ (o .answers ++ drop (0 + length (o .answers)) buffer) = ap (λ (z : Running). z .buffer) x in
     let u : after ≡ (o .answers ++ drop (length (o .answers)) buffer) = z ∙ rw zero-add in
     rw (y, u, e ∙ sym i)

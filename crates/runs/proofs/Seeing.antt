@@ -16,7 +16,7 @@ use Rattle.rules.specs.Chain.{serves, anyIn, chained, delegated, vouched}
 use Rattle.rules.specs.Ledger.{Ledger}
 use Rattle.rules.specs.Grant.{certified, certifiedBy}
 use Rattle.rules.specs.Gate.{judge}
-use Rattle.rules.specs.Runs.{requestWith, askGate, asked, runFault, runEnd, run}
+use Rattle.rules.specs.Runs.{requestWith, askGate, askedInOrder, runFault, runEnd, run}
 use Rattle.rules.specs.Prepared.{Form, preparedFault, preparedRun}
 use Rattle.rules.proofs.Laws.{fault-none-every}
 use Rattle.rules.proofs.Rows.{records-sized}
@@ -76,7 +76,7 @@ unfolding runSeen run
 run-seen l km0 acl row s requests buffer w = rw (seen-fault runRecords km0 acl row s requests buffer w) (pick (runFault runRecords km0 acl row requests buffer) refl)
   where
     pick : (o : Option ℕ) → runFault runRecords km0 acl row requests buffer ≡ o
-        → runEnd l requests buffer o (asked (askSets km0 (aclOf acl) (s .certified)) l (records requests)) ≡ runEnd l requests buffer o (asked (askGate km0 acl row) l (records requests))
+        → runEnd l requests buffer o (askedInOrder (askSets km0 (aclOf acl) (s .certified)) l (records requests)) ≡ runEnd l requests buffer o (askedInOrder (askGate km0 acl row) l (records requests))
     pick (some f) e = refl
     pick none e = let sound = run-sound runRecords km0 acl row requests buffer (w .decoded) e .0 in rw (asked-alike (askSets km0 (aclOf acl) (s .certified)) (askGate km0 acl row) l (records requests) (records-sized requests) (ask-sets km0 acl row s w sound))
 
@@ -88,7 +88,7 @@ prepared-seen l km0 acl row s f requests buffer w =
     rw (seen-fault preparedRecords km0 acl row s requests buffer w) (pick (preparedFault km0 acl row f requests buffer) refl) ∙ sym (prepared-run l km0 acl row f requests buffer (w .decoded))
   where
     pick : (o : Option ℕ) → preparedFault km0 acl row f requests buffer ≡ o
-        → runEnd l requests buffer o (asked (askSets km0 (aclOf acl) (s .certified)) l (records requests)) ≡ runEnd l requests buffer o (asked (askGate km0 acl row) l (records requests))
+        → runEnd l requests buffer o (askedInOrder (askSets km0 (aclOf acl) (s .certified)) l (records requests)) ≡ runEnd l requests buffer o (askedInOrder (askGate km0 acl row) l (records requests))
     pick (some n) e = refl
     pick none e =
         let sound = run-sound preparedRecords km0 acl row requests buffer (w .decoded) (fault-none-every _ e .0) .0 in

@@ -15,7 +15,7 @@ use Rattle.rules.specs.Ledger.{Ledger}
 use Rattle.rules.specs.Runs as rules
 use Rattle.rules.specs.Prepared.{Form, formOf, sameForm}
 use Rattle.refusals.specs.Refusals.{refusalNumber}
-use Rattle.gate.specs.Outcomes.{ledgerOf}
+use Rattle.gate.specs.Outcomes.{ledgerAs}
 use Rattle.choosing.specs.Deciding.{askSets}
 use Rattle.row.specs.declared.Seen.{Seen}
 use Rattle.runs.specs.declared.RunReply.{RunReply}
@@ -23,13 +23,13 @@ use Rattle.runs.specs.declared.RunReply.the-variants.{Ran, Refused}
 use Rattle.runs.specs.declared.RunOutcome.{RunOutcome}
 
 -- the reply
-abbrev pub replyAs : RunReply → rules.RunReply
-replyAs (Ran n) = rules.ran n
-replyAs (Refused r) = rules.refusedWhole (refusalNumber r)
+abbrev pub runReplyAs : RunReply → rules.RunReply
+runReplyAs (Ran n) = rules.ran n
+runReplyAs (Refused r) = rules.refusedWhole (refusalNumber r)
 
 -- what a run comes to, with the buffer afterwards
-abbrev pub runAs : RunOutcome → Bytes → rules.RunOutcome
-runAs o buffer = record { reply = replyAs (o .reply); ledger = ledgerOf (o .ledger); buffer = buffer }
+abbrev pub runOutcomeAs : RunOutcome → Bytes → rules.RunOutcome
+runOutcomeAs o buffer = record { reply = runReplyAs (o .reply); ledger = ledgerAs (o .ledger); buffer = buffer }
 
 -- a refusal of a run as a whole: ledger and buffer as they were
 abbrev pub runRefused : Ledger → ℕ → Bytes → rules.RunOutcome
@@ -48,7 +48,7 @@ seenFault most km0 acl count named requests room =
 
 -- its requests, one after the other
 abbrev pub askedBySets : Bytes → Bytes → Seen → Ledger → Bytes → rules.Ran
-askedBySets km0 acl seen l requests = rules.asked (askSets km0 (aclOf acl) (seen .certified)) l (records requests)
+askedBySets km0 acl seen l requests = rules.askedInOrder (askSets km0 (aclOf acl) (seen .certified)) l (records requests)
 
 -- a run
 unfoldable pub runSeen : Ledger → Bytes → Bytes → Seen → Bytes → Bytes → rules.RunOutcome

@@ -9,15 +9,15 @@ ghost use Rattle.rules.specs.Sizes.{answerBytes, runRecords, preparedRecords};
 ghost use Rattle.rules.specs.Numbers.{shortBuffer};
 ghost use Rattle.rules.specs.Basics.{Bytes, unless, records};
 ghost use Rattle.rules.specs.Acl.{aclOf};
-ghost use Rattle.rules.specs.Runs.{requestsIn, runLengthsFit, runEnd, asked, run};
+ghost use Rattle.rules.specs.Runs.{requestsIn, runLengthsFit, runEnd, askedInOrder, run};
 ghost use Rattle.rules.specs.Prepared.{preparedRun};
 ghost use Rattle.refusals.specs.Refusals.{refusalNumber};
-ghost use Rattle.files.specs.Faults.{faultOf};
-ghost use Rattle.gate.specs.Outcomes.{ledgerOf};
+ghost use Rattle.files.specs.Faults.{faultAs};
+ghost use Rattle.gate.specs.Outcomes.{ledgerAs};
 ghost use Rattle.prepared.specs.Forms.{formAs};
 ghost use Rattle.choosing.specs.Deciding.{askSets};
 ghost use Rattle.row.specs.Rows.{rowAs};
-ghost use Rattle.runs.specs.Judged.{runAs, runRefused, seenFault, Known, runSeen, preparedSeen};
+ghost use Rattle.runs.specs.Judged.{runOutcomeAs, runRefused, seenFault, Known, runSeen, preparedSeen};
 use choosing::Sets;
 use files::Checked;
 use gate::Ledger;
@@ -60,7 +60,7 @@ fn run_known(
     answers: &mut [u8],
 ) -> RunOutcome
     requires { ⌜ Known (now acl) (formAs form) (now requests) (length (now answers)) ⌝ }
-    ensures { λ r. ⌜ runAs r (now (answers .exit)) ≡ runEnd (ledgerOf ledger) (now (requests .entry)) (now (answers .entry)) none (asked (askSets (now (km0 .entry)) (aclOf (now (acl .entry))) certified) (ledgerOf ledger) (records (now (requests .entry)))) ⌝ }
+    ensures { λ r. ⌜ runOutcomeAs r (now (answers .exit)) ≡ runEnd (ledgerAs ledger) (now (requests .entry)) (now (answers .entry)) none (askedInOrder (askSets (now (km0 .entry)) (aclOf (now (acl .entry))) certified) (ledgerAs ledger) (records (now (requests .entry)))) ⌝ }
 {
     let mut bodies = [0usize; sizes::GROUPS];
     prepared::fill_bodies(&mut bodies, acl);
@@ -100,7 +100,7 @@ fn lengths_fit(most: usize, km0: &[u8], acl: &[u8], requests: &[u8]) -> bool
 
 // Whether the answers have room.
 fn answers_fit(requests: &[u8], room: usize) -> Checked
-    ensures { λ r. ⌜ faultOf r ≡ unless (leb (requestsIn (now (requests .entry)) * answerBytes) room) shortBuffer ⌝ }
+    ensures { λ r. ⌜ faultAs r ≡ unless (leb (requestsIn (now (requests .entry)) * answerBytes) room) shortBuffer ⌝ }
 {
     if requests.len() / sizes::RECORD * sizes::ANSWER <= room {
         return Checked::Sound;
@@ -119,7 +119,7 @@ fn seen_fault(
     room: usize,
 ) -> Checked
     requires { ⌜ most ≤ preparedRecords ⌝ }
-    ensures { λ r. ⌜ faultOf r ≡ seenFault most (now (km0 .entry)) (now (acl .entry)) count named (now (requests .entry)) room ⌝ }
+    ensures { λ r. ⌜ faultAs r ≡ seenFault most (now (km0 .entry)) (now (acl .entry)) count named (now (requests .entry)) room ⌝ }
 {
     if !lengths_fit(most, km0, acl, requests) {
         return Checked::Refused(Refusal::BadLength);
@@ -135,7 +135,7 @@ fn seen_fault(
 
 // A refusal of a run as a whole: the ledger stands.
 fn refused(ledger: Ledger, why: Refusal) -> RunOutcome
-    ensures { λ r. ⌜ ((buffer : Bytes) → runAs r buffer ≡ runRefused (ledgerOf ledger) (refusalNumber why) buffer) ⌝ }
+    ensures { λ r. ⌜ ((buffer : Bytes) → runOutcomeAs r buffer ≡ runRefused (ledgerAs ledger) (refusalNumber why) buffer) ⌝ }
 {
     RunOutcome {
         ledger,
@@ -153,7 +153,7 @@ fn run_made(
     answers: &mut [u8],
 ) -> RunOutcome
     requires { ⌜ seenFault runRecords (now km0) (now acl) (seen .count) (seen .named) (now requests) (length (now answers)) ≡ none ⌝ }
-    ensures { λ r. ⌜ runAs r (now (answers .exit)) ≡ runSeen (ledgerOf ledger) (now (km0 .entry)) (now (acl .entry)) seen (now (requests .entry)) (now (answers .entry)) ⌝ }
+    ensures { λ r. ⌜ runOutcomeAs r (now (answers .exit)) ≡ runSeen (ledgerAs ledger) (now (km0 .entry)) (now (acl .entry)) seen (now (requests .entry)) (now (answers .entry)) ⌝ }
 {
     let form = prepared::form_of(acl);
     run_known(ledger, km0, acl, seen.certified, form, requests, answers)
@@ -170,7 +170,7 @@ fn run_passed(
     answers: &mut [u8],
 ) -> RunOutcome
     requires { ⌜ seenFault preparedRecords (now km0) (now acl) (seen .count) (seen .named) (now requests) (length (now answers)) ≡ none ⌝ }
-    ensures { λ r. ⌜ runAs r (now (answers .exit)) ≡ preparedSeen (ledgerOf ledger) (now (km0 .entry)) (now (acl .entry)) seen (formAs form) (now (requests .entry)) (now (answers .entry)) ⌝ }
+    ensures { λ r. ⌜ runOutcomeAs r (now (answers .exit)) ≡ preparedSeen (ledgerAs ledger) (now (km0 .entry)) (now (acl .entry)) seen (formAs form) (now (requests .entry)) (now (answers .entry)) ⌝ }
 {
     if !prepared::same_form(form, prepared::form_of(acl)) {
         return refused(ledger, Refusal::OtherForm);
@@ -187,7 +187,7 @@ pub fn run_judged(
     requests: &[u8],
     answers: &mut [u8],
 ) -> RunOutcome
-    ensures { λ r. ⌜ runAs r (now (answers .exit)) ≡ runSeen (ledgerOf ledger) (now (km0 .entry)) (now (acl .entry)) seen (now (requests .entry)) (now (answers .entry)) ⌝ }
+    ensures { λ r. ⌜ runOutcomeAs r (now (answers .exit)) ≡ runSeen (ledgerAs ledger) (now (km0 .entry)) (now (acl .entry)) seen (now (requests .entry)) (now (answers .entry)) ⌝ }
 {
     let fault = seen_fault(
         sizes::RUN_RECORDS,
@@ -214,7 +214,7 @@ pub fn prepared_judged(
     requests: &[u8],
     answers: &mut [u8],
 ) -> RunOutcome
-    ensures { λ r. ⌜ runAs r (now (answers .exit)) ≡ preparedSeen (ledgerOf ledger) (now (km0 .entry)) (now (acl .entry)) seen (formAs form) (now (requests .entry)) (now (answers .entry)) ⌝ }
+    ensures { λ r. ⌜ runOutcomeAs r (now (answers .exit)) ≡ preparedSeen (ledgerAs ledger) (now (km0 .entry)) (now (acl .entry)) seen (formAs form) (now (requests .entry)) (now (answers .entry)) ⌝ }
 {
     let fault = seen_fault(
         sizes::PREPARED_RECORDS,
@@ -241,7 +241,7 @@ pub fn run(
     requests: &[u8],
     answers: &mut [u8],
 ) -> RunOutcome
-    ensures { λ r. ⌜ runAs r (now (answers .exit)) ≡ run (ledgerOf ledger) (now (km0 .entry)) (now (acl .entry)) (rowAs (now (row .entry))) (now (requests .entry)) (now (answers .entry)) ⌝ }
+    ensures { λ r. ⌜ runOutcomeAs r (now (answers .exit)) ≡ run (ledgerAs ledger) (now (km0 .entry)) (now (acl .entry)) (rowAs (now (row .entry))) (now (requests .entry)) (now (answers .entry)) ⌝ }
 {
     run_judged(ledger, km0, acl, row::read_row(acl, row), requests, answers)
 }
@@ -256,7 +256,7 @@ pub fn prepared_run(
     requests: &[u8],
     answers: &mut [u8],
 ) -> RunOutcome
-    ensures { λ r. ⌜ runAs r (now (answers .exit)) ≡ preparedRun (ledgerOf ledger) (now (km0 .entry)) (now (acl .entry)) (rowAs (now (row .entry))) (formAs form) (now (requests .entry)) (now (answers .entry)) ⌝ }
+    ensures { λ r. ⌜ runOutcomeAs r (now (answers .exit)) ≡ preparedRun (ledgerAs ledger) (now (km0 .entry)) (now (acl .entry)) (rowAs (now (row .entry))) (formAs form) (now (requests .entry)) (now (answers .entry)) ⌝ }
 {
     prepared_judged(
         ledger,

@@ -3,14 +3,14 @@ use Rattle.rules.specs.Basics.{Bytes}
 use Rattle.rules.specs.Numbers.{noSlot}
 use Rattle.rules.specs.Cabinet as rules
 use Rattle.rules.specs.Runs.{refusedWhole}
-use Rattle.runs.specs.Judged.{replyAs}
-use Rattle.cabinet.specs.Kept.{cabinetOf}
+use Rattle.runs.specs.Judged.{runReplyAs}
+use Rattle.cabinet.specs.Kept.{cabinetAs}
 use Rattle.rules.specs.CabinetRuns as defined
 use Rattle.slots.specs.declared.CabinetRan.{CabinetRan}
 
 -- with the buffer afterwards
-abbrev pub ranOf : CabinetRan → Bytes → defined.CabinetRan
-ranOf r buffer = record { reply = replyAs (r .reply); cabinet = cabinetOf (r .cabinet); buffer = buffer }
+abbrev pub cabinetRanAs : CabinetRan → Bytes → defined.CabinetRan
+cabinetRanAs r buffer = record { reply = runReplyAs (r .reply); cabinet = cabinetAs (r .cabinet); buffer = buffer }
 
 -- a slot that there is not: cabinet and buffer stand
 abbrev pub notRun : rules.Cabinet → Bytes → defined.CabinetRan

@@ -7,10 +7,10 @@ ghost use Rattle.rules.specs.Basics.{Bytes};
 ghost use Rattle.rules.specs.Cabinet.{ledgerAt};
 ghost use Rattle.prepared.specs.Forms.{formAs};
 ghost use Rattle.row.specs.Rows.{rowAs};
-ghost use Rattle.runs.specs.Judged.{runAs, runSeen, preparedSeen};
-ghost use Rattle.cabinet.specs.Kept.{cabinetOf};
+ghost use Rattle.runs.specs.Judged.{runOutcomeAs, runSeen, preparedSeen};
+ghost use Rattle.cabinet.specs.Kept.{cabinetAs};
 ghost use Rattle.rules.specs.CabinetRuns.{ranAsGate, runInSlot, cabinetRun, cabinetPreparedRun};
-ghost use Rattle.slots.specs.Handed.{ranOf, notRun};
+ghost use Rattle.slots.specs.Handed.{cabinetRanAs, notRun};
 use cabinet::Cabinet;
 use gate::Ledger;
 use prepared::Prepared;
@@ -29,7 +29,7 @@ pub struct CabinetRan {
 // What the run handed back for a slot, put into its places.
 fn put_back(cabinet: Cabinet, slot: usize, o: RunOutcome) -> CabinetRan
     requires { ⌜ slot < slotsMax ⌝ }
-    ensures { λ r. ⌜ ((buffer : Bytes) → ranOf r buffer ≡ ranAsGate (cabinetOf cabinet) slot (runAs o buffer)) ⌝ }
+    ensures { λ r. ⌜ ((buffer : Bytes) → cabinetRanAs r buffer ≡ ranAsGate (cabinetAs cabinet) slot (runOutcomeAs o buffer)) ⌝ }
 {
     let reply = o.reply;
     let ledger: Ledger = o.ledger;
@@ -41,7 +41,7 @@ fn put_back(cabinet: Cabinet, slot: usize, o: RunOutcome) -> CabinetRan
 
 // A slot that there is not: the cabinet stands.
 fn no_slot(cabinet: Cabinet) -> CabinetRan
-    ensures { λ r. ⌜ ((buffer : Bytes) → ranOf r buffer ≡ notRun (cabinetOf cabinet) buffer) ⌝ }
+    ensures { λ r. ⌜ ((buffer : Bytes) → cabinetRanAs r buffer ≡ notRun (cabinetAs cabinet) buffer) ⌝ }
 {
     CabinetRan {
         cabinet,
@@ -59,7 +59,7 @@ fn run_judged(
     requests: &[u8],
     answers: &mut [u8],
 ) -> CabinetRan
-    ensures { λ r. ⌜ ranOf r (now (answers .exit)) ≡ runInSlot (cabinetOf cabinet) slot (now (answers .entry)) (runSeen (ledgerAt (cabinetOf cabinet) slot) (now (km0 .entry)) (now (acl .entry)) seen (now (requests .entry)) (now (answers .entry))) ⌝ }
+    ensures { λ r. ⌜ cabinetRanAs r (now (answers .exit)) ≡ runInSlot (cabinetAs cabinet) slot (now (answers .entry)) (runSeen (ledgerAt (cabinetAs cabinet) slot) (now (km0 .entry)) (now (acl .entry)) seen (now (requests .entry)) (now (answers .entry))) ⌝ }
 {
     if Cabinet::SLOTS <= slot {
         return no_slot(cabinet);
@@ -79,7 +79,7 @@ fn prepared_judged(
     requests: &[u8],
     answers: &mut [u8],
 ) -> CabinetRan
-    ensures { λ r. ⌜ ranOf r (now (answers .exit)) ≡ runInSlot (cabinetOf cabinet) slot (now (answers .entry)) (preparedSeen (ledgerAt (cabinetOf cabinet) slot) (now (km0 .entry)) (now (acl .entry)) seen (formAs form) (now (requests .entry)) (now (answers .entry))) ⌝ }
+    ensures { λ r. ⌜ cabinetRanAs r (now (answers .exit)) ≡ runInSlot (cabinetAs cabinet) slot (now (answers .entry)) (preparedSeen (ledgerAt (cabinetAs cabinet) slot) (now (km0 .entry)) (now (acl .entry)) seen (formAs form) (now (requests .entry)) (now (answers .entry))) ⌝ }
 {
     if Cabinet::SLOTS <= slot {
         return no_slot(cabinet);
@@ -106,7 +106,7 @@ pub fn run(
     requests: &[u8],
     answers: &mut [u8],
 ) -> CabinetRan
-    ensures { λ r. ⌜ ranOf r (now (answers .exit)) ≡ cabinetRun (cabinetOf cabinet) slot (now (km0 .entry)) (now (acl .entry)) (rowAs (now (row .entry))) (now (requests .entry)) (now (answers .entry)) ⌝ }
+    ensures { λ r. ⌜ cabinetRanAs r (now (answers .exit)) ≡ cabinetRun (cabinetAs cabinet) slot (now (km0 .entry)) (now (acl .entry)) (rowAs (now (row .entry))) (now (requests .entry)) (now (answers .entry)) ⌝ }
 {
     run_judged(
         cabinet,
@@ -130,7 +130,7 @@ pub fn prepared_run(
     requests: &[u8],
     answers: &mut [u8],
 ) -> CabinetRan
-    ensures { λ r. ⌜ ranOf r (now (answers .exit)) ≡ cabinetPreparedRun (cabinetOf cabinet) slot (now (km0 .entry)) (now (acl .entry)) (rowAs (now (row .entry))) (formAs form) (now (requests .entry)) (now (answers .entry)) ⌝ }
+    ensures { λ r. ⌜ cabinetRanAs r (now (answers .exit)) ≡ cabinetPreparedRun (cabinetAs cabinet) slot (now (km0 .entry)) (now (acl .entry)) (rowAs (now (row .entry))) (formAs form) (now (requests .entry)) (now (answers .entry)) ⌝ }
 {
     prepared_judged(
         cabinet,

@@ -4,7 +4,7 @@ use mathlib.Core.List.{List, [], _∷_}
 use mathlib.Core.Option.{Option, none, some}
 use mathlib.Core.Bool.{_&&_}
 use Rattle.rules.specs.Basics.{Bytes, implies, bothSame, unless, firstFault}
-use Rattle.rules.specs.Bundle.{field, has, reported, good}
+use Rattle.rules.specs.Bundle.{field, hasField, reported, good}
 use Rattle.rules.specs.Desk as desk
 use Rattle.rules.specs.Desk.{kmVouched, kmFipsVouched, kreVouched, isListed, csrLinked}
 use Rattle.steps.specs.declared.Step.{Step}
@@ -13,28 +13,28 @@ use Rattle.steps.specs.declared.Failure.{Failure}
 use Rattle.steps.specs.declared.Failure.the-variants.{Nothing, At}
 
 -- a step, by its name
-abbrev pub stepOf : Step → desk.Step
-stepOf WV1 = desk.WV1
-stepOf MSCV1 = desk.MSCV1
-stepOf MSCV2 = desk.MSCV2
-stepOf MSCV3 = desk.MSCV3
-stepOf MSCV4 = desk.MSCV4
-stepOf MSCV5 = desk.MSCV5
-stepOf WBCV1 = desk.WBCV1
-stepOf WBCV2 = desk.WBCV2
-stepOf WBCV3 = desk.WBCV3
-stepOf KGCV1 = desk.KGCV1
-stepOf KGCV2 = desk.KGCV2
-stepOf ACLV3 = desk.ACLV3
-stepOf WB1 = desk.WB1
-stepOf WB2 = desk.WB2
-stepOf WB3 = desk.WB3
-stepOf WB6 = desk.WB6
-stepOf RB1 = desk.RB1
-stepOf RB2 = desk.RB2
-stepOf RB3 = desk.RB3
-stepOf KV3 = desk.KV3
-stepOf CSRL1 = desk.CSRL1
+abbrev pub stepAs : Step → desk.Step
+stepAs WV1 = desk.WV1
+stepAs MSCV1 = desk.MSCV1
+stepAs MSCV2 = desk.MSCV2
+stepAs MSCV3 = desk.MSCV3
+stepAs MSCV4 = desk.MSCV4
+stepAs MSCV5 = desk.MSCV5
+stepAs WBCV1 = desk.WBCV1
+stepAs WBCV2 = desk.WBCV2
+stepAs WBCV3 = desk.WBCV3
+stepAs KGCV1 = desk.KGCV1
+stepAs KGCV2 = desk.KGCV2
+stepAs ACLV3 = desk.ACLV3
+stepAs WB1 = desk.WB1
+stepAs WB2 = desk.WB2
+stepAs WB3 = desk.WB3
+stepAs WB6 = desk.WB6
+stepAs RB1 = desk.RB1
+stepAs RB2 = desk.RB2
+stepAs RB3 = desk.RB3
+stepAs KV3 = desk.KV3
+stepAs CSRL1 = desk.CSRL1
 
 -- The steps, numbered from 1 in document 01's order.
 abbrev pub stepNumber : desk.Step → ℕ
@@ -61,17 +61,17 @@ stepNumber desk.KV3 = 20
 stepNumber desk.CSRL1 = 21
 
 -- the first failing step, if any fails
-abbrev pub failureOf : Failure → Option desk.Step
-failureOf Nothing = none
-failureOf (At s) = some (stepOf s)
+abbrev pub failureAs : Failure → Option desk.Step
+failureAs Nothing = none
+failureAs (At s) = some (stepAs s)
 
 -- "WV1 (signature 1 good, field 1 present); MSCV1 (2 good); MSCV2 (fields 2, 3 present)"
 unfoldable pub warrantFailure : List Bytes → Option desk.Step
 warrantFailure b =
     firstFault
-    (unless (good 1 b && has 1 b) desk.WV1
+    (unless (good 1 b && hasField 1 b) desk.WV1
     ∷ unless (good 2 b) desk.MSCV1
-    ∷ unless (has 2 b && has 3 b) desk.MSCV2
+    ∷ unless (hasField 2 b && hasField 3 b) desk.MSCV2
     ∷ [])
 
 -- "MSCV3 (1 = 2); MSCV4 (5, if present, equals a present 4); MSCV5 (6, if present, is listed)"
@@ -79,7 +79,7 @@ unfoldable pub stateFailure : List Bytes → Option desk.Step
 stateFailure b =
     firstFault
     (unless (bothSame (field 1 b) (field 2 b)) desk.MSCV3
-    ∷ unless (implies (has 5 b) (bothSame (field 5 b) (field 4 b))) desk.MSCV4
+    ∷ unless (implies (hasField 5 b) (bothSame (field 5 b) (field 4 b))) desk.MSCV4
     ∷ unless (isListed (field 6 b) b) desk.MSCV5
     ∷ [])
 

@@ -5,7 +5,7 @@ ghost use Rattle.rules.specs.Bundle.{policyOf};
 ghost use Rattle.rules.specs.Desk.{beforeAcl, basicFailure};
 ghost use Rattle.facts.specs.Found.{policyAs};
 ghost use Rattle.facts.specs.Places.{Found};
-ghost use Rattle.steps.specs.Steps.{stepOf, stepNumber, failureOf, warrantFailure, stateFailure, worldFailure, keyFailure, csrFailure};
+ghost use Rattle.steps.specs.Steps.{stepAs, stepNumber, failureAs, warrantFailure, stateFailure, worldFailure, keyFailure, csrFailure};
 use facts::Policy;
 
 // The steps that can fail, by their names in document 01.
@@ -41,7 +41,7 @@ pub enum Failure {
 
 // The number of a step, from 1 in document 01's order.
 pub fn number(s: Step) -> u64
-    ensures { λ r. ⌜ r ≡ stepNumber (stepOf s) ⌝ }
+    ensures { λ r. ⌜ r ≡ stepNumber (stepAs s) ⌝ }
 {
     match s {
         Step::WV1 => 1,
@@ -70,7 +70,7 @@ pub fn number(s: Step) -> u64
 
 // The first failure of two runs, one after the other.
 pub fn first_of(a: Failure, b: Failure) -> Failure
-    ensures { λ r. ⌜ failureOf r ≡ orNext (failureOf a) (failureOf b) ⌝ }
+    ensures { λ r. ⌜ failureAs r ≡ orNext (failureAs a) (failureAs b) ⌝ }
 {
     match a {
         Failure::Nothing => b,
@@ -81,7 +81,7 @@ pub fn first_of(a: Failure, b: Failure) -> Failure
 // The warrant and the module's state, as both approaches ask for them.
 fn warrant_steps(places: &[usize; facts::ENTRIES], bundle: &[u8]) -> Failure
     requires { ⌜ Found (now bundle) (now places) ⌝ }
-    ensures { λ r. ⌜ failureOf r ≡ warrantFailure (records (now (bundle .entry))) ⌝ }
+    ensures { λ r. ⌜ failureAs r ≡ warrantFailure (records (now (bundle .entry))) ⌝ }
 {
     if !(evidence::is_good(1, places, bundle) & evidence::has_field(1, places, bundle)) {
         return Failure::At(Step::WV1);
@@ -98,7 +98,7 @@ fn warrant_steps(places: &[usize; facts::ENTRIES], bundle: &[u8]) -> Failure
 // The rest of the module's state: its ESN, the officer's key, the module key.
 fn state_steps(places: &[usize; facts::ENTRIES], bundle: &[u8]) -> Failure
     requires { ⌜ Found (now bundle) (now places) ⌝ }
-    ensures { λ r. ⌜ failureOf r ≡ stateFailure (records (now (bundle .entry))) ⌝ }
+    ensures { λ r. ⌜ failureAs r ≡ stateFailure (records (now (bundle .entry))) ⌝ }
 {
     if !evidence::same_fields(1, 2, places, bundle) {
         return Failure::At(Step::MSCV3);
@@ -115,7 +115,7 @@ fn state_steps(places: &[usize; facts::ENTRIES], bundle: &[u8]) -> Failure
 // The world certificates: one that is reported has to vouch.
 fn world_steps(places: &[usize; facts::ENTRIES], bundle: &[u8]) -> Failure
     requires { ⌜ Found (now bundle) (now places) ⌝ }
-    ensures { λ r. ⌜ failureOf r ≡ worldFailure (records (now (bundle .entry))) ⌝ }
+    ensures { λ r. ⌜ failureAs r ≡ worldFailure (records (now (bundle .entry))) ⌝ }
 {
     if !(!evidence::is_signed(3, places, bundle) | evidence::km_vouched(places, bundle)) {
         return Failure::At(Step::WBCV1);
@@ -132,7 +132,7 @@ fn world_steps(places: &[usize; facts::ENTRIES], bundle: &[u8]) -> Failure
 // The key's generation.
 fn key_steps(places: &[usize; facts::ENTRIES], bundle: &[u8]) -> Failure
     requires { ⌜ Found (now bundle) (now places) ⌝ }
-    ensures { λ r. ⌜ failureOf r ≡ keyFailure (records (now (bundle .entry))) ⌝ }
+    ensures { λ r. ⌜ failureAs r ≡ keyFailure (records (now (bundle .entry))) ⌝ }
 {
     if !evidence::is_good(6, places, bundle) {
         return Failure::At(Step::KGCV1);
@@ -146,7 +146,7 @@ fn key_steps(places: &[usize; facts::ENTRIES], bundle: &[u8]) -> Failure
 // The link between CSR and key.
 pub fn csr_step(policy: Policy, places: &[usize; facts::ENTRIES], bundle: &[u8]) -> Failure
     requires { ⌜ (policyAs policy ≡ policyOf (records (now bundle))) × Found (now bundle) (now places) ⌝ }
-    ensures { λ r. ⌜ failureOf r ≡ csrFailure (records (now (bundle .entry))) ⌝ }
+    ensures { λ r. ⌜ failureAs r ≡ csrFailure (records (now (bundle .entry))) ⌝ }
 {
     if !evidence::csr_linked(policy, places, bundle) {
         return Failure::At(Step::CSRL1);
@@ -157,7 +157,7 @@ pub fn csr_step(policy: Policy, places: &[usize; facts::ENTRIES], bundle: &[u8])
 // Approach 2, up to the ACL.
 pub fn bundle_steps(places: &[usize; facts::ENTRIES], bundle: &[u8]) -> Failure
     requires { ⌜ Found (now bundle) (now places) ⌝ }
-    ensures { λ r. ⌜ failureOf r ≡ beforeAcl (records (now (bundle .entry))) ⌝ }
+    ensures { λ r. ⌜ failureAs r ≡ beforeAcl (records (now (bundle .entry))) ⌝ }
 {
     let module = first_of(warrant_steps(places, bundle), state_steps(places, bundle));
     let world = first_of(world_steps(places, bundle), key_steps(places, bundle));
@@ -167,7 +167,7 @@ pub fn bundle_steps(places: &[usize; facts::ENTRIES], bundle: &[u8]) -> Failure
 // Approach 1, whole.
 pub fn basic_steps(policy: Policy, places: &[usize; facts::ENTRIES], bundle: &[u8]) -> Failure
     requires { ⌜ (policyAs policy ≡ policyOf (records (now bundle))) × Found (now bundle) (now places) ⌝ }
-    ensures { λ r. ⌜ failureOf r ≡ basicFailure (records (now (bundle .entry))) ⌝ }
+    ensures { λ r. ⌜ failureAs r ≡ basicFailure (records (now (bundle .entry))) ⌝ }
 {
     first_of(
         warrant_steps(places, bundle),

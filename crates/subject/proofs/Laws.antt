@@ -22,19 +22,19 @@ use Rattle.suites.specs.declared.Header.{Header}
 use Rattle.suites.specs.declared.Suite as declared
 use Rattle.suites.specs.Calls.{refuses, calledFor}
 use Rattle.suites.proofs.Laws.{suite-found, suite-measured}
-use Rattle.subject.specs.Writing.{over, headerOf, headedFault, headedReply, headedBuffer}
+use Rattle.subject.specs.Writing.{overwritten, headerOf, headedFault, headedReply, headedBuffer}
 
-pub over-length : (s d : Bytes) → length s ≤ length d → length (over s d) ≡ length d
-unfolding over
+pub over-length : (s d : Bytes) → length s ≤ length d → length (overwritten s d) ≡ length d
+unfolding overwritten
 over-length s d h = length-append s (drop (length s) d) ∙ omega (arith, length-drop (length s) d)
 
 drop-both : (s t d : Bytes) → drop (length (s ++ t)) d ≡ drop (length t) (drop (length s) d)
 drop-both s t d = ap (λ (m : ℕ). drop m d) (length-append s t) ∙ sym (drop-drop (length t) (length s) d)
 
 -- A second piece t, written into the part of the buffer from the first piece's end on: both pieces are over the buffer.
-over-then : (s t d e : Bytes) (n k : ℕ) → n ≡ length s → length s ≤ length d → k ≡ length d - n → e ≡ over t (drop n (over s d))
-    → take n (over s d) ++ (e ++ drop k (drop n (over s d))) ≡ over (s ++ t) d
-unfolding over
+over-then : (s t d e : Bytes) (n k : ℕ) → n ≡ length s → length s ≤ length d → k ≡ length d - n → e ≡ overwritten t (drop n (overwritten s d))
+    → take n (overwritten s d) ++ (e ++ drop k (drop n (overwritten s d))) ≡ overwritten (s ++ t) d
+unfolding overwritten
 over-then s t d e n k en h ek ee =
     let a : take n (s ++ drop (length s) d) ≡ s = take-at s (drop (length s) d) n (sym en) in
     let b : drop n (s ++ drop (length s) d) ≡ drop (length s) d = drop-at s (drop (length s) d) n (sym en) in
@@ -43,22 +43,22 @@ over-then s t d e n k en h ek ee =
     rw (a, b, z, append-nil, f) (sym (append-assoc s t (drop (length (s ++ t)) d) ∙ ap (λ (l : Bytes). s ++ (t ++ l)) (drop-both s t d)))
 
 -- .. as code lends the part, `&mut x[n..]`: x is the buffer with the first piece, and e what is left in the part
-pub over-next : (s t d x e : Bytes) (n : ℕ) → x ≡ over s d → n ≡ length s → length s ≤ length d → e ≡ over t (take (length x - n) (drop n x))
-    → take n x ++ (e ++ drop (length x - n) (drop n x)) ≡ over (s ++ t) d
+pub over-next : (s t d x e : Bytes) (n : ℕ) → x ≡ overwritten s d → n ≡ length s → length s ≤ length d → e ≡ overwritten t (take (length x - n) (drop n x))
+    → take n x ++ (e ++ drop (length x - n) (drop n x)) ≡ overwritten (s ++ t) d
 over-next s t d x e n p en h q =
     let len : length x ≡ length d = ap length p ∙ over-length s d h in
     let whole : take (length x - n) (drop n x) ≡ drop n x = take-all (length x - n) (drop n x) (omega (arith, length-drop n x)) in
-    let f : e ≡ over t (drop n (over s d)) = q ∙ ap (over t) (whole ∙ ap (drop n) p) in
+    let f : e ≡ overwritten t (drop n (overwritten s d)) = q ∙ ap (overwritten t) (whole ∙ ap (drop n) p) in
     ap (λ (l : Bytes). take n l ++ (e ++ drop (length x - n) (drop n l))) p ∙ over-then s t d e n (length x - n) en h (omega arith) f
 
 -- A piece over as many bytes is the piece.
-over-whole : (s d : Bytes) → length s ≡ length d → over s d ≡ s
-unfolding over
+over-whole : (s d : Bytes) → length s ≡ length d → overwritten s d ≡ s
+unfolding overwritten
 over-whole s d e = rw (drop-of-length-le d {i = length s} (omega arith)) (append-nil s)
 
 -- A second piece in the place of as many bytes after the first.
-over-piece : (s t d : Bytes) (i n : ℕ) → length s ≡ i → length t ≡ n → take i (over s d) ++ (t ++ drop n (drop i (over s d))) ≡ over (s ++ t) d
-unfolding over
+over-piece : (s t d : Bytes) (i n : ℕ) → length s ≡ i → length t ≡ n → take i (overwritten s d) ++ (t ++ drop n (drop i (overwritten s d))) ≡ overwritten (s ++ t) d
+unfolding overwritten
 over-piece s t d i n l m =
     let a : take i (s ++ drop (length s) d) ≡ s = take-at s (drop (length s) d) i l in
     let b : drop i (s ++ drop (length s) d) ≡ drop (length s) d = drop-at s (drop (length s) d) i l in
@@ -78,28 +78,28 @@ module _ (s d : Bytes) (k : length d ≡ 8) where
   pub word-room : (i n : ℕ) → i < 8 → i < length (sets d 0 (reads s 0 n))
   word-room i n h = lt-length-sets d 0 (reads s 0 n) (omega arith)
 
-  pub word-over : length s ≡ 8 → sets d 0 (reads s 0 8) ≡ over s d
-  unfolding over
+  pub word-over : length s ≡ 8 → sets d 0 (reads s 0 8) ≡ overwritten s d
+  unfolding overwritten
   word-over h =
       let all : reads s 0 8 ≡ s = reads-part s 0 8 (omega arith) ∙ take-all 8 s (omega arith) in
       sets-eq (reads s 0 8) d 0 (omega arith) ∙ ap (λ (l : Bytes). l ++ drop 8 d) all ∙ ap (λ (n : ℕ). s ++ drop n d) (sym h)
 
 -- The first i bytes of s over the front of d: what the loops keep. Shut, so that a search reads s, d and i off it.
 unfoldable pub copied : Bytes → Bytes → ℕ → Bytes
-copied s d i = over (take i s) d
+copied s d i = overwritten (take i s) d
 
 module _ (s d : Bytes) where
   pub copied-zero : d ≡ copied s d 0
-  unfolding copied over
+  unfolding copied overwritten
   copied-zero = refl
 
-  pub copied-done : (e : Bytes) (i : ℕ) → length s ≤ i → e ≡ copied s d i → e ≡ over s d
+  pub copied-done : (e : Bytes) (i : ℕ) → length s ≤ i → e ≡ copied s d i → e ≡ overwritten s d
   unfolding copied
-  copied-done e i h q = q ∙ ap (λ (l : Bytes). over l d) (take-all i s h)
+  copied-done e i h q = q ∙ ap (λ (l : Bytes). overwritten l d) (take-all i s h)
 
   -- n bytes more, `&s[i..i + n]`, into the part that is lent as `&mut x[i..i + n]`
   pub copied-part : (x e : Bytes) (i n : ℕ) → i + n ≤ length s → length s ≤ length d → x ≡ copied s d i
-      → e ≡ over (take (i + n - i) (drop i s)) (take (i + n - i) (drop i x))
+      → e ≡ overwritten (take (i + n - i) (drop i s)) (take (i + n - i) (drop i x))
       → take i x ++ (e ++ drop (i + n - i) (drop i x)) ≡ copied s d (i + n)
   unfolding copied
   copied-part x e i n h k q f =
@@ -108,18 +108,18 @@ module _ (s d : Bytes) where
       let m : length (take n (drop i s)) ≡ n = length-take-le n (drop i s) (omega (arith, length-drop i s)) in
       let len : length x ≡ length d = ap length q ∙ over-length (take i s) d (omega arith) in
       let u : length (take n (drop i x)) ≡ n = length-take-le n (drop i x) (omega (arith, length-drop i x)) in
-      let g : e ≡ take n (drop i s) = f ∙ ap (λ (j : ℕ). over (take j (drop i s)) (take j (drop i x))) c ∙ over-whole (take n (drop i s)) (take n (drop i x)) (m ∙ sym u) in
+      let g : e ≡ take n (drop i s) = f ∙ ap (λ (j : ℕ). overwritten (take j (drop i s)) (take j (drop i x))) c ∙ over-whole (take n (drop i s)) (take n (drop i x)) (m ∙ sym u) in
       ap (λ (z : Bytes). take i x ++ (z ++ drop (i + n - i) (drop i x))) g
       ∙ ap (λ (j : ℕ). take i x ++ (take n (drop i s) ++ drop j (drop i x))) c
       ∙ ap (λ (z : Bytes). take i z ++ (take n (drop i s) ++ drop n (drop i z))) q
       ∙ over-piece (take i s) (take n (drop i s)) d i n l m
-      ∙ ap (λ (z : Bytes). over z d) (sym (take-add i n s))
+      ∙ ap (λ (z : Bytes). overwritten z d) (sym (take-add i n s))
 
   -- .. and the last bytes, `&s[k..n]`, where the first i are there, some of the last among them
   pub copied-last : (x e : Bytes) (i k n : ℕ) → k ≤ i → i ≤ n → n ≡ length s → length s ≤ length d → x ≡ copied s d i
-      → e ≡ over (take (n - k) (drop k s)) (take (n - k) (drop k x))
-      → take k x ++ (e ++ drop (n - k) (drop k x)) ≡ over s d
-  unfolding copied over
+      → e ≡ overwritten (take (n - k) (drop k s)) (take (n - k) (drop k x))
+      → take k x ++ (e ++ drop (n - k) (drop k x)) ≡ overwritten s d
+  unfolding copied overwritten
   copied-last x e i k n h j m w q f =
       let l : length (take i s) ≡ i = length-take-le i s (omega arith) in
       let len : length x ≡ length d = ap length q ∙ over-length (take i s) d (omega arith) in
@@ -175,9 +175,9 @@ module _ (header : Bytes) (size : ℕ) (hashes buffer : Bytes) where
     unfolding headedReply headedBuffer headedFault firstFault
     headed-short h = rw (eq-eqb _ _ e, long, lt-leb total (length buffer) h) (refl, refl)
 
-    pub headed-written : total ≤ length buffer → (x : Bytes) → x ≡ over (header ++ hashes) buffer
+    pub headed-written : total ≤ length buffer → (x : Bytes) → x ≡ overwritten (header ++ hashes) buffer
         → (written total ≡ headedReply header size hashes buffer) × (x ≡ headedBuffer header size hashes buffer)
-    unfolding headedReply headedBuffer headedFault firstFault over
+    unfolding headedReply headedBuffer headedFault firstFault overwritten
     headed-written h x q = rw (eq-eqb _ _ e, long, le-leb total (length buffer) h) (refl, q)
 
 -- A subject under a known suite is a header and hashes.

@@ -15,17 +15,17 @@ use Rattle.subject.specs.declared.Written.{Written}
 use Rattle.subject.specs.declared.Written.the-variants.{Length, Refused}
 
 -- a length, or the number of a refusal
-abbrev pub replyOf : Written → SubjectReply
-replyOf (Length n) = written n
-replyOf (Refused r) = unwritten (refusalNumber r)
+abbrev pub subjectReplyAs : Written → SubjectReply
+subjectReplyAs (Length n) = written n
+subjectReplyAs (Refused r) = unwritten (refusalNumber r)
 
 -- the header of a certificate under a suite
 abbrev pub headerOf : ℕ → Suite → Bytes
 headerOf certificate s = headerBytes (headerUnder certificate (some (suiteAs s)))
 
 -- new bytes over the front of old ones: what lies past them stays
-unfoldable pub over : Bytes → Bytes → Bytes
-over new old = new ++ drop (length new) old
+unfoldable pub overwritten : Bytes → Bytes → Bytes
+overwritten new old = new ++ drop (length new) old
 
 -- A header, then hashes of a length: 1, "subject hashes of wrong length", then 9, "subject's buffer too short".
 unfoldable pub headedFault : Bytes → ℕ → Bytes → Bytes → Option ℕ

@@ -8,8 +8,8 @@ ghost use Rattle.rules.specs.Basics.{ascii};
 ghost use Rattle.rules.specs.Layout.{between};
 ghost use Rattle.rules.specs.Subject.{hashesBytes, subjectReply, subjectBuffer};
 ghost use Rattle.suites.specs.declared.Lookup.the-variants.{Known};
-ghost use Rattle.suites.specs.Calls.{keysText, setupText, answerOf, Measured};
-ghost use Rattle.subject.specs.Writing.{replyOf, over, headerOf, headedReply, headedBuffer};
+ghost use Rattle.suites.specs.Calls.{keysText, setupText, lookupAs, Measured};
+ghost use Rattle.subject.specs.Writing.{subjectReplyAs, overwritten, headerOf, headedReply, headedBuffer};
 use refusals::Refusal;
 use suites::Header;
 use suites::Lookup;
@@ -24,7 +24,7 @@ pub enum Written {
 // Eight bytes over eight. All are read before the first is written, so that they are one load and one store.
 fn copy_word(bytes: &[u8], buffer: &mut [u8])
     requires { ⌜ (length (now bytes) ≡ 8) × (length (now buffer) ≡ 8) ⌝ }
-    ensures { λ _. ⌜ now (buffer .exit) ≡ over (now (bytes .entry)) (now (buffer .entry)) ⌝ }
+    ensures { λ _. ⌜ now (buffer .exit) ≡ overwritten (now (bytes .entry)) (now (buffer .entry)) ⌝ }
 {
     let a = bytes[0];
     let b = bytes[1];
@@ -47,7 +47,7 @@ fn copy_word(bytes: &[u8], buffer: &mut [u8])
 // Eight bytes or more over the front of the buffer, eight at a time; the last eight may overlap those before them. What lies past them stays.
 pub fn copy(bytes: &[u8], buffer: &mut [u8])
     requires { ⌜ (8 ≤ length (now bytes)) × (length (now bytes) ≤ length (now buffer)) ⌝ }
-    ensures { λ _. ⌜ now (buffer .exit) ≡ over (now (bytes .entry)) (now (buffer .entry)) ⌝ }
+    ensures { λ _. ⌜ now (buffer .exit) ≡ overwritten (now (bytes .entry)) (now (buffer .entry)) ⌝ }
 {
     let end = bytes.len();
     let mut i = 0;
@@ -62,7 +62,7 @@ pub fn copy(bytes: &[u8], buffer: &mut [u8])
 // Hashes over the front of the buffer, one after the other. Each goes straight into its place: the next twenty bytes of the buffer are lent to `copy`.
 fn write_hashes(hashes: &[u8], buffer: &mut [u8])
     requires { ⌜ (length (now hashes) % hashBytes ≡ 0) × (length (now hashes) ≤ length (now buffer)) ⌝ }
-    ensures { λ _. ⌜ now (buffer .exit) ≡ over (now (hashes .entry)) (now (buffer .entry)) ⌝ }
+    ensures { λ _. ⌜ now (buffer .exit) ≡ overwritten (now (hashes .entry)) (now (buffer .entry)) ⌝ }
 {
     let mut at = 0;
     while at < hashes.len() {
@@ -77,7 +77,7 @@ fn write_hashes(hashes: &[u8], buffer: &mut [u8])
 // The header of certificate 3.
 fn write_module_keys(header: Header, buffer: &mut [u8])
     requires { ⌜ length (ascii (keysText header)) ≤ length (now buffer) ⌝ }
-    ensures { λ _. ⌜ now (buffer .exit) ≡ over (ascii (keysText header)) (now (buffer .entry)) ⌝ }
+    ensures { λ _. ⌜ now (buffer .exit) ≡ overwritten (ascii (keysText header)) (now (buffer .entry)) ⌝ }
 {
     match header {
         Header::Plain => copy(b"Module keys\0", buffer),
@@ -94,7 +94,7 @@ fn write_module_keys(header: Header, buffer: &mut [u8])
 // The header of certificate 4.
 fn write_module_setup(header: Header, buffer: &mut [u8])
     requires { ⌜ length (ascii (setupText header)) ≤ length (now buffer) ⌝ }
-    ensures { λ _. ⌜ now (buffer .exit) ≡ over (ascii (setupText header)) (now (buffer .entry)) ⌝ }
+    ensures { λ _. ⌜ now (buffer .exit) ≡ overwritten (ascii (setupText header)) (now (buffer .entry)) ⌝ }
 {
     match header {
         Header::Plain => copy(b"Module setup, FIPS3\0", buffer),
@@ -114,7 +114,7 @@ fn write_module_setup(header: Header, buffer: &mut [u8])
 // The header of certificate 3, 4 or 5 at the front of the buffer. That of certificate 5 is one under every suite.
 fn write_header(certificate: u64, suite: Suite, buffer: &mut [u8])
     requires { ⌜ (between 3 5 certificate ≡ true) × (length (headerOf certificate suite) ≤ length (now buffer)) ⌝ }
-    ensures { λ _. ⌜ now (buffer .exit) ≡ over (headerOf certificate suite) (now (buffer .entry)) ⌝ }
+    ensures { λ _. ⌜ now (buffer .exit) ≡ overwritten (headerOf certificate suite) (now (buffer .entry)) ⌝ }
 {
     let header = suite.header;
     match certificate {
@@ -136,7 +136,7 @@ fn hashes_length(certificate: u64) -> usize
 
 // The total length of the subject of certificate 3, 4 or 5 under a suite, whose lengths are those of its header texts with the hashes.
 fn total_length(certificate: u64, suite: Suite) -> usize
-    requires { ⌜ (between 3 5 certificate ≡ true) × (Measured (answerOf (Known suite))) ⌝ }
+    requires { ⌜ (between 3 5 certificate ≡ true) × (Measured (lookupAs (Known suite))) ⌝ }
     ensures { λ r. ⌜ r ≡ length (headerOf certificate suite) + hashesBytes certificate ⌝ }
 {
     match certificate {
@@ -149,8 +149,8 @@ fn total_length(certificate: u64, suite: Suite) -> usize
 // The subject of certificate 3, 4 or 5 under a suite: the header at the front of the buffer, then the hashes in the part from the header's end on. The
 // length of the hashes and the total length are tested before the first byte is written, so that a refusal leaves the buffer.
 fn write_under(certificate: u64, suite: Suite, hashes: &[u8], buffer: &mut [u8]) -> Written
-    requires { ⌜ (between 3 5 certificate ≡ true) × (Measured (answerOf (Known suite))) ⌝ }
-    ensures reply { λ r. ⌜ replyOf r ≡ headedReply (headerOf certificate suite) (hashesBytes certificate) (now (hashes .entry)) (now (buffer .entry)) ⌝ }
+    requires { ⌜ (between 3 5 certificate ≡ true) × (Measured (lookupAs (Known suite))) ⌝ }
+    ensures reply { λ r. ⌜ subjectReplyAs r ≡ headedReply (headerOf certificate suite) (hashesBytes certificate) (now (hashes .entry)) (now (buffer .entry)) ⌝ }
     ensures bytes { λ _. ⌜ now (buffer .exit) ≡ headedBuffer (headerOf certificate suite) (hashesBytes certificate) (now (hashes .entry)) (now (buffer .entry)) ⌝ }
 {
     let size = hashes_length(certificate);
@@ -170,7 +170,7 @@ fn write_under(certificate: u64, suite: Suite, hashes: &[u8], buffer: &mut [u8])
 // The subject of a world certificate, at the front of the buffer, for hashes in document 001's order. Every byte past it stays. Refusals 10,
 // 11, 1 and 9 come in this order, the certificate being asked before the suite, and leave the whole buffer.
 pub fn write_subject(certificate: u64, suite: u64, hashes: &[u8], buffer: &mut [u8]) -> Written
-    ensures reply { λ r. ⌜ replyOf r ≡ subjectReply certificate suite (now (hashes .entry)) (now (buffer .entry)) ⌝ }
+    ensures reply { λ r. ⌜ subjectReplyAs r ≡ subjectReply certificate suite (now (hashes .entry)) (now (buffer .entry)) ⌝ }
     ensures bytes { λ _. ⌜ now (buffer .exit) ≡ subjectBuffer certificate suite (now (hashes .entry)) (now (buffer .entry)) ⌝ }
 {
     if !((3 <= certificate) & (certificate <= 5)) {

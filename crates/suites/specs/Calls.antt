@@ -22,9 +22,9 @@ pub record Calls : Type 0 where
   pub moduleSetupBytes : ℕ
 
 -- .. "other numbers give refusal 11"
-pub data Answer : Type 0 where
-  calls : Calls → Answer
-  refuses : ℕ → Answer
+pub data SuiteAnswer : Type 0 where
+  calls : Calls → SuiteAnswer
+  refuses : ℕ → SuiteAnswer
 
 -- the header text of certificate 3, by the choice
 abbrev pub keysText : Header → String
@@ -47,14 +47,14 @@ abbrev pub suiteAs : Suite → rules.Suite
 suiteAs s = record { mechanism = s .mechanism; moduleKeys = keysText (s .header); moduleSetup = setupText (s .header) }
 
 -- the code's answer
-abbrev pub answerOf : Lookup → Answer
-answerOf (Known s) = calls (record { suite = suiteAs s; moduleKeysBytes = s .keys; moduleSetupBytes = s .setup })
-answerOf (Refused r) = refuses (refusalNumber r)
+abbrev pub lookupAs : Lookup → SuiteAnswer
+lookupAs (Known s) = calls (record { suite = suiteAs s; moduleKeysBytes = s .keys; moduleSetupBytes = s .setup })
+lookupAs (Refused r) = refuses (refusalNumber r)
 
 -- what a suite calls for: "each hash is written straight into its place after the header", three hashes for certificate 3 and four for certificate 4
-abbrev pub callsOf : Option rules.Suite → Answer
-callsOf none = refuses unknownSuite
-callsOf (some s) =
+abbrev pub lookupFor : Option rules.Suite → SuiteAnswer
+lookupFor none = refuses unknownSuite
+lookupFor (some s) =
     calls (record {
       suite = s;
       moduleKeysBytes = length (ascii (s .moduleKeys)) + 3 * hashBytes;
@@ -62,11 +62,11 @@ callsOf (some s) =
     })
 
 -- .. the suite of a number
-unfoldable pub calledFor : ℕ → Answer
-calledFor n = callsOf (rules.suite n)
+unfoldable pub calledFor : ℕ → SuiteAnswer
+calledFor n = lookupFor (rules.suite n)
 
 -- the lengths that the suite of an answer has
-abbrev pub Measured : Answer → Type 0
+abbrev pub Measured : SuiteAnswer → Type 0
 Measured (calls c) =
     (c .moduleKeysBytes ≡ length (ascii (c .suite .moduleKeys)) + 3 * hashBytes) × (c .moduleSetupBytes ≡ length (ascii (c .suite .moduleSetup)) + 4 * hashBytes)
 Measured (refuses f) = f ≡ unknownSuite

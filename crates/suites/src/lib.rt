@@ -1,6 +1,6 @@
 // The ciphersuites: one match on a suite's number.
 ghost use mathlib.Core.Path.{_≡_};
-ghost use Rattle.suites.specs.Calls.{answerOf, calledFor};
+ghost use Rattle.suites.specs.Calls.{lookupAs, calledFor};
 use refusals::Refusal;
 
 // Which header texts the subjects of certificates 3 and 4 have.
@@ -28,7 +28,7 @@ pub enum Lookup {
 
 // The suite of a number.
 pub fn suite_of(n: u64) -> Lookup
-    ensures { λ r. ⌜ answerOf r ≡ calledFor n ⌝ }
+    ensures { λ r. ⌜ lookupAs r ≡ calledFor n ⌝ }
 {
     match n {
         1 => Lookup::Known(Suite {

@@ -14,7 +14,7 @@ use Rattle.rules.specs.Desk.{Step, WV1, MSCV1, MSCV2, MSCV3, MSCV4, MSCV5, WBCV
 use Rattle.rules.specs.Subject.{SubjectReply, written, unwritten}
 use Rattle.rules.specs.Trim.{TrimReply, trimmed, untrimmed, unread}
 use Rattle.steps.specs.Steps.{stepNumber}
-use Rattle.desk.specs.Replies.{Reply, accepting, failing, refusing}
+use Rattle.desk.specs.Replies.{DeskReply, accepting, failing, refusing}
 use Rattle.gate.proofs.Determined.{ledgerBack}
 use Rattle.rules.specs.Cabinet as cabinet
 use Rattle.cabinet.specs.declared.Cabinet.{Cabinet}
@@ -24,43 +24,43 @@ use Rattle.surface.specs.declared.HostCabinetOutcome.{HostCabinetOutcome
 use Rattle.surface.specs.declared.HostVerdict.{HostVerdict}
 use Rattle.surface.specs.declared.HostWritten.{HostWritten}
 use Rattle.surface.specs.declared.HostTrimmed.{HostTrimmed}
-use Rattle.surface.specs.Surface.{Told, toldBy, answerCode, answerNumber, noGroup, answerGroup, toldFor, CabinetTold, cabinetToldBy, cabinetToldFor, Wrote, wroteBy, wroteFor, Judged, judgedBy, judgedIn, Trimming, trimmedBy, trimmedFor}
+use Rattle.surface.specs.Surface.{OutcomeInNumbers, hostOutcomeAs, answerCode, answerNumber, noGroup64, answerGroup, hostOutcomeFor, CabinetInNumbers, hostCabinetOutcomeAs, hostCabinetOutcomeFor, SubjectInNumbers, hostWrittenAs, hostWrittenFor, VerdictInNumbers, hostVerdictAs, hostVerdictFor, TrimInNumbers, hostTrimmedAs, hostTrimmedFor}
 
 -- The structs.
-pub told-determined : (o p : HostOutcome) → toldBy o ≡ toldBy p → o ≡ p
-told-determined o p e = ap (λ (t : Told). record { ledger = ledgerBack (t .ledger); answer = t .answer; number = t .number; group = t .group }) e
+pub told-determined : (o p : HostOutcome) → hostOutcomeAs o ≡ hostOutcomeAs p → o ≡ p
+told-determined o p e = ap (λ (t : OutcomeInNumbers). record { ledger = ledgerBack (t .ledger); answer = t .answer; number = t .number; group = t .group }) e
 
 abbrev cabinetHost : Cabinet → ℕ → ℕ → ℕ → HostCabinetOutcome
 cabinetHost c answer number group = record { cabinet = c; answer = answer; number = number; group = group }
 
-abbrev cabinetHostBack : CabinetTold → HostCabinetOutcome
+abbrev cabinetHostBack : CabinetInNumbers → HostCabinetOutcome
 cabinetHostBack t = cabinetHost (cabinetBack (t .cabinet)) (t .answer) (t .number) (t .group)
 
-cabinet-host-back : (o : HostCabinetOutcome) → cabinetHostBack (cabinetToldBy o) ≡ o
+cabinet-host-back : (o : HostCabinetOutcome) → cabinetHostBack (hostCabinetOutcomeAs o) ≡ o
 cabinet-host-back o = ap (λ (c : Cabinet). cabinetHost c (o .answer) (o .number) (o .group)) (cabinet-back (o .cabinet))
 
-pub cabinet-told-determined : (o p : HostCabinetOutcome) → cabinetToldBy o ≡ cabinetToldBy p → o ≡ p
+pub cabinet-told-determined : (o p : HostCabinetOutcome) → hostCabinetOutcomeAs o ≡ hostCabinetOutcomeAs p → o ≡ p
 cabinet-told-determined o p e = sym (cabinet-host-back o) ∙ ap cabinetHostBack e ∙ cabinet-host-back p
 
-pub judged-determined : (v w : HostVerdict) → judgedBy v ≡ judgedBy w → v ≡ w
+pub judged-determined : (v w : HostVerdict) → hostVerdictAs v ≡ hostVerdictAs w → v ≡ w
 judged-determined v w e =
-    ap (λ (j : Judged). record { answer = j .answer; approach = j .approach; protection = j .protection; recoverable = j .recoverable; number = j .number }) e
+    ap (λ (j : VerdictInNumbers). record { answer = j .answer; approach = j .approach; protection = j .protection; recoverable = j .recoverable; number = j .number }) e
 
-pub wrote-determined : (w v : HostWritten) → wroteBy w ≡ wroteBy v → w ≡ v
-wrote-determined w v e = ap (λ (n : Wrote). record { answer = n .answer; number = n .number }) e
+pub wrote-determined : (w v : HostWritten) → hostWrittenAs w ≡ hostWrittenAs v → w ≡ v
+wrote-determined w v e = ap (λ (n : SubjectInNumbers). record { answer = n .answer; number = n .number }) e
 
-pub trimmed-determined : (t u : HostTrimmed) → trimmedBy t ≡ trimmedBy u → t ≡ u
-trimmed-determined t u e = ap (λ (n : Trimming). record { answer = n .answer; number = n .number; hints = n .hints }) e
+pub trimmed-determined : (t u : HostTrimmed) → hostTrimmedAs t ≡ hostTrimmedAs u → t ≡ u
+trimmed-determined t u e = ap (λ (n : TrimInNumbers). record { answer = n .answer; number = n .number; hints = n .hints }) e
 
 -- What the numbers stand for: an outcome. No group has the number that says that none is named: the gate names places in an ACL, and an ACL has far fewer groups.
 abbrev pub Nameable : Answer → Type 0
 Nameable done = Unit {0}
 Nameable (permit place) = Unit {0}
 Nameable (refuse n none) = Unit {0}
-Nameable (refuse n (some place)) = place ≢ noGroup
+Nameable (refuse n (some place)) = place ≢ noGroup64
 
 abbrev groupBack : ℕ → Option ℕ
-groupBack g = if eqb g noGroup then none else some g
+groupBack g = if eqb g noGroup64 then none else some g
 
 abbrev answerBack : ℕ → ℕ → ℕ → Answer
 answerBack code n g = if eqb code 0 then done else if eqb code 1 then permit n else refuse n (groupBack g)
@@ -69,37 +69,37 @@ answer-back : (a : Answer) → Nameable a → answerBack (answerCode a) (answerN
 answer-back done h = refl
 answer-back (permit place) h = refl
 answer-back (refuse n none) h = refl
-answer-back (refuse n (some place)) h = rw (ne-eqb place noGroup h)
+answer-back (refuse n (some place)) h = rw (ne-eqb place noGroup64 h)
 
-abbrev outcomeBack : Told → Outcome
+abbrev outcomeBack : OutcomeInNumbers → Outcome
 outcomeBack t = record { answer = answerBack (t .answer) (t .number) (t .group); ledger = t .ledger }
 
-outcome-back : (o : Outcome) → Nameable (o .answer) → outcomeBack (toldFor o) ≡ o
+outcome-back : (o : Outcome) → Nameable (o .answer) → outcomeBack (hostOutcomeFor o) ≡ o
 outcome-back o h = ap (λ (a : Answer). record { answer = a; ledger = o .ledger }) (answer-back (o .answer) h)
 
-pub outcome-told : (o p : Outcome) → Nameable (o .answer) → Nameable (p .answer) → toldFor o ≡ toldFor p → o ≡ p
+pub outcome-told : (o p : Outcome) → Nameable (o .answer) → Nameable (p .answer) → hostOutcomeFor o ≡ hostOutcomeFor p → o ≡ p
 outcome-told o p h k e = sym (outcome-back o h) ∙ ap outcomeBack e ∙ outcome-back p k
 
 -- .. of the cabinet ..
-abbrev cabinetOutcomeBack : CabinetTold → cabinet.CabinetOutcome
+abbrev cabinetOutcomeBack : CabinetInNumbers → cabinet.CabinetOutcome
 cabinetOutcomeBack t = record { answer = answerBack (t .answer) (t .number) (t .group); cabinet = t .cabinet }
 
-cabinet-outcome-back : (o : cabinet.CabinetOutcome) → Nameable (o .answer) → cabinetOutcomeBack (cabinetToldFor o) ≡ o
+cabinet-outcome-back : (o : cabinet.CabinetOutcome) → Nameable (o .answer) → cabinetOutcomeBack (hostCabinetOutcomeFor o) ≡ o
 cabinet-outcome-back o h = ap (λ (a : Answer). record { answer = a; cabinet = o .cabinet }) (answer-back (o .answer) h)
 
 pub cabinet-outcome-told :
-    (o p : cabinet.CabinetOutcome) → Nameable (o .answer) → Nameable (p .answer) → cabinetToldFor o ≡ cabinetToldFor p → o ≡ p
+    (o p : cabinet.CabinetOutcome) → Nameable (o .answer) → Nameable (p .answer) → hostCabinetOutcomeFor o ≡ hostCabinetOutcomeFor p → o ≡ p
 cabinet-outcome-told o p h k e = sym (cabinet-outcome-back o h) ∙ ap cabinetOutcomeBack e ∙ cabinet-outcome-back p k
 
 -- .. a subject's reply ..
-abbrev replyBack : Wrote → SubjectReply
+abbrev replyBack : SubjectInNumbers → SubjectReply
 replyBack w = if eqb (w .answer) 1 then written (w .number) else unwritten (w .number)
 
-reply-back : (r : SubjectReply) → replyBack (wroteFor r) ≡ r
+reply-back : (r : SubjectReply) → replyBack (hostWrittenFor r) ≡ r
 reply-back (written n) = refl
 reply-back (unwritten n) = refl
 
-pub reply-wrote : (r s : SubjectReply) → wroteFor r ≡ wroteFor s → r ≡ s
+pub reply-wrote : (r s : SubjectReply) → hostWrittenFor r ≡ hostWrittenFor s → r ≡ s
 reply-wrote r s e = sym (reply-back r) ∙ ap replyBack e ∙ reply-back s
 
 -- .. a verdict. No step has the number 0.
@@ -130,31 +130,31 @@ step-back RB3 = refl
 step-back KV3 = refl
 step-back CSRL1 = refl
 
-abbrev verdictBack : Judged → Reply
+abbrev verdictBack : VerdictInNumbers → DeskReply
 verdictBack j =
     if eqb (j .answer) 1 then accepting (record { approach = j .approach; protection = j .protection; recoverable = j .recoverable })
     else if eqb (j .answer) 2 then failing (getD steps (j .number) WV1)
     else refusing (j .number)
 
-verdict-back : (r : Reply) → verdictBack (judgedIn r) ≡ r
+verdict-back : (r : DeskReply) → verdictBack (hostVerdictFor r) ≡ r
 verdict-back (accepting a) = refl
 verdict-back (failing s) = ap failing (step-back s)
 verdict-back (refusing n) = refl
 
-pub verdict-judged : (r s : Reply) → judgedIn r ≡ judgedIn s → r ≡ s
+pub verdict-judged : (r s : DeskReply) → hostVerdictFor r ≡ hostVerdictFor s → r ≡ s
 verdict-judged r s e = sym (verdict-back r) ∙ ap verdictBack e ∙ verdict-back s
 
 -- .. a trimming's reply
-abbrev trimBack : Trimming → TrimReply
+abbrev trimBack : TrimInNumbers → TrimReply
 trimBack t =
     if eqb (t .answer) 1 then trimmed (t .number) (t .hints)
     else if eqb (t .answer) 2 then untrimmed (getD steps (t .number) WV1)
     else unread (t .number)
 
-trim-back : (r : TrimReply) → trimBack (trimmedFor r) ≡ r
+trim-back : (r : TrimReply) → trimBack (hostTrimmedFor r) ≡ r
 trim-back (trimmed m n) = refl
 trim-back (untrimmed s) = ap untrimmed (step-back s)
 trim-back (unread f) = refl
 
-pub reply-trimmed : (r s : TrimReply) → trimmedFor r ≡ trimmedFor s → r ≡ s
+pub reply-trimmed : (r s : TrimReply) → hostTrimmedFor r ≡ hostTrimmedFor s → r ≡ s
 reply-trimmed r s e = sym (trim-back r) ∙ ap trimBack e ∙ trim-back s

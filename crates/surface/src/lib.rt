@@ -3,12 +3,12 @@ ghost use mathlib.Core.Path.{_≡_};
 ghost use Rattle.refusals.specs.Refusals.{denialGroup};
 ghost use Rattle.listing.specs.Answers as answers;
 ghost use Rattle.desk.specs.Replies as replies;
-ghost use Rattle.charging.specs.Charges.{answerOf};
-ghost use Rattle.gate.specs.Outcomes.{outcomeOf};
-ghost use Rattle.cabinet.specs.Kept.{cabinetOutcomeOf};
+ghost use Rattle.charging.specs.Charges.{answerAs};
+ghost use Rattle.gate.specs.Outcomes.{outcomeAs};
+ghost use Rattle.cabinet.specs.Kept.{cabinetOutcomeAs};
 ghost use Rattle.subject.specs.Writing as writing;
 ghost use Rattle.trimming.specs.Trimming as tool;
-ghost use Rattle.surface.specs.Surface.{toldBy, answerCode, answerNumber, orNoGroup, answerGroup, toldFor, cabinetToldBy, cabinetToldFor, wroteBy, wroteFor, judgedBy, judgedIn, otherwise, listedBy, listingNumbers, listedFor, trimmedBy, trimNumbers, trimmedFor};
+ghost use Rattle.surface.specs.Surface.{hostOutcomeAs, answerCode, answerNumber, orNoGroup, answerGroup, hostOutcomeFor, hostCabinetOutcomeAs, hostCabinetOutcomeFor, hostWrittenAs, hostWrittenFor, hostVerdictAs, hostVerdictFor, notAccepted, hostListingAs, listingNumbers, hostListingFor, hostTrimmedAs, trimNumbers, hostTrimmedFor};
 use cabinet::Cabinet;
 use cabinet::CabinetOutcome;
 use charging::Reply;
@@ -77,7 +77,7 @@ pub struct HostTrimmed {
 
 // What a reply is, and its number.
 fn answer_code(reply: Reply) -> u64
-    ensures { λ r. ⌜ r ≡ answerCode (answerOf reply) ⌝ }
+    ensures { λ r. ⌜ r ≡ answerCode (answerAs reply) ⌝ }
 {
     match reply {
         Reply::Done => 0,
@@ -88,7 +88,7 @@ fn answer_code(reply: Reply) -> u64
 }
 
 fn answer_number(reply: Reply) -> u64
-    ensures { λ r. ⌜ r ≡ answerNumber (answerOf reply) ⌝ }
+    ensures { λ r. ⌜ r ≡ answerNumber (answerAs reply) ⌝ }
 {
     match reply {
         Reply::Done => 0,
@@ -112,7 +112,7 @@ fn nearest(d: Denial) -> u64
 
 // The group that a reply names.
 fn answer_group(reply: Reply) -> u64
-    ensures { λ r. ⌜ r ≡ answerGroup (answerOf reply) ⌝ }
+    ensures { λ r. ⌜ r ≡ answerGroup (answerAs reply) ⌝ }
 {
     match reply {
         Reply::Done => NO_GROUP,
@@ -123,8 +123,8 @@ fn answer_group(reply: Reply) -> u64
 }
 
 // An outcome as the host gets it.
-pub fn told(o: Outcome) -> HostOutcome
-    ensures { λ r. ⌜ toldBy r ≡ toldFor (outcomeOf o) ⌝ }
+pub fn host_outcome(o: Outcome) -> HostOutcome
+    ensures { λ r. ⌜ hostOutcomeAs r ≡ hostOutcomeFor (outcomeAs o) ⌝ }
 {
     let reply = o.reply;
     let ledger = o.ledger;
@@ -137,8 +137,8 @@ pub fn told(o: Outcome) -> HostOutcome
 }
 
 // An outcome of the cabinet as the host gets it.
-pub fn cabinet_told(o: CabinetOutcome) -> HostCabinetOutcome
-    ensures { λ r. ⌜ cabinetToldBy r ≡ cabinetToldFor (cabinetOutcomeOf o) ⌝ }
+pub fn host_cabinet_outcome(o: CabinetOutcome) -> HostCabinetOutcome
+    ensures { λ r. ⌜ hostCabinetOutcomeAs r ≡ hostCabinetOutcomeFor (cabinetOutcomeAs o) ⌝ }
 {
     let reply = o.reply;
     let cabinet = o.cabinet;
@@ -152,7 +152,7 @@ pub fn cabinet_told(o: CabinetOutcome) -> HostCabinetOutcome
 
 // An acceptance as the host gets it.
 fn acceptance(a: Acceptance) -> HostVerdict
-    ensures { λ r. ⌜ judgedBy r ≡ judgedIn (replies.accepting (replies.namedBy a)) ⌝ }
+    ensures { λ r. ⌜ hostVerdictAs r ≡ hostVerdictFor (replies.accepting (replies.acceptanceAs a)) ⌝ }
 {
     let protection = a.protection;
     HostVerdict {
@@ -165,8 +165,8 @@ fn acceptance(a: Acceptance) -> HostVerdict
 }
 
 // A verdict that is no acceptance.
-fn other(answer: u64, number: u64) -> HostVerdict
-    ensures { λ r. ⌜ judgedBy r ≡ otherwise answer number ⌝ }
+fn not_accepted(answer: u64, number: u64) -> HostVerdict
+    ensures { λ r. ⌜ hostVerdictAs r ≡ notAccepted answer number ⌝ }
 {
     HostVerdict {
         answer,
@@ -178,19 +178,19 @@ fn other(answer: u64, number: u64) -> HostVerdict
 }
 
 // A verdict as the host gets it.
-pub fn judged(v: Verdict) -> HostVerdict
-    ensures { λ r. ⌜ judgedBy r ≡ judgedIn (replies.replyOf v) ⌝ }
+pub fn host_verdict(v: Verdict) -> HostVerdict
+    ensures { λ r. ⌜ hostVerdictAs r ≡ hostVerdictFor (replies.verdictAs v) ⌝ }
 {
     match v {
         Verdict::Accepted(a) => acceptance(a),
-        Verdict::Failed(s) => other(2, steps::number(s)),
-        Verdict::Refused(why) => other(3, refusals::number(why) as u64),
+        Verdict::Failed(s) => not_accepted(2, steps::number(s)),
+        Verdict::Refused(why) => not_accepted(3, refusals::number(why) as u64),
     }
 }
 
 // What the subject writer answered.
-pub fn wrote(w: Written) -> HostWritten
-    ensures { λ r. ⌜ wroteBy r ≡ wroteFor (writing.replyOf w) ⌝ }
+pub fn host_written(w: Written) -> HostWritten
+    ensures { λ r. ⌜ hostWrittenAs r ≡ hostWrittenFor (writing.subjectReplyAs w) ⌝ }
 {
     match w {
         Written::Length(n) => HostWritten {
@@ -206,7 +206,7 @@ pub fn wrote(w: Written) -> HostWritten
 
 // A listing's reply in its three numbers.
 fn listing_numbers(answer: u64, number: u64, line: u64) -> HostListing
-    ensures { λ r. ⌜ listedBy r ≡ listingNumbers answer number line ⌝ }
+    ensures { λ r. ⌜ hostListingAs r ≡ listingNumbers answer number line ⌝ }
 {
     HostListing {
         answer,
@@ -216,8 +216,8 @@ fn listing_numbers(answer: u64, number: u64, line: u64) -> HostListing
 }
 
 // What the writer or the reader of listings answered.
-pub fn listed(reply: listing::Reply) -> HostListing
-    ensures { λ r. ⌜ listedBy r ≡ listedFor (answers.replyOf reply) ⌝ }
+pub fn host_listing(reply: listing::Reply) -> HostListing
+    ensures { λ r. ⌜ hostListingAs r ≡ hostListingFor (answers.listingReplyAs reply) ⌝ }
 {
     match reply {
         listing::Reply::Produced(n) => listing_numbers(1, n as u64, 0),
@@ -228,7 +228,7 @@ pub fn listed(reply: listing::Reply) -> HostListing
 
 // A trimming's reply in its three numbers.
 fn trim_numbers(answer: u64, number: u64, hints: u64) -> HostTrimmed
-    ensures { λ r. ⌜ trimmedBy r ≡ trimNumbers answer number hints ⌝ }
+    ensures { λ r. ⌜ hostTrimmedAs r ≡ trimNumbers answer number hints ⌝ }
 {
     HostTrimmed {
         answer,
@@ -238,8 +238,8 @@ fn trim_numbers(answer: u64, number: u64, hints: u64) -> HostTrimmed
 }
 
 // What the trimming tool answered.
-pub fn trimmed(reply: TrimReply) -> HostTrimmed
-    ensures { λ r. ⌜ trimmedBy r ≡ trimmedFor (tool.replyOf reply) ⌝ }
+pub fn host_trimmed(reply: TrimReply) -> HostTrimmed
+    ensures { λ r. ⌜ hostTrimmedAs r ≡ hostTrimmedFor (tool.trimReplyAs reply) ⌝ }
 {
     match reply {
         TrimReply::Trimmed(m, n) => trim_numbers(1, m as u64, n as u64),

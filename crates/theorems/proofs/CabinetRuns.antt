@@ -15,7 +15,7 @@ use Rattle.rules.specs.Numbers.{noSlot}
 use Rattle.rules.specs.Basics.{Bytes, Every, records}
 use Rattle.rules.specs.Request.{Certificate}
 use Rattle.rules.specs.Ledger.{Ledger}
-use Rattle.rules.specs.Runs.{withRow, askGate, answerOf, Ran, asked, requestsIn, runFault, RunOutcome, ran, refusedWhole, runEnd, run}
+use Rattle.rules.specs.Runs.{withRow, askGate, bytesOfAnswer, Ran, askedInOrder, requestsIn, runFault, RunOutcome, ran, refusedWhole, runEnd, run}
 use Rattle.rules.specs.Prepared.{Form, preparedFault, preparedRun}
 use Rattle.rules.specs.Cabinet.{Slot, Cabinet, countsAndTimes, emptySlot, slotAt, ledgerAt, putBack}
 use Rattle.rules.specs.CabinetRuns.{runInSlot, cabinetRun, cabinetPreparedRun}
@@ -29,7 +29,7 @@ use Rattle.theorems.proofs.Prepared.{prepared-run}
 -- the answers of a sequence of calls, eight bytes each
 unfoldable pub answersOf : Cabinet → List CabinetCall → Bytes
 answersOf c [] = []
-answersOf c (x ∷ xs) = answerOf (cabinetOutcome c x .answer) ++ answersOf (cabinetAfter c x) xs
+answersOf c (x ∷ xs) = bytesOfAnswer (cabinetOutcome c x .answer) ++ answersOf (cabinetAfter c x) xs
 
 -- a ledger put back over another
 put-over : (c : Cabinet) (slot : ℕ) (l m : Ledger) → putBack (putBack c slot l) slot m ≡ putBack c slot m
@@ -46,9 +46,9 @@ module _ (slot : ℕ) (km0 acl : Bytes) (row : List Certificate) where
 
   module _ (h : slot < slotsMax) where
     asked-at : (c : Cabinet) (rs : List Bytes) → length (c .slots) ≡ slotsMax
-        → (cabinetAfterAll c (map callOf rs) ≡ putBack c slot (asked (askGate km0 acl row) (ledgerAt c slot) rs .ledger))
-        × (answersOf c (map callOf rs) ≡ asked (askGate km0 acl row) (ledgerAt c slot) rs .answers)
-    unfolding asked cabinetAfterAll answersOf outcome
+        → (cabinetAfterAll c (map callOf rs) ≡ putBack c slot (askedInOrder (askGate km0 acl row) (ledgerAt c slot) rs .ledger))
+        × (answersOf c (map callOf rs) ≡ askedInOrder (askGate km0 acl row) (ledgerAt c slot) rs .answers)
+    unfolding askedInOrder cabinetAfterAll answersOf outcome
     asked-at c [] n = (sym (put-back c slot), refl)
     asked-at c (r ∷ rs) n =
         let x = callOf r in
@@ -56,16 +56,16 @@ module _ (slot : ℕ) (km0 acl : Bytes) (row : List Certificate) where
         let o = ask (ledgerAt c slot) r in
         let g = as-the-gate c x slot n refl h in
         let i = asked-at (cabinetAfter c x) rs (slots-kept c x ∙ n) in
-        let e : asked ask (ledgerAt (cabinetAfter c x) slot) rs ≡ asked ask (o .ledger) rs = ap (λ (l : Ledger). asked ask l rs) (g .1) in
+        let e : askedInOrder ask (ledgerAt (cabinetAfter c x) slot) rs ≡ askedInOrder ask (o .ledger) rs = ap (λ (l : Ledger). askedInOrder ask l rs) (g .1) in
         let d : cabinetAfter c x ≡ putBack c slot (o .ledger) = ap (λ (y : _). y .cabinet) (inside c x slot refl h) in
-        let p : putBack (cabinetAfter c x) slot (asked ask (o .ledger) rs .ledger) ≡ putBack c slot (asked ask (o .ledger) rs .ledger) = ap (λ (k : Cabinet). putBack k slot (asked ask (o .ledger) rs .ledger)) d ∙ put-over c slot (o .ledger) (asked ask (o .ledger) rs .ledger) in (
+        let p : putBack (cabinetAfter c x) slot (askedInOrder ask (o .ledger) rs .ledger) ≡ putBack c slot (askedInOrder ask (o .ledger) rs .ledger) = ap (λ (k : Cabinet). putBack k slot (askedInOrder ask (o .ledger) rs .ledger)) d ∙ put-over c slot (o .ledger) (askedInOrder ask (o .ledger) rs .ledger) in (
           i .0 ∙ ap (λ (y : Ran). putBack (cabinetAfter c x) slot (y .ledger)) e ∙ p,
-          ap₂ (λ (a b : Bytes). a ++ b) (ap answerOf (g .0)) (i .1 ∙ ap (λ (y : Ran). y .answers) e),
+          ap₂ (λ (a b : Bytes). a ++ b) (ap bytesOfAnswer (g .0)) (i .1 ∙ ap (λ (y : Ran). y .answers) e),
         )
 
     -- what a run comes to by its fault
     ended : (c : Cabinet) (requests buffer : Bytes) → length (c .slots) ≡ slotsMax → (o : RunOutcome)
-        → o ≡ runEnd (ledgerAt c slot) requests buffer none (asked (askGate km0 acl row) (ledgerAt c slot) (records requests))
+        → o ≡ runEnd (ledgerAt c slot) requests buffer none (askedInOrder (askGate km0 acl row) (ledgerAt c slot) (records requests))
         → runInSlot c slot buffer o
         ≡ record { reply = ran (requestsIn requests); cabinet = cabinetAfterAll c (callsOf requests); buffer = answersOf c (callsOf requests) ++ drop (length (answersOf c (callsOf requests))) buffer }
     ended c requests buffer n o e =

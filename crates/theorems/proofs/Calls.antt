@@ -13,7 +13,7 @@ use Rattle.rules.specs.Acl.{Group, aclOf}
 use Rattle.rules.specs.Request.{Request, requestOf, Hint, hintsOf}
 use Rattle.rules.specs.Ledger.{Ledger, charge, loadedAt, cleared, recounted, carried}
 use Rattle.rules.specs.Narrow.{narrows}
-use Rattle.rules.specs.Gate.{Outcome, numberOf, nearest, Judgement, granted, denied, judge, grants, refusedNear, permitted, finished, unlessFault, settle, requestFiles, request, clear, narrowFiles, narrowed, narrow, expandFiles, expanded, expand}
+use Rattle.rules.specs.Gate.{Outcome, numberOf, nearest, Judgement, granted, denied, judge, grants, refusedNear, permitted, finished, outcomeUnless, settle, requestFiles, request, clear, narrowFiles, narrowed, narrow, expandFiles, expanded, expand}
 use Rattle.rules.proofs.Few.{narrow-few}
 use Rattle.theorems.specs.Demands.{Call, requesting, loading, clearing, narrowing, expanding, State, outcome}
 use Rattle.theorems.proofs.Permit.{granted-is, called}
@@ -36,7 +36,7 @@ called-comes : (s : State) (c : Call) (fault : Option ℕ) (km0 : Bytes) (q : Re
     → Comes s c (called fault (s .ledger) km0 (aclOf (s .acl)) q onPermit)
 called-comes s c fault km0 q onPermit f = pick fault refl (judge (s .ledger) km0 (aclOf (s .acl)) q) refl
   where
-    pick : (o : Option ℕ) → fault ≡ o → (j : Judgement) → judge (s .ledger) km0 (aclOf (s .acl)) q ≡ j → Comes s c (unlessFault (s .ledger) o (settle (s .ledger) (q .time) onPermit j))
+    pick : (o : Option ℕ) → fault ≡ o → (j : Judgement) → judge (s .ledger) km0 (aclOf (s .acl)) q ≡ j → Comes s c (outcomeUnless (s .ledger) o (settle (s .ledger) (q .time) onPermit j))
     pick (some x) p j e = refuses x none
     pick none p (granted k g) e = let r = granted-is (s .ledger) km0 (aclOf (s .acl)) q k g e in f k g p (r .0) (r .1)
     pick none p (denied d) e = refuses (numberOf d) (nearest d)

@@ -23,7 +23,7 @@ use Rattle.rules.specs.Gate.{permit, tooEarly, grants, requestFiles, request}
 use Rattle.rules.specs.Written.{Octets, tokenBytes, blobRequestBytes, certificateBytes}
 use Rattle.rules.specs.Runs.{withRow, mechanismNamed}
 use Rattle.rules.specs.Bundle.{field}
-use Rattle.rules.specs.Desk.{Grade, Acceptance, approach2, Verdict, accepted, WB1, WB2, WB6, moduleKey, blobFailure, failureUnder, officersGroup, groupFailure, actionProtection, smallest, keyProtection, gradeOf, desk, deskFault, unlessFaulty, attested, actionFailure, blobProtection}
+use Rattle.rules.specs.Desk.{Grade, Acceptance, approach2, Verdict, accepted, WB1, WB2, WB6, moduleKey, blobFailure, failureUnder, officersGroup, groupFailure, actionProtection, smallest, keyProtection, gradeOf, desk, deskFault, verdictUnless, attested, actionFailure, blobProtection}
 use Rattle.theorems.specs.Exhibit.{IfBlob, EveryBlob, mixed, namedOr1, Presentable, servedBy, presentedTo, certificatesFor, blobRequestFile, BlobPermitted}
 use Rattle.rules.proofs.Laws.{never, and-left, and-right, and-both, or-cases, or-left, or-right, implied, not-both, every-at, every-map, every-zip, any-here, same-eq, eq-same, same-refl, bothSame-eq, bothSame-at, unless-passed, fault-none-every, fault-none-map}
 use Rattle.rules.proofs.Joined.{Whole}
@@ -252,7 +252,7 @@ module _ (w : WorkingBlob) (time : ℕ) (cs : List Certificate) (k : length (w .
       ∙ rw (blob-wanted w time k fit, blob-time w time k fit)
 
 -- What an acceptance under approach 2 says of the files and the grade.
-no-fault : (f : Option ℕ) (v : Verdict) (a : Acceptance) → unlessFaulty f v ≡ accepted a → f ≡ none
+no-fault : (f : Option ℕ) (v : Verdict) (a : Acceptance) → verdictUnless f v ≡ accepted a → f ≡ none
 no-fault none v a e = refl
 no-fault (some f) v a e = absurd (never (cc))
 

@@ -15,7 +15,7 @@ use Rattle.rules.specs.Request.{Request, requestOf, hintsOf}
 use Rattle.rules.specs.Ledger.{Ledger, charge}
 use Rattle.rules.specs.Grant.{groupAdmits, certified, limitLeft, limitsLeft}
 use Rattle.rules.specs.Narrow.{narrows}
-use Rattle.rules.specs.Gate.{Outcome, Lowest, group, lowest, early, Judgement, granted, denied, tooEarly, grants, whyNot, judgedBy, judge, permitted, unlessFault, settle, requestFiles, request, clear, narrowFiles, narrowed, narrow, expandFiles, expanded, expand}
+use Rattle.rules.specs.Gate.{Outcome, Lowest, group, lowest, early, Judgement, granted, denied, tooEarly, grants, whyNot, judgedBy, judge, permitted, outcomeUnless, settle, requestFiles, request, clear, narrowFiles, narrowed, narrow, expandFiles, expanded, expand}
 use Rattle.rules.specs.Cabinet.{Slot, countsAndTimes, ledgerWith}
 use Rattle.theorems.specs.Demands.{Call, requesting, loading, clearing, narrowing, expanding, outcome, names, oneOf}
 use Rattle.theorems.specs.Cabinets.{countersNamed, countersIn}
@@ -88,10 +88,10 @@ module _ (s : Slot) (a b : List ℕ) where
       → ((k : ℕ) (g : Group) → Alike (onPermit k (charge (ledgerWith s a) k g (q .time))) (onPermit' k (charge (ledgerWith s b) k g (q .time))))
       → Alike (called fault (ledgerWith s a) km0 gs q onPermit) (called fault (ledgerWith s b) km0 gs q onPermit')
   called-alike fault km0 gs q onPermit onPermit' h f =
-      subst (λ (j : Judgement). Alike (unlessFault (ledgerWith s a) fault (settle (ledgerWith s a) (q .time) onPermit j)) (called fault (ledgerWith s b) km0 gs q onPermit'))
+      subst (λ (j : Judgement). Alike (outcomeUnless (ledgerWith s a) fault (settle (ledgerWith s a) (q .time) onPermit j)) (called fault (ledgerWith s b) km0 gs q onPermit'))
       (sym (judge-agrees a b s km0 q gs h)) (pick fault (judge (ledgerWith s b) km0 gs q))
     where
-      pick : (o : Option ℕ) (j : Judgement) → Alike (unlessFault (ledgerWith s a) o (settle (ledgerWith s a) (q .time) onPermit j)) (unlessFault (ledgerWith s b) o (settle (ledgerWith s b) (q .time) onPermit' j))
+      pick : (o : Option ℕ) (j : Judgement) → Alike (outcomeUnless (ledgerWith s a) o (settle (ledgerWith s a) (q .time) onPermit j)) (outcomeUnless (ledgerWith s b) o (settle (ledgerWith s b) (q .time) onPermit' j))
       pick (some x) j = record { answers = refl; slots = refl }
       pick none (granted k g) = f k g
       pick none (denied d) = record { answers = refl; slots = refl }

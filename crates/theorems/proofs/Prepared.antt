@@ -15,8 +15,8 @@ use Rattle.rules.specs.Basics.{Bytes, Every, setOf, number, unless, records}
 use Rattle.rules.specs.Acl.{Group, announcesFile, aclOf, aclFault}
 use Rattle.rules.specs.Request.{Certificate, requestLaidOut, standsAlone, requestRecordFault}
 use Rattle.rules.specs.Ledger.{Ledger}
-use Rattle.rules.specs.Gate.{judge, permitted, unlessFault, settle}
-use Rattle.rules.specs.Runs.{requestWith, askGate, asked, runFault, runEnd, run}
+use Rattle.rules.specs.Gate.{judge, permitted, outcomeUnless, settle}
+use Rattle.rules.specs.Runs.{requestWith, askGate, askedInOrder, runFault, runEnd, run}
 use Rattle.rules.specs.Prepared.{Form, formOf, formJudge, askForm, sameForm, preparedFault, preparedRun}
 use Rattle.rules.proofs.Laws.{and-left, and-right, same-eq, unless-passed, fault-none-every}
 use Rattle.rules.proofs.Rows.{records-sized}
@@ -39,8 +39,8 @@ unfolding askForm requestRecordFault
 ask-form km0 acl row s l r n = pick (standsAlone r) refl ∙ sym (ask-gate km0 acl row s l r n)
   where
     pick : (b : Bool) → standsAlone r ≡ b
-        → unlessFault l (unless (standsAlone r) malformed) (settle l (number 56 8 r) permitted (formJudge (formOf (aclOf acl)) l km0 (aclOf acl) (requestWith r row)))
-        ≡ unlessFault l (unless (standsAlone r) malformed) (settle l (number 56 8 r) permitted (judge l km0 (aclOf acl) (requestWith r row)))
+        → outcomeUnless l (unless (standsAlone r) malformed) (settle l (number 56 8 r) permitted (formJudge (formOf (aclOf acl)) l km0 (aclOf acl) (requestWith r row)))
+        ≡ outcomeUnless l (unless (standsAlone r) malformed) (settle l (number 56 8 r) permitted (judge l km0 (aclOf acl) (requestWith r row)))
     pick true e = rw (form-judge l km0 (aclOf acl) (requestWith r row) (known-wanted r none (alone-laid-out r e)))
     pick false e = rw e
 
@@ -65,12 +65,12 @@ sounded km0 acl row f requests buffer d e =
 -- allows; nothing else is asked of any input.
 pub prepared-run : (l : Ledger) (km0 acl : Bytes) (row : List Certificate) (f : Form) (requests buffer : Bytes) → Every Decoded row
     → preparedRun l km0 acl row f requests buffer
-    ≡ runEnd l requests buffer (preparedFault km0 acl row f requests buffer) (asked (askGate km0 acl row) l (records requests))
+    ≡ runEnd l requests buffer (preparedFault km0 acl row f requests buffer) (askedInOrder (askGate km0 acl row) l (records requests))
 unfolding preparedRun
 prepared-run l km0 acl row f requests buffer d = pick (preparedFault km0 acl row f requests buffer) refl
   where
     pick : (o : Option ℕ) → preparedFault km0 acl row f requests buffer ≡ o
-        → runEnd l requests buffer o (asked (askForm f km0 (aclOf acl) row) l (records requests)) ≡ runEnd l requests buffer o (asked (askGate km0 acl row) l (records requests))
+        → runEnd l requests buffer o (askedInOrder (askForm f km0 (aclOf acl) row) l (records requests)) ≡ runEnd l requests buffer o (askedInOrder (askGate km0 acl row) l (records requests))
     pick (some n) e = refl
     pick none e = let a = sounded km0 acl row f requests buffer d e in rw (a .1, asked-alike (askForm (formOf (aclOf acl)) km0 (aclOf acl) row) (askGate km0 acl row) l (records requests) (records-sized requests) (ask-form km0 acl row (a .0)))
 

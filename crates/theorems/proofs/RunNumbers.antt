@@ -13,8 +13,8 @@ use Rattle.rules.specs.Basics.{Bytes, all, any, fileFault, records, fits}
 use Rattle.rules.specs.Acl.{aclOf, aclFault}
 use Rattle.rules.specs.Request.{Certificate}
 use Rattle.rules.specs.Ledger.{Ledger}
-use Rattle.rules.specs.Runs.{withRow, askGate, Ran, asked, requestsIn, runLengthsFit, mechanismNamed, runFault, refusedWhole, runEnd, run}
-use Rattle.rules.specs.Prepared.{Form, formOf, sameForm, askForm, unprepared, unlessBadAcl, prepare, preparedFault, preparedRun}
+use Rattle.rules.specs.Runs.{withRow, askGate, Ran, askedInOrder, requestsIn, runLengthsFit, mechanismNamed, runFault, refusedWhole, runEnd, run}
+use Rattle.rules.specs.Prepared.{Form, formOf, sameForm, askForm, unprepared, preparationUnless, prepare, preparedFault, preparedRun}
 use Rattle.rules.proofs.Laws.{never}
 use Rattle.theorems.specs.Demands.{oneOf}
 use Rattle.theorems.proofs.Refusals.{FaultIn, unless-in, first-in, acl-in, RefusalIn, requestNumbers, fileNumbers, request-number}
@@ -50,7 +50,7 @@ refused-fault ns l requests buffer (some f) o h n e = let q : f ≡ n = cc in h 
 pub run-number : (l : Ledger) (km0 acl : Bytes) (row : List Certificate) (requests buffer : Bytes) (n : ℕ) → run l km0 acl row requests buffer .reply ≡ refusedWhole n → oneOf runNumbers n ≡ true
 unfolding run oneOf any
 run-number l km0 acl row requests buffer n e =
-    refused-fault runNumbers l requests buffer (runFault runRecords km0 acl row requests buffer) (asked (askGate km0 acl row) l (records requests))
+    refused-fault runNumbers l requests buffer (runFault runRecords km0 acl row requests buffer) (askedInOrder (askGate km0 acl row) l (records requests))
     (run-fault-in runNumbers refl refl refl refl refl runRecords km0 acl row requests buffer) n e
 
 pub prepared-number : (l : Ledger) (km0 acl : Bytes) (row : List Certificate) (f : Form) (requests buffer : Bytes) (n : ℕ) → preparedRun l km0 acl row f requests buffer .reply ≡ refusedWhole n
@@ -58,7 +58,7 @@ pub prepared-number : (l : Ledger) (km0 acl : Bytes) (row : List Certificate) (f
 unfolding preparedRun preparedFault oneOf any
 prepared-number l km0 acl row f requests buffer n e =
     let ns = preparedNumbers in
-    refused-fault ns l requests buffer (preparedFault km0 acl row f requests buffer) (asked (askForm f km0 (aclOf acl) row) l (records requests))
+    refused-fault ns l requests buffer (preparedFault km0 acl row f requests buffer) (askedInOrder (askForm f km0 (aclOf acl) row) l (records requests))
     (first-in ns _ (run-fault-in ns refl refl refl refl refl preparedRecords km0 acl row requests buffer, (unless-in ns (sameForm f (formOf (aclOf acl))) otherForm refl, tt))) n e
 
 -- The making of a form: the ACL's 1, 2, 3 and 12.
@@ -68,7 +68,7 @@ prepare-number acl n e =
     let ns = fileNumbers in
     pick (fileFault aclRecords aclFault acl) (first-in ns _ (unless-in ns (fits aclRecords acl) badLength refl, (acl-in ns refl refl refl (records acl), tt))) e
   where
-    pick : (f : Option ℕ) → FaultIn fileNumbers f → unlessBadAcl f (formOf (aclOf acl)) ≡ unprepared n → oneOf fileNumbers n ≡ true
+    pick : (f : Option ℕ) → FaultIn fileNumbers f → preparationUnless f (formOf (aclOf acl)) ≡ unprepared n → oneOf fileNumbers n ≡ true
     pick none h d = absurd (never (cc))
     pick (some f) h d = let q : f ≡ n = cc in h n (ap some q)
 

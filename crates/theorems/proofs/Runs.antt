@@ -12,7 +12,7 @@ use Rattle.rules.specs.Basics.{Bytes, records}
 use Rattle.rules.specs.Request.{Certificate, standsAlone, requestRecordFault}
 use Rattle.rules.specs.Ledger.{Ledger}
 use Rattle.rules.specs.Gate.{refuse, refused}
-use Rattle.rules.specs.Runs.{withRow, askGate, Ran, answeredFirst, asked, requestsIn, runFault, ran, refusedWhole, runEnd, run}
+use Rattle.rules.specs.Runs.{withRow, askGate, Ran, answeredFirst, askedInOrder, requestsIn, runFault, ran, refusedWhole, runEnd, run}
 use Rattle.rules.proofs.Laws.{never}
 use Rattle.rules.proofs.Asking.{Sound, ask-gate}
 use Rattle.theorems.specs.Demands.{requesting, outcome}
@@ -20,7 +20,7 @@ use Rattle.theorems.proofs.Demand1.{refused-ledger}
 
 -- "The answers and ledger of a run not refused whole equal those of asking one by one in order"; "bytes past the last answer stay"
 pub run-one-by-one : (l : Ledger) (km0 acl : Bytes) (row : List Certificate) (requests buffer : Bytes) → runFault runRecords km0 acl row requests buffer ≡ none
-    → let o = asked (askGate km0 acl row) l (records requests) in
+    → let o = askedInOrder (askGate km0 acl row) l (records requests) in
     (run l km0 acl row requests buffer .reply ≡ ran (requestsIn requests))
     × (run l km0 acl row requests buffer .ledger ≡ o .ledger)
     × (run l km0 acl row requests buffer .buffer ≡ o .answers ++ drop (length (o .answers)) buffer)
@@ -29,8 +29,8 @@ run-one-by-one l km0 acl row requests buffer e = rw e (refl, refl, refl)
 
 -- "a refusal in the middle changes nothing and the run goes on"
 pub refusal-goes-on : (km0 acl : Bytes) (row : List Certificate) (l : Ledger) (r : Bytes) (rs : List Bytes) (n : ℕ) (near : Option ℕ) → askGate km0 acl row l r .answer ≡ refuse n near
-    → asked (askGate km0 acl row) l (r ∷ rs) ≡ answeredFirst (refuse n near) (asked (askGate km0 acl row) l rs)
-unfolding asked outcome
+    → askedInOrder (askGate km0 acl row) l (r ∷ rs) ≡ answeredFirst (refuse n near) (askedInOrder (askGate km0 acl row) l rs)
+unfolding askedInOrder outcome
 refusal-goes-on km0 acl row l r rs n near e =
     let q : askGate km0 acl row l r .ledger ≡ l = refused-ledger (record { ledger = l; acl = acl }) (requesting km0 (withRow r row)) n near e in
     rw (e, q)

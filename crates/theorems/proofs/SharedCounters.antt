@@ -30,35 +30,35 @@ slot-clears counter (narrowingAt slot km0 acl req new hints) k e = refl
 slot-clears counter (expandingAt slot km0 acl req new) k e = refl
 
 -- What an answer and the table after it have to do with a counter, and with the length of the table.
-abbrev Told : ℕ → Cabinet → CabinetCall → Answer → List ℕ → Type 0
-Told counter c x answer after =
+abbrev CounterAfter : ℕ → Cabinet → CabinetCall → Answer → List ℕ → Type 0
+CounterAfter counter c x answer after =
     let n = getD (c .counters) counter 0 in
     (getD after counter 0 ≡ (if clears counter (gateCall x) then 0 else if namedBy counter (chargedIn (aclOf (lentIn x)) answer) then n + 1 else n))
     × (length after ≡ length (c .counters))
 
 -- .. an outcome of the cabinet
-abbrev ToldBy : ℕ → Cabinet → CabinetCall → CabinetOutcome → Type 0
-ToldBy counter c x r = Told counter c x (r .answer) (r .cabinet .counters)
+abbrev CounterAfterCall : ℕ → Cabinet → CabinetCall → CabinetOutcome → Type 0
+CounterAfterCall counter c x r = CounterAfter counter c x (r .answer) (r .cabinet .counters)
 
 module _ (counter : ℕ) (c : Cabinet) (x : CabinetCall) (b : counter < countersMax) (h : counter < length (c .counters)) where
   -- in a slot
-  told-slot : (k : ℕ) → slotIn x ≡ some k → (t : Bool) → ltb k slotsMax ≡ t → ToldBy counter c x (inSlot c k (gateOutcome (ledgerAt c k) x))
-  told-slot k e true t = rw t (called-counter counter (record { ledger = ledgerAt c k; acl = lentIn x }) (gateCall x) b h)
-  told-slot k e false t = rw (t, slot-clears counter x k e) (refl, refl)
+  counter-after-slot : (k : ℕ) → slotIn x ≡ some k → (t : Bool) → ltb k slotsMax ≡ t → CounterAfterCall counter c x (inSlot c k (gateOutcome (ledgerAt c k) x))
+  counter-after-slot k e true t = rw t (called-counter counter (record { ledger = ledgerAt c k; acl = lentIn x }) (gateCall x) b h)
+  counter-after-slot k e false t = rw (t, slot-clears counter x k e) (refl, refl)
 
 -- one call
-told : (counter : ℕ) (c : Cabinet) (x : CabinetCall) → counter < countersMax → counter < length (c .counters) → ToldBy counter c x (cabinetOutcome c x)
+counter-after : (counter : ℕ) (c : Cabinet) (x : CabinetCall) → counter < countersMax → counter < length (c .counters) → CounterAfterCall counter c x (cabinetOutcome c x)
 unfolding outcome
-told counter c x b h = pick (kinds x)
+counter-after counter c x b h = pick (kinds x)
   where
-    clearing : (n : ℕ) → ToldBy counter c (clearingAll n) (cabinetOutcome c (clearingAll n))
+    clearing : (n : ℕ) → CounterAfterCall counter c (clearingAll n) (cabinetOutcome c (clearingAll n))
     clearing n =
         let r = called-counter counter (record { ledger = ledgerAt c 0; acl = [] }) (gateCall (clearingAll n)) b h in
         let a = clears-everywhere c n 0 in
-        subst₂ (Told counter c (clearingAll n)) (sym (a .0)) (sym (ap (λ (l : Ledger). l .counters) (a .1))) r
+        subst₂ (CounterAfter counter c (clearingAll n)) (sym (a .0)) (sym (ap (λ (l : Ledger). l .counters) (a .1))) r
 
-    pick : ((k : ℕ) × (slotIn x ≡ some k)) ⊎ ((n : ℕ) × (x ≡ clearingAll n)) → ToldBy counter c x (cabinetOutcome c x)
-    pick (inl p) = subst (ToldBy counter c x) (sym (in-slot c x (p .0) (p .1))) (told-slot counter c x b h (p .0) (p .1) (ltb (p .0) slotsMax) refl)
+    pick : ((k : ℕ) × (slotIn x ≡ some k)) ⊎ ((n : ℕ) × (x ≡ clearingAll n)) → CounterAfterCall counter c x (cabinetOutcome c x)
+    pick (inl p) = subst (CounterAfterCall counter c x) (sym (in-slot c x (p .0) (p .1))) (counter-after-slot counter c x b h (p .0) (p .1) (ltb (p .0) slotsMax) refl)
     pick (inr p) = rw (p .1) (clearing (p .0))
 
 tallied : (counter : ℕ) (c : Cabinet) (n : ℕ) (xs : List CabinetCall) → counter < countersMax → counter < length (c .counters) → getD (c .counters) counter 0 ≡ n
@@ -66,7 +66,7 @@ tallied : (counter : ℕ) (c : Cabinet) (n : ℕ) (xs : List CabinetCall) → co
 unfolding cabinetAfterAll cabinetTally
 tallied counter c n [] b h e = e
 tallied counter c n (x ∷ xs) b h e =
-    let r = told counter c x b h in
+    let r = counter-after counter c x b h in
     tallied counter (cabinetAfter c x) (cabinetCounted counter c x n) xs b (rw (r .1) h) (r .0 ∙ ap (cabinetCounted counter c x) e)
 
 -- Demand 2, the counters. "The counter sentence of demand 2 now counts permits over all slots, from a fresh cabinet."

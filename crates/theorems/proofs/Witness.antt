@@ -17,7 +17,7 @@ use Rattle.rules.specs.Bundle.{policyOf}
 use Rattle.rules.specs.Desk.{Grade, approach2, accepted, classOf, policyAdmits, desk, blobProtection}
 use Rattle.rules.proofs.Computing.{computing}
 use Rattle.rules.proofs.Samples.{rec, timed, hash, openGroup, limited, sign, decrypt, certificate, signLink, decryptLink, reduce, hint, hintTo, bundle, blob, cardset, softcard, archive, delegation, storedArchive, onDevices, recovery, storedRecovery}
-use Rattle.theorems.specs.Demands.{Call, requesting, loading, clearing, narrowing, State, outcome, after, byOfficer, officerSigned, asked, Allowed, EveryPermit}
+use Rattle.theorems.specs.Demands.{Call, requesting, loading, clearing, narrowing, State, outcome, after, byOfficer, officerSigned, wantedIn, Allowed, EveryPermit}
 use Rattle.theorems.specs.Account.{AllPutDown, isExpansion}
 use Rattle.theorems.specs.Exhibit.{certificatesFor, blobRequestFile, BlobPermitted}
 use Rattle.theorems.proofs.Demand3.{demand-3}
@@ -85,7 +85,7 @@ unfolding outcome after byOfficer computing
 witness = (refl, refl, refl, refl, refl, refl, refl)
 
 -- .. and so demand 3 covers what they are permitted.
-pub witness-covered : EveryPermit (λ s c. Allowed (records bundle) grade (asked c)) start calls
+pub witness-covered : EveryPermit (λ s c. Allowed (records bundle) grade (wantedIn c)) start calls
 unfolding byOfficer computing
 witness-covered =
     demand-3 bundle useful grade (witness .0) freshLedger calls (refl, (refl, (refl, (refl, (refl, (refl, (refl, (refl, (refl, (refl, (refl, tt)))))))))))

@@ -13,7 +13,7 @@ use Rattle.rules.specs.Ledger.{Ledger}
 use Rattle.rules.specs.Gate.{Answer, permit, Outcome}
 use Rattle.rules.specs.Desk.{Grade}
 use Rattle.rules.specs.Cabinet.{Slot, Cabinet, CabinetOutcome, slotAt, cabinetRequest, cabinetLoad, cabinetClear, cabinetNarrow, cabinetExpand}
-use Rattle.theorems.specs.Demands.{Call, requesting, loading, clearing, narrowing, expanding, outcome, replacement, inForce, asked, officerSigned, Allowed, chargedIn, namedBy, clears}
+use Rattle.theorems.specs.Demands.{Call, requesting, loading, clearing, narrowing, expanding, outcome, replacement, inForce, wantedIn, officerSigned, Allowed, chargedIn, namedBy, clears}
 
 -- A call of the cabinet, with the bytes and numbers that the host gives it, and the ACL that the host lends.
 pub data CabinetCall : Type 0 where
@@ -143,4 +143,4 @@ Unsigned b t = officerSigned b (gateCall (t .call)) ≡ false
 
 -- what is permitted is what the verdict allows
 abbrev pub PermitAllowed : List Bytes → Grade → Turn → Type 0
-PermitAllowed b v t = (place : ℕ) → t .answer ≡ permit place → Allowed b v (asked (gateCall (t .call)))
+PermitAllowed b v t = (place : ℕ) → t .answer ≡ permit place → Allowed b v (wantedIn (gateCall (t .call)))

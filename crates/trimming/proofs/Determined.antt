@@ -5,7 +5,7 @@ use Rattle.refusals.proofs.Determined.{refusalBack, refusal-back}
 use Rattle.desk.proofs.Determined.{stepBack, step-back}
 use Rattle.trimming.specs.declared.TrimReply.{TrimReply}
 use Rattle.trimming.specs.declared.TrimReply.the-variants.{Trimmed, Failed, Refused}
-use Rattle.trimming.specs.Trimming.{replyOf}
+use Rattle.trimming.specs.Trimming.{trimReplyAs}
 
 -- what each answer stands for
 abbrev replyBack : rules.TrimReply → TrimReply
@@ -14,10 +14,10 @@ replyBack (rules.untrimmed s) = Failed (stepBack s)
 replyBack (rules.unread n) = Refused (refusalBack n)
 
 -- .. it is what was read
-reply-back : (r : TrimReply) → replyBack (replyOf r) ≡ r
+reply-back : (r : TrimReply) → replyBack (trimReplyAs r) ≡ r
 reply-back (Trimmed m n) = refl
 reply-back (Failed s) = ap Failed (step-back s)
 reply-back (Refused r) = ap Refused (refusal-back r)
 
-pub determined : (r s : TrimReply) → replyOf r ≡ replyOf s → r ≡ s
+pub determined : (r s : TrimReply) → trimReplyAs r ≡ trimReplyAs s → r ≡ s
 determined r s e = sym (reply-back r) ∙ ap replyBack e ∙ reply-back s

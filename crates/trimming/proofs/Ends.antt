@@ -19,7 +19,7 @@ use Rattle.rules.proofs.Joined.{Whole, joined-length}
 use Rattle.rules.proofs.Places.{aclFrom}
 use Rattle.rules.proofs.Written.{hint-whole}
 use Rattle.rules.proofs.Trim.{group-places, roomy, fault-refused, fault-step, fault-short, fault-none}
-use Rattle.subject.specs.Writing.{over}
+use Rattle.subject.specs.Writing.{overwritten}
 
 -- Each hint has 64 bytes.
 hints-whole : (b : List Bytes) (place : ℕ) (s : AclPlace) (rs : List Bytes) → aclFrom s rs ≡ none → Every Whole (hintsFrom b place rs)
@@ -75,8 +75,8 @@ module _ (bundle acl new hints : Bytes) where
       ends-short-hints l h =
           short (rw (le-leb (length (trimmedAcl (records bundle) acl)) (length new) (omega (arith, is .0)), lt-leb (length (trimHints (records bundle) acl)) (length hints) (omega (arith, hints-is))))
 
-      pub ends-written : (x y : Bytes) → n ≤ length new → m ≤ length hints → x ≡ over (trimmedAcl (records bundle) acl) new → y ≡ over (trimHints (records bundle) acl) hints → Ends (trimmed n m) x y
-      unfolding trimReply trimAclBuffer trimHintBuffer over
+      pub ends-written : (x y : Bytes) → n ≤ length new → m ≤ length hints → x ≡ overwritten (trimmedAcl (records bundle) acl) new → y ≡ overwritten (trimHints (records bundle) acl) hints → Ends (trimmed n m) x y
+      unfolding trimReply trimAclBuffer trimHintBuffer overwritten
       ends-written x y l h p q =
           let e = fault-none bundle acl new hints read passed (and-both _ _ (le-leb (length (trimmedAcl (records bundle) acl)) (length new) (omega (arith, is .0))) (le-leb (length (trimHints (records bundle) acl)) (length hints) (omega (arith, hints-is)))) in
           rw e (ap₂ trimmed (is .0) hints-is, (p, q))

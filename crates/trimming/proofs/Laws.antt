@@ -14,7 +14,7 @@ use Rattle.rules.specs.Trim.{keptBits, withBits, trimmedFrom, hintsFrom, trimme
 use Rattle.rules.specs.Written.{bigEndian}
 use Rattle.rules.proofs.Rows.{recordsFrom, rows-lent, lentRecord, lent-record, lent-rest}
 use Rattle.rules.proofs.Trim.{trim-end, hints-group, hints-other, hints-end}
-use Rattle.subject.specs.Writing.{over}
+use Rattle.subject.specs.Writing.{overwritten}
 use Rattle.keeping.specs.declared.Fate.{Fate}
 use Rattle.keeping.specs.declared.Fate.the-variants.{Copied, Fewer, Dropped}
 use Rattle.keeping.specs.Fates.{recordFate, sizeOf, leftOf, keptAfter, checkedAfter}
@@ -76,8 +76,8 @@ module _ (b : List Bytes) (acl : Bytes) (at n m : ℕ) (checked kept : Bool) (in
   measure-hints h = let i = inv .hints in let e = ap length (hints-end b (inv .place) acl at h) in omega arith
 
 -- A record with other bits, over the front of a buffer: the record, and two bytes more.
-pub fewer-written : (n : ℕ) (r d : Bytes) → length r ≡ recordBytes → set (set (over r d) 4 (n / 256)) 5 (n % 256) ≡ over (withBits n r) d
-unfolding over withBits bigEndian
+pub fewer-written : (n : ℕ) (r d : Bytes) → length r ≡ recordBytes → set (set (overwritten r d) 4 (n / 256)) 5 (n % 256) ≡ overwritten (withBits n r) d
+unfolding overwritten withBits bigEndian
 fewer-written n [] d w = absurd (omega arith)
 fewer-written n (x0 ∷ []) d w = absurd (omega arith)
 fewer-written n (x0 ∷ x1 ∷ []) d w = absurd (omega arith)
@@ -86,24 +86,24 @@ fewer-written n (x0 ∷ x1 ∷ x2 ∷ x3 ∷ []) d w = absurd (omega arith)
 fewer-written n (x0 ∷ x1 ∷ x2 ∷ x3 ∷ x4 ∷ []) d w = absurd (omega arith)
 fewer-written n (x0 ∷ x1 ∷ x2 ∷ x3 ∷ x4 ∷ x5 ∷ rest) d w = refl
 
-pub fewer-put : (b : List Bytes) (policy : Policy) (n m : ℕ) (r d e : Bytes) → length r ≡ recordBytes → policy ≡ policyOf b → m ≡ number 4 2 r → n ≡ keptBits policy m → e ≡ over r d
-    → set (set e 4 (n / 256)) 5 (n % 256) ≡ over (withBits (keptBits (policyOf b) (number 4 2 r)) r) d
+pub fewer-put : (b : List Bytes) (policy : Policy) (n m : ℕ) (r d e : Bytes) → length r ≡ recordBytes → policy ≡ policyOf b → m ≡ number 4 2 r → n ≡ keptBits policy m → e ≡ overwritten r d
+    → set (set e 4 (n / 256)) 5 (n % 256) ≡ overwritten (withBits (keptBits (policyOf b) (number 4 2 r)) r) d
 fewer-put b policy n m r d e w z q p h =
     ap (λ (x : Bytes). set (set x 4 (n / 256)) 5 (n % 256)) h ∙ fewer-written n r d w
-    ∙ ap (λ (k : ℕ). over (withBits k r) d) (p ∙ ap₂ keptBits z q)
+    ∙ ap (λ (k : ℕ). overwritten (withBits k r) d) (p ∙ ap₂ keptBits z q)
 
 -- What a fate leaves, by the case that the code met.
 module _ (b : List Bytes) (fate : Fate) (r d e : Bytes) where
-  pub put-copied : fate ≡ Copied → e ≡ over r d → e ≡ over (leftOf b fate r) d
+  pub put-copied : fate ≡ Copied → e ≡ overwritten r d → e ≡ overwritten (leftOf b fate r) d
   unfolding leftOf
   put-copied t h = rw t h
 
-  pub put-fewer : fate ≡ Fewer → e ≡ over (withBits (keptBits (policyOf b) (number 4 2 r)) r) d → e ≡ over (leftOf b fate r) d
+  pub put-fewer : fate ≡ Fewer → e ≡ overwritten (withBits (keptBits (policyOf b) (number 4 2 r)) r) d → e ≡ overwritten (leftOf b fate r) d
   unfolding leftOf
   put-fewer t h = rw t h
 
-  pub put-nothing : fate ≡ Dropped → e ≡ d → e ≡ over (leftOf b fate r) d
-  unfolding leftOf over
+  pub put-nothing : fate ≡ Dropped → e ≡ d → e ≡ overwritten (leftOf b fate r) d
+  unfolding leftOf overwritten
   put-nothing t h = rw t h
 
 -- The trimmed ACL: room for what is left of a record, and one record more.
@@ -120,7 +120,7 @@ module _ (b : List Bytes) (acl old new : Bytes) (at to : ℕ) (checked kept : Bo
       omega (arith, l, t, z, r)
 
   pub acl-next : (fate : Fate) (size : ℕ) (e : Bytes) (checked′ kept′ : Bool) → recordBytes ≤ length acl - at → fate ≡ recordFate b checked kept (lentRecord acl at)
-      → size ≡ sizeOf fate → e ≡ over (leftOf b fate (lentRecord acl at)) (take (length new - to) (drop to new))
+      → size ≡ sizeOf fate → e ≡ overwritten (leftOf b fate (lentRecord acl at)) (take (length new - to) (drop to new))
       → kept′ ≡ keptAfter fate kept (lentRecord acl at) → checked′ ≡ checkedAfter b checked (lentRecord acl at)
       → Writing (trimmedAcl b acl) old (take to new ++ (e ++ drop (length new - to) (drop to new))) (joined (trimmedFrom b checked′ kept′ (recordsFrom acl (at + recordBytes)))) (to + size)
   acl-next fate size e checked′ kept′ h d s q k c =
@@ -134,6 +134,6 @@ unfolding trimmedAcl recordsFrom
 acl-first b acl old = writing-start (trimmedAcl b acl) old
 
 pub acl-done : (b : List Bytes) (acl old new : Bytes) (at to : ℕ) (checked kept : Bool) → Writing (trimmedAcl b acl) old new (joined (trimmedFrom b checked kept (recordsFrom acl at))) to
-    → length (trimmedAcl b acl) ≤ length old → length acl - at < recordBytes → new ≡ over (trimmedAcl b acl) old
+    → length (trimmedAcl b acl) ≤ length old → length acl - at < recordBytes → new ≡ overwritten (trimmedAcl b acl) old
 unfolding joined
 acl-done b acl old new at to checked kept inv fits h = writing-done (trimmedAcl b acl) old new (joined (trimmedFrom b checked kept (recordsFrom acl at))) to inv fits (ap joined (trim-end b checked kept acl at h))

@@ -9,9 +9,9 @@ ghost use Rattle.rules.specs.Bundle.{policyOf};
 ghost use Rattle.rules.specs.Desk.{beforeAcl, deskFault};
 ghost use Rattle.rules.specs.Trim.{keptBits, withBits, hintsFrom, trimmedAcl, trimReply, trimAclBuffer, trimHintBuffer};
 ghost use Rattle.facts.specs.Places.{Found};
-ghost use Rattle.subject.specs.Writing.{over};
+ghost use Rattle.subject.specs.Writing.{overwritten};
 ghost use Rattle.keeping.specs.Fates.{sizeOf, leftOf};
-ghost use Rattle.trimming.specs.Trimming.{replyOf, hintSize};
+ghost use Rattle.trimming.specs.Trimming.{trimReplyAs, hintSize};
 use files::Checked;
 use keeping::Fate;
 use refusals::Refusal;
@@ -67,7 +67,7 @@ fn measure(places: &[usize; facts::ENTRIES], bundle: &[u8], acl: &[u8]) -> Lengt
 // A record of permissions with those that pass, over the front of the buffer.
 fn put_fewer(places: &[usize; facts::ENTRIES], bundle: &[u8], rec: &[u8], out: &mut [u8])
     requires { ⌜ Found (now bundle) (now places) × (length (now rec) ≡ recordBytes) × (recordBytes ≤ length (now out)) ⌝ }
-    ensures { λ _. ⌜ now (out .exit) ≡ over (withBits (keptBits (policyOf (records (now (bundle .entry)))) (number 4 2 (now (rec .entry)))) (now (rec .entry))) (now (out .entry)) ⌝ }
+    ensures { λ _. ⌜ now (out .exit) ≡ overwritten (withBits (keptBits (policyOf (records (now (bundle .entry)))) (number 4 2 (now (rec .entry)))) (now (rec .entry))) (now (out .entry)) ⌝ }
 {
     let policy = facts::policy_of(places, bundle);
     let kept = keeping::kept_bits(policy, fields::be16(rec, 4));
@@ -79,7 +79,7 @@ fn put_fewer(places: &[usize; facts::ENTRIES], bundle: &[u8], rec: &[u8], out: &
 // What is left of a record, over the front of the buffer.
 fn put(places: &[usize; facts::ENTRIES], bundle: &[u8], fate: Fate, rec: &[u8], out: &mut [u8])
     requires { ⌜ Found (now bundle) (now places) × (length (now rec) ≡ recordBytes) × (sizeOf fate ≤ length (now out)) ⌝ }
-    ensures { λ _. ⌜ now (out .exit) ≡ over (leftOf (records (now (bundle .entry))) fate (now (rec .entry))) (now (out .entry)) ⌝ }
+    ensures { λ _. ⌜ now (out .exit) ≡ overwritten (leftOf (records (now (bundle .entry))) fate (now (rec .entry))) (now (out .entry)) ⌝ }
 {
     match fate {
         Fate::Copied => subject::copy(rec, out),
@@ -91,7 +91,7 @@ fn put(places: &[usize; facts::ENTRIES], bundle: &[u8], fate: Fate, rec: &[u8], 
 // The trimmed ACL, over the front of the buffer.
 fn write_acl(places: &[usize; facts::ENTRIES], bundle: &[u8], acl: &[u8], new: &mut [u8])
     requires { ⌜ Found (now bundle) (now places) × (length (trimmedAcl (records (now bundle)) (now acl)) ≤ length (now new)) ⌝ }
-    ensures { λ _. ⌜ now (new .exit) ≡ over (trimmedAcl (records (now (bundle .entry))) (now (acl .entry))) (now (new .entry)) ⌝ }
+    ensures { λ _. ⌜ now (new .exit) ≡ overwritten (trimmedAcl (records (now (bundle .entry))) (now (acl .entry))) (now (new .entry)) ⌝ }
 {
     let mut checked = false;
     let mut kept = true;
@@ -117,7 +117,7 @@ fn trim_passed(
     hints: &mut [u8],
 ) -> TrimReply
     requires { ⌜ Found (now bundle) (now places) × (deskFault (now bundle) (now acl) ≡ none) × (beforeAcl (records (now bundle)) ≡ none) ⌝ }
-    ensures reply { λ r. ⌜ replyOf r ≡ trimReply (now (bundle .entry)) (now (acl .entry)) (now (new .entry)) (now (hints .entry)) ⌝ }
+    ensures reply { λ r. ⌜ trimReplyAs r ≡ trimReply (now (bundle .entry)) (now (acl .entry)) (now (new .entry)) (now (hints .entry)) ⌝ }
     ensures trimmed { λ _. ⌜ now (new .exit) ≡ trimAclBuffer (now (bundle .entry)) (now (acl .entry)) (now (new .entry)) (now (hints .entry)) ⌝ }
     ensures hinted { λ _. ⌜ now (hints .exit) ≡ trimHintBuffer (now (bundle .entry)) (now (acl .entry)) (now (new .entry)) (now (hints .entry)) ⌝ }
 {
@@ -142,7 +142,7 @@ fn trim_read(
     hints: &mut [u8],
 ) -> TrimReply
     requires { ⌜ Found (now bundle) (now places) × (deskFault (now bundle) (now acl) ≡ none) ⌝ }
-    ensures reply { λ r. ⌜ replyOf r ≡ trimReply (now (bundle .entry)) (now (acl .entry)) (now (new .entry)) (now (hints .entry)) ⌝ }
+    ensures reply { λ r. ⌜ trimReplyAs r ≡ trimReply (now (bundle .entry)) (now (acl .entry)) (now (new .entry)) (now (hints .entry)) ⌝ }
     ensures trimmed { λ _. ⌜ now (new .exit) ≡ trimAclBuffer (now (bundle .entry)) (now (acl .entry)) (now (new .entry)) (now (hints .entry)) ⌝ }
     ensures hinted { λ _. ⌜ now (hints .exit) ≡ trimHintBuffer (now (bundle .entry)) (now (acl .entry)) (now (new .entry)) (now (hints .entry)) ⌝ }
 {
@@ -156,7 +156,7 @@ fn trim_read(
 // The trimmed ACL over the front of one buffer and its hints over the front of the other, whatever bytes the bundle and the ACL are. Every byte past
 // the results stays; a refusal and a failing step leave both buffers.
 pub fn trim(bundle: &[u8], acl: &[u8], new: &mut [u8], hints: &mut [u8]) -> TrimReply
-    ensures reply { λ r. ⌜ replyOf r ≡ trimReply (now (bundle .entry)) (now (acl .entry)) (now (new .entry)) (now (hints .entry)) ⌝ }
+    ensures reply { λ r. ⌜ trimReplyAs r ≡ trimReply (now (bundle .entry)) (now (acl .entry)) (now (new .entry)) (now (hints .entry)) ⌝ }
     ensures trimmed { λ _. ⌜ now (new .exit) ≡ trimAclBuffer (now (bundle .entry)) (now (acl .entry)) (now (new .entry)) (now (hints .entry)) ⌝ }
     ensures hinted { λ _. ⌜ now (hints .exit) ≡ trimHintBuffer (now (bundle .entry)) (now (acl .entry)) (now (new .entry)) (now (hints .entry)) ⌝ }
 {

@@ -7,7 +7,7 @@ use lib.Dec.{eqb}
 use Rattle.rules.specs.Basics.{if_then_else_, Bytes, ascii}
 use Rattle.rules.specs.Day.{decimal}
 use Rattle.rules.specs.Desk as rules
-use Rattle.desk.specs.Replies.{Named, Reply, accepting, failing, refusing}
+use Rattle.desk.specs.Replies.{Named, DeskReply, accepting, failing, refusing}
 
 -- room for every line
 abbrev pub lineBytes : ℕ
@@ -56,7 +56,7 @@ unfoldable pub refusalLine : ℕ → Bytes
 refusalLine n = ascii "refuse " ++ decimal n ++ ascii "\n"
 
 -- the line
-abbrev pub lineOf : Reply → Bytes
-lineOf (accepting n) = acceptanceLine n
-lineOf (failing s) = failureLine s
-lineOf (refusing n) = refusalLine n
+abbrev pub verdictLine : DeskReply → Bytes
+verdictLine (accepting n) = acceptanceLine n
+verdictLine (failing s) = failureLine s
+verdictLine (refusing n) = refusalLine n

@@ -2,11 +2,11 @@
 ghost use Prim.Native.Nat.{_+_, _≤_};
 ghost use lib.ListN.{length};
 ghost use Rattle.refusals.specs.Refusals.{refusalNumber};
-ghost use Rattle.steps.specs.Steps.{stepOf};
-ghost use Rattle.desk.specs.Replies.{namedBy, replyOf};
+ghost use Rattle.steps.specs.Steps.{stepAs};
+ghost use Rattle.desk.specs.Replies.{acceptanceAs, verdictAs};
 ghost use Rattle.listings.specs.Words.{spaced};
 ghost use Rattle.text.specs.Putting.{Put, Held};
-ghost use Rattle.verdicts.specs.Lines.{lineBytes, stepText, acceptanceLine, failureLine, refusalLine, lineOf};
+ghost use Rattle.verdicts.specs.Lines.{lineBytes, stepText, acceptanceLine, failureLine, refusalLine, verdictLine};
 use desk::Acceptance;
 use desk::Verdict;
 use refusals::Refusal;
@@ -18,7 +18,7 @@ pub const LINE: usize = 64;
 // The name of a step, with a space before it.
 pub fn append_step(s: Step, at: usize, buffer: &mut [u8]) -> usize
     requires { ⌜ at + 6 ≤ length (now buffer) ⌝ }
-    ensures { λ r. ⌜ Held 6 (spaced (stepText (stepOf s))) at (now (buffer .entry)) (now (buffer .exit)) r ⌝ }
+    ensures { λ r. ⌜ Held 6 (spaced (stepText (stepAs s))) at (now (buffer .entry)) (now (buffer .exit)) r ⌝ }
 {
     let names =
         b" WV1 MSCV1 MSCV2 MSCV3 MSCV4 MSCV5 WBCV1 WBCV2 WBCV3 KGCV1 KGCV2 ACLV3 WB1 WB2 WB3 WB6 RB1 RB2 RB3 KV3 CSRL1";
@@ -29,7 +29,7 @@ pub fn append_step(s: Step, at: usize, buffer: &mut [u8]) -> usize
 // An acceptance.
 fn acceptance_line(a: Acceptance, buffer: &mut [u8]) -> usize
     requires { ⌜ lineBytes ≤ length (now buffer) ⌝ }
-    ensures { λ r. ⌜ Put (acceptanceLine (namedBy a)) 0 (now (buffer .entry)) (now (buffer .exit)) r ⌝ }
+    ensures { λ r. ⌜ Put (acceptanceLine (acceptanceAs a)) 0 (now (buffer .entry)) (now (buffer .exit)) r ⌝ }
 {
     if a.approach != 2 {
         return text::append(b"accept 1\n", 0, buffer);
@@ -46,7 +46,7 @@ fn acceptance_line(a: Acceptance, buffer: &mut [u8]) -> usize
 // A failing step.
 fn failure_line(s: Step, buffer: &mut [u8]) -> usize
     requires { ⌜ lineBytes ≤ length (now buffer) ⌝ }
-    ensures { λ r. ⌜ Put (failureLine (stepOf s)) 0 (now (buffer .entry)) (now (buffer .exit)) r ⌝ }
+    ensures { λ r. ⌜ Put (failureLine (stepAs s)) 0 (now (buffer .entry)) (now (buffer .exit)) r ⌝ }
 {
     let begun = text::append(b"fail", 0, buffer);
     let named = append_step(s, begun, buffer);
@@ -66,7 +66,7 @@ fn refusal_line(r: Refusal, buffer: &mut [u8]) -> usize
 // The line of a verdict at the front of the buffer, and its length. Every byte past it stays.
 pub fn verdict_line(v: Verdict, buffer: &mut [u8]) -> usize
     requires { ⌜ lineBytes ≤ length (now buffer) ⌝ }
-    ensures { λ r. ⌜ Put (lineOf (replyOf v)) 0 (now (buffer .entry)) (now (buffer .exit)) r ⌝ }
+    ensures { λ r. ⌜ Put (verdictLine (verdictAs v)) 0 (now (buffer .entry)) (now (buffer .exit)) r ⌝ }
 {
     match v {
         Verdict::Accepted(a) => acceptance_line(a, buffer),

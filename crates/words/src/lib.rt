@@ -6,7 +6,7 @@ ghost use Rattle.rules.specs.Sizes.{hashBytes};
 ghost use Rattle.listings.specs.Decoding.{stands, hexValue, unhex, bytesOf};
 ghost use Rattle.text.specs.Putting.{Put};
 ghost use Rattle.words.specs.Telling.{LineEnds, NumberAt, pastWord, pastHash, pastNumber, hashIn, numberIn};
-ghost use Rattle.words.specs.Taking.{one, Told, Field};
+ghost use Rattle.words.specs.Taking.{one, Advanced, Field};
 
 // A number's value, and how many digits it has.
 pub struct Number {
@@ -161,7 +161,7 @@ fn put_hash(text: &[u8], at: usize, rec: &mut [u8]) -> usize
 // A word: where it stands, reading goes on past it, and its flag is set.
 pub fn take_word(word: &[u8], weight: u32, text: &[u8], c: Cursor) -> Cursor
     requires { ⌜ (length (now word) ≤ 255) × (c .at ≤ 1000) × (c .flags + weight ≤ 65535) ⌝ }
-    ensures { λ r. ⌜ Told (now (text .entry)) (pastWord (now (word .entry)) (drop (c .at) (now (text .entry)))) (weight * one (stands (now (word .entry)) (drop (c .at) (now (text .entry))))) weight (length (now (word .entry))) c r × (r .end ≡ c .end) ⌝ }
+    ensures { λ r. ⌜ Advanced (now (text .entry)) (pastWord (now (word .entry)) (drop (c .at) (now (text .entry)))) (weight * one (stands (now (word .entry)) (drop (c .at) (now (text .entry))))) weight (length (now (word .entry))) c r × (r .end ≡ c .end) ⌝ }
 {
     let at = c.at;
     if word_stands(word, past(text, at)) {
@@ -177,7 +177,7 @@ pub fn take_word(word: &[u8], weight: u32, text: &[u8], c: Cursor) -> Cursor
 // A word and its hash, which goes into the record; zeros where the word does not stand.
 pub fn take_hash(word: &[u8], weight: u32, text: &[u8], c: Cursor, rec: &mut [u8]) -> Cursor
     requires { ⌜ (length (now word) ≤ 255) × (c .at ≤ 1000) × (c .flags + weight ≤ 65535) × (c .end + hashBytes ≤ length (now rec)) ⌝ }
-    ensures { λ r. ⌜ Told (now (text .entry)) (pastHash (now (word .entry)) (drop (c .at) (now (text .entry)))) (weight * one (stands (now (word .entry)) (drop (c .at) (now (text .entry))))) weight (length (now (word .entry)) + 41) c r
+    ensures { λ r. ⌜ Advanced (now (text .entry)) (pastHash (now (word .entry)) (drop (c .at) (now (text .entry)))) (weight * one (stands (now (word .entry)) (drop (c .at) (now (text .entry))))) weight (length (now (word .entry)) + 41) c r
         × Field hashBytes (hashIn (now (word .entry)) (drop (c .at) (now (text .entry)))) (c .end) (now (rec .entry)) (now (rec .exit)) (r .end) ⌝ }
 {
     let at = c.at;
@@ -210,7 +210,7 @@ pub fn take_number(
     rec: &mut [u8],
 ) -> Cursor
     requires { ⌜ (length (now word) ≤ 255) × (c .at ≤ 1000) × (c .flags + weight ≤ 65535) × (width ≤ 8) × (c .end + width ≤ length (now rec)) ⌝ }
-    ensures { λ r. ⌜ Told (now (text .entry)) (pastNumber (now (word .entry)) (drop (c .at) (now (text .entry)))) (weight * one (stands (now (word .entry)) (drop (c .at) (now (text .entry))))) weight (length (now (word .entry)) + 11) c r
+    ensures { λ r. ⌜ Advanced (now (text .entry)) (pastNumber (now (word .entry)) (drop (c .at) (now (text .entry)))) (weight * one (stands (now (word .entry)) (drop (c .at) (now (text .entry))))) weight (length (now (word .entry)) + 11) c r
         × Field width (bytesOf width (numberIn (now (word .entry)) (drop (c .at) (now (text .entry))))) (c .end) (now (rec .entry)) (now (rec .exit)) (r .end) ⌝ }
 {
     let at = c.at;

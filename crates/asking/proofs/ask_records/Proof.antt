@@ -4,7 +4,7 @@ use lib.ListN.{length}
 use Rattle.rules.specs.Basics.{records}
 use Rattle.rules.proofs.Rows.{recordsFrom}
 use Rattle.rules.proofs.Asking.{writing}
-use Rattle.judging.specs.Standings.{tablesOf}
+use Rattle.judging.specs.Standings.{ledgerOfTables}
 use Rattle.choosing.specs.Deciding.{askSets}
 use Rattle.choosing.specs.Opening.{OpenFrom}
 use Rattle.rules.specs.Sizes.{groupsMax, countersMax}
@@ -17,7 +17,7 @@ use Rattle.asking.proofs.ask_records.Tie as tie
 
 abbrev Inv-loop : tie.InvT-loop
 Inv-loop counts₀ counters₀ loaded before km0 acl bodies uses sets unspent requests buf₀ last₀ at₀ out₀ counts counters buf last at out =
-    (at ≤ length requests) × (out + (length requests - at) / 64 * 8 ≤ length buf₀) × (out ≤ at) × (length buf ≡ length buf₀) × (length counts ≡ groupsMax) × (length counters ≡ countersMax) × OpenFrom counts counters (last - loaded) acl bodies (sets .certified) unspent × (writing (askSets km0 (aclOf acl) (sets .certified)) (tablesOf counts counters loaded last) buf out (recordsFrom requests at) ≡ writing (askSets km0 (aclOf acl) (sets .certified)) (tablesOf counts₀ counters₀ loaded before) buf₀ 0 (records requests))
+    (at ≤ length requests) × (out + (length requests - at) / 64 * 8 ≤ length buf₀) × (out ≤ at) × (length buf ≡ length buf₀) × (length counts ≡ groupsMax) × (length counters ≡ countersMax) × OpenFrom counts counters (last - loaded) acl bodies (sets .certified) unspent × (writing (askSets km0 (aclOf acl) (sets .certified)) (ledgerOfTables counts counters loaded last) buf out (recordsFrom requests at) ≡ writing (askSets km0 (aclOf acl) (sets .certified)) (ledgerOfTables counts₀ counters₀ loaded before) buf₀ 0 (records requests))
 
 abbrev μ-loop : tie.MeasureT-loop
 μ-loop counts₀ counters₀ loaded before km0 acl bodies uses sets unspent requests buf₀ last₀ at₀ out₀ counts counters buf last at out =

@@ -11,7 +11,7 @@ use Rattle.bundle.proofs.bundle_records.Statement.{statement}
 use Rattle.bundle.proofs.bundle_records.Tie as tie
 
 abbrev Inv-loop : tie.InvT-loop
-Inv-loop bundle last₀ listed₀ at₀ last listed at = (at ≤ length bundle) × ((listed ≤ listedMax) × (scan bundleRecordFault afterBundleRecord bundleEnd (record { last = last; listed = listed }) (recordsFrom bundle at) ≡ bundleFault (records bundle)))
+Inv-loop bundle last₀ listed₀ at₀ last listed at = (at ≤ length bundle) × ((listed ≤ listedMax) × (scan bundleRecordFault afterBundleRecord bundleEnd (record { last = last; listedCount = listed }) (recordsFrom bundle at) ≡ bundleFault (records bundle)))
 
 abbrev μ-loop : tie.MeasureT-loop
 μ-loop bundle last₀ listed₀ at₀ last listed at = length bundle - at
@@ -73,7 +73,7 @@ loop-again c =
     let o = r .record-order .ensures in
     let a = q .repeats .ensures in
     let s = bundle-sound _ _ _ o a _ _ _ (g .in-place .ensures) (i .1 .0) (f .if1 .left) (c .if2 .left) in
-    let n = bundle-next (record { last = l .before .loop .last; listed = l .before .loop .listed }) _ _ _ o (listed-is _ _ _ o a _) in
+    let n = bundle-next (record { last = l .before .loop .last; listedCount = l .before .loop .listed }) _ _ _ o (listed-is _ _ _ o a _) in
     (search needs, (search needs, scan-next _ _ _ _ _ _ _ (i .1 .1) _ (l .loop-test .taken) s n))
 
 returns-3 : tie.Need-returns-3 Inv-loop μ-loop

@@ -1,5 +1,5 @@
 use mathlib.Core.Path.{sym, _∙_, ap}
-use Rattle.charging.specs.Charges.{answerOf}
+use Rattle.charging.specs.Charges.{answerAs}
 use Rattle.charging.proofs.Laws.{changed-length}
 use borrow.Author.Needs.{needs}
 use Rattle.charging.proofs.charge_count.Statement.{statement}
@@ -14,7 +14,7 @@ enum-known-reply c = search needs
 raise-count-requires : tie.Need-raise-count-requires
 raise-count-requires c κs =
     let r = c .before .before in
-    (search needs, r .before .before .pre .1 _ (ap answerOf (r .reply .given .1)))
+    (search needs, r .before .before .pre .1 _ (ap answerAs (r .reply .given .1)))
 
 enum-told-2 : tie.Need-enum-told-2
 enum-told-2 c = search needs

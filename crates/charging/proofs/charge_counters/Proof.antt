@@ -1,5 +1,5 @@
 use mathlib.Core.Path.{sym, _∙_, ap}
-use Rattle.charging.specs.Charges.{answerOf}
+use Rattle.charging.specs.Charges.{answerAs}
 use borrow.Author.Needs.{needs}
 use Rattle.charging.proofs.charge_counters.Statement.{statement}
 use Rattle.charging.proofs.charge_counters.Tie as tie
@@ -16,7 +16,7 @@ group-body-requires c κs = search needs
 raise-named-requires : tie.Need-raise-named-requires
 raise-named-requires c κs =
     let r = c .before .before .before in
-    (search needs, rw (c .group-body .ensures .limits) (r .before .before .before .pre .1 _ (ap answerOf (r .reply .given .1))))
+    (search needs, rw (c .group-body .ensures .limits) (r .before .before .before .pre .1 _ (ap answerAs (r .reply .given .1))))
 
 enum-told-2 : tie.Need-enum-told-2
 enum-told-2 c = search needs

@@ -1,6 +1,6 @@
 use mathlib.Core.Path.{refl, sym, _∙_, ap}
 use Rattle.rules.specs.Day.{dayFault}
-use Rattle.files.specs.Faults.{faultOf}
+use Rattle.files.specs.Faults.{faultAs}
 use Rattle.rules.proofs.Faults.{fault-here, fault-later, fault-last, fault-found, fault-passed}
 use borrow.Author.Needs.{needs}
 use Rattle.daybook.proofs.first_fault.Statement.{statement}
@@ -30,14 +30,14 @@ unfolding dayFault
 returns-2 c =
     let f = c .before in
     let a = f .before .before in
-    let e = sym (ap faultOf (f .first .given .1)) ∙ a .acl-records .ensures in
+    let e = sym (ap faultAs (f .first .given .1)) ∙ a .acl-records .ensures in
     fault-later _ _ _ _ _ (a .before .before .lengths-fit .ensures) (a .before .if1 .left) (fault-found _ _ _ _ e refl)
 
 returns-3 : tie.Need-returns-3
 unfolding dayFault
 returns-3 c =
     let a = c .before .before .before in
-    let e = sym (a .acl-records .ensures) ∙ ap faultOf (c .before .enum-told .given .1) in
+    let e = sym (a .acl-records .ensures) ∙ ap faultAs (c .before .enum-told .given .1) in
     fault-later _ _ _ _ _ (a .before .before .lengths-fit .ensures) (a .before .if1 .left) (fault-passed _ _ _ e (fault-last _ _ (c .each-request .ensures)))
 
 pub first-fault-spec : {M : Type 1} → statement M

@@ -2,7 +2,7 @@ use mathlib.Core.Path.{_∙_, ap}
 use Rattle.rules.specs.Basics.{records}
 use Rattle.rules.specs.Acl.{aclOf}
 use Rattle.rules.specs.Desk.{approach2, gradeOf}
-use Rattle.desk.specs.Replies.{replyOf}
+use Rattle.desk.specs.Replies.{verdictAs}
 use Rattle.desk.proofs.Laws.{protection-bounds, verdict-of, full-from, named-from}
 use borrow.Author.Needs.{needs}
 use Rattle.desk.proofs.judge_policy.Statement.{statement}
@@ -26,7 +26,7 @@ returns c =
     let b = records (s .args .bundle .now) in
     let gs = aclOf (s .args .acl .now) in
     let e = c .before .before .before .acl-grade .ensures in
-    ap replyOf (c .unless-failed .ensures)
+    ap verdictAs (c .unless-failed .ensures)
     ∙ verdict-of (c .before .before .full-steps .result) _ (approach2 (gradeOf b gs)) _ (full-from b gs _ e _ (c .before .before .full-steps .ensures))
     (named-from b gs _ e (c .before .protection-of .result) (c .before .protection-of .ensures))
 

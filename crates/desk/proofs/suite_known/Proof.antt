@@ -1,5 +1,5 @@
 use mathlib.Core.Path.{sym, ap}
-use Rattle.suites.specs.Calls.{answerOf}
+use Rattle.suites.specs.Calls.{lookupAs}
 use Rattle.desk.proofs.Laws.{suite-unknown, suite-sound}
 use borrow.Author.Needs.{needs}
 use Rattle.desk.proofs.suite_known.Statement.{statement}
@@ -23,12 +23,12 @@ enum-told c = search needs
 returns : tie.Need-returns
 returns c =
     let asked = c .before .before .before in
-    suite-unknown _ _ (asked .before .before .policy-of .ensures) _ (asked .suite-of .ensures) _ (sym (ap answerOf (c .before .found .given .1)))
+    suite-unknown _ _ (asked .before .before .policy-of .ensures) _ (asked .suite-of .ensures) _ (sym (ap lookupAs (c .before .found .given .1)))
 
 returns-2 : tie.Need-returns-2
 returns-2 c =
     let asked = c .before .before in
-    suite-sound _ _ (asked .before .before .policy-of .ensures) _ (asked .suite-of .ensures) _ (sym (ap answerOf (c .enum-told .given .1)))
+    suite-sound _ _ (asked .before .before .policy-of .ensures) _ (asked .suite-of .ensures) _ (sym (ap lookupAs (c .enum-told .given .1)))
 
 pub suite-known-spec : {M : Type 1} → statement M
 suite-known-spec =

@@ -1,5 +1,5 @@
 use mathlib.Core.Path.{refl, sym, _∙_, ap}
-use Rattle.files.specs.Faults.{faultOf}
+use Rattle.files.specs.Faults.{faultAs}
 use Rattle.rules.proofs.Faults.{fault-here, fault-later, fault-last, fault-found, fault-passed}
 use borrow.Author.Needs.{needs}
 use Rattle.gate_files.proofs.request_files.Statement.{statement}
@@ -27,13 +27,13 @@ returns-2 : tie.Need-returns-2
 returns-2 c =
     let f = c .before in
     let a = f .before .before in
-    let e = sym (ap faultOf (f .first .given .1)) ∙ a .acl-records .ensures in
+    let e = sym (ap faultAs (f .first .given .1)) ∙ a .acl-records .ensures in
     fault-later _ _ _ _ _ (a .before .before .lengths-fit .ensures) (a .before .if1 .left) (fault-found _ _ _ _ e refl)
 
 returns-3 : tie.Need-returns-3
 returns-3 c =
     let a = c .before .before .before in
-    let e = sym (a .acl-records .ensures) ∙ ap faultOf (c .before .enum-told .given .1) in
+    let e = sym (a .acl-records .ensures) ∙ ap faultAs (c .before .enum-told .given .1) in
     fault-later _ _ _ _ _ (a .before .before .lengths-fit .ensures) (a .before .if1 .left) (fault-passed _ _ _ e (fault-last _ _ (c .request-records .ensures)))
 
 pub request-files-spec : {M : Type 1} → statement M

@@ -7,14 +7,14 @@ use Rattle.rules.specs.Acl.{groupsOf}
 use Rattle.facts.specs.Found.{policyAs}
 use Rattle.evidence.specs.Given.{given}
 use Rattle.groups.specs.Parts.{passedOver}
-use Rattle.grading.specs.Grades.{gradedAs, both, groupsGraded}
+use Rattle.grading.specs.Grades.{gradedAs, gradedTogether, groupsGraded}
 use Rattle.grading.proofs.Laws.{join-most, first-most, left, left-begun, left-group, left-past, left-action, left-done}
 use borrow.Author.Needs.{needs}
 use Rattle.grading.proofs.groups_grade.Statement.{statement}
 use Rattle.grading.proofs.groups_grade.Tie as tie
 
 abbrev Inv-loop : tie.InvT-loop
-Inv-loop officer policy hkm hkre acl found₀ checked₀ at₀ found checked at = (at ≤ length acl) × ((found .protection ≤ 4) × ((64 ≤ length acl - at → passedOver (getD acl at 0) ≡ false) × (both (gradedAs found) (left (given officer) (policyAs policy) (given hkm) (given hkre) checked acl at) ≡ groupsGraded (given officer) (policyAs policy) (given hkm) (given hkre) (groupsOf (records acl)))))
+Inv-loop officer policy hkm hkre acl found₀ checked₀ at₀ found checked at = (at ≤ length acl) × ((found .protection ≤ 4) × ((64 ≤ length acl - at → passedOver (getD acl at 0) ≡ false) × (gradedTogether (gradedAs found) (left (given officer) (policyAs policy) (given hkm) (given hkre) checked acl at) ≡ groupsGraded (given officer) (policyAs policy) (given hkm) (given hkre) (groupsOf (records acl)))))
 
 abbrev μ-loop : tie.MeasureT-loop
 μ-loop officer policy hkm hkre acl found₀ checked₀ at₀ found checked at = length acl - at

@@ -1,4 +1,4 @@
-use Rattle.grading.specs.Grades.{both}
+use Rattle.grading.specs.Grades.{gradedTogether}
 use borrow.Author.Needs.{needs}
 use Rattle.grading.proofs.joined.Statement.{statement}
 use Rattle.grading.proofs.joined.Tie as tie
@@ -10,7 +10,7 @@ weaker-requires : tie.Need-weaker-requires
 weaker-requires c κs = search needs
 
 returns : tie.Need-returns
-unfolding both
+unfolding gradedTogether
 returns c = rw (c .before .before .before .first-of .ensures, c .before .before .weaker .ensures)
 
 pub joined-spec : {M : Type 1} → statement M

@@ -1,5 +1,5 @@
 use mathlib.Core.Path.{_∙_, ap}
-use Rattle.surface.specs.Surface.{cabinetToldFor}
+use Rattle.surface.specs.Surface.{hostCabinetOutcomeFor}
 use borrow.Author.Needs.{needs}
 use Rattle.host.proofs.akubolinfe_cabinet_load.Statement.{statement}
 use Rattle.host.proofs.akubolinfe_cabinet_load.Tie as tie
@@ -7,11 +7,11 @@ use Rattle.host.proofs.akubolinfe_cabinet_load.Tie as tie
 load-requires : tie.Need-load-requires
 load-requires c κs = search needs
 
-cabinet-told-requires : tie.Need-cabinet-told-requires
-cabinet-told-requires c κs = search needs
+host-cabinet-outcome-requires : tie.Need-host-cabinet-outcome-requires
+host-cabinet-outcome-requires c κs = search needs
 
 returns : tie.Need-returns
-returns c = c .cabinet-told .ensures ∙ ap cabinetToldFor (c .before .load .ensures)
+returns c = c .host-cabinet-outcome .ensures ∙ ap hostCabinetOutcomeFor (c .before .load .ensures)
 
 pub akubolinfe-cabinet-load-spec : {M : Type 1} → statement M
-akubolinfe-cabinet-load-spec = tie.close (tie.spec load-requires cabinet-told-requires returns)
+akubolinfe-cabinet-load-spec = tie.close (tie.spec load-requires host-cabinet-outcome-requires returns)

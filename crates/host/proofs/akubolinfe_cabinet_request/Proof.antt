@@ -1,5 +1,5 @@
 use mathlib.Core.Path.{_∙_, ap}
-use Rattle.surface.specs.Surface.{cabinetToldFor}
+use Rattle.surface.specs.Surface.{hostCabinetOutcomeFor}
 use borrow.Author.Needs.{needs}
 use Rattle.host.proofs.akubolinfe_cabinet_request.Statement.{statement}
 use Rattle.host.proofs.akubolinfe_cabinet_request.Tie as tie
@@ -7,11 +7,11 @@ use Rattle.host.proofs.akubolinfe_cabinet_request.Tie as tie
 request-requires : tie.Need-request-requires
 request-requires c κs = search needs
 
-cabinet-told-requires : tie.Need-cabinet-told-requires
-cabinet-told-requires c κs = search needs
+host-cabinet-outcome-requires : tie.Need-host-cabinet-outcome-requires
+host-cabinet-outcome-requires c κs = search needs
 
 returns : tie.Need-returns
-returns c = c .cabinet-told .ensures ∙ ap cabinetToldFor (c .before .request .ensures)
+returns c = c .host-cabinet-outcome .ensures ∙ ap hostCabinetOutcomeFor (c .before .request .ensures)
 
 pub akubolinfe-cabinet-request-spec : {M : Type 1} → statement M
-akubolinfe-cabinet-request-spec = tie.close (tie.spec request-requires cabinet-told-requires returns)
+akubolinfe-cabinet-request-spec = tie.close (tie.spec request-requires host-cabinet-outcome-requires returns)

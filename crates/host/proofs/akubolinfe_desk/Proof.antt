@@ -1,5 +1,5 @@
 use mathlib.Core.Path.{_∙_, ap}
-use Rattle.surface.specs.Surface.{judgedIn}
+use Rattle.surface.specs.Surface.{hostVerdictFor}
 use borrow.Author.Needs.{needs}
 use Rattle.host.proofs.akubolinfe_desk.Statement.{statement}
 use Rattle.host.proofs.akubolinfe_desk.Tie as tie
@@ -7,11 +7,11 @@ use Rattle.host.proofs.akubolinfe_desk.Tie as tie
 assess-requires : tie.Need-assess-requires
 assess-requires c κs = search needs
 
-judged-requires : tie.Need-judged-requires
-judged-requires c κs = search needs
+host-verdict-requires : tie.Need-host-verdict-requires
+host-verdict-requires c κs = search needs
 
 returns : tie.Need-returns
-returns c = c .judged .ensures ∙ ap judgedIn (c .before .assess .ensures)
+returns c = c .host-verdict .ensures ∙ ap hostVerdictFor (c .before .assess .ensures)
 
 pub akubolinfe-desk-spec : {M : Type 1} → statement M
-akubolinfe-desk-spec = tie.close (tie.spec assess-requires judged-requires returns)
+akubolinfe-desk-spec = tie.close (tie.spec assess-requires host-verdict-requires returns)

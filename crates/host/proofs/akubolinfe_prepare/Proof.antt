@@ -1,5 +1,5 @@
 use mathlib.Core.Path.{_∙_, ap}
-use Rattle.told.specs.Surface.{formTold}
+use Rattle.host_runs.specs.Surface.{hostFormFor}
 use borrow.Author.Needs.{needs}
 use Rattle.host.proofs.akubolinfe_prepare.Statement.{statement}
 use Rattle.host.proofs.akubolinfe_prepare.Tie as tie
@@ -11,7 +11,7 @@ form-requires : tie.Need-form-requires
 form-requires c κs = search needs
 
 returns : tie.Need-returns
-returns c = c .form .ensures ∙ ap formTold (c .before .prepare .ensures)
+returns c = c .form .ensures ∙ ap hostFormFor (c .before .prepare .ensures)
 
 pub akubolinfe-prepare-spec : {M : Type 1} → statement M
 akubolinfe-prepare-spec = tie.close (tie.spec prepare-requires form-requires returns)

@@ -5,7 +5,7 @@ use lib.ListN.{length, getD}
 use Rattle.rules.specs.Acl.{groupsOf, aclOf}
 use Rattle.rules.specs.Request.{requestOf}
 use Rattle.rules.proofs.Rows.{recordsFrom}
-use Rattle.judging.specs.declared.Near.the-variants.{Nothing}
+use Rattle.judging.specs.declared.Nearest.the-variants.{Nothing}
 use Rattle.judging.specs.Standings.{judgedFrom, standing}
 use Rattle.judging.proofs.Laws.{groups-grant, groups-next, groups-done, standing-at}
 use borrow.Author.Needs.{needs}

@@ -1,5 +1,5 @@
 use mathlib.Core.Path.{_∙_, sym, ap}
-use Rattle.steps.specs.Steps.{failureOf}
+use Rattle.steps.specs.Steps.{failureAs}
 use Rattle.keeping.proofs.Laws.{pass-none, pass-some}
 use borrow.Author.Needs.{needs}
 use Rattle.keeping.proofs.passes.Statement.{statement}
@@ -15,10 +15,10 @@ enum-told-2 : tie.Need-enum-told-2
 enum-told-2 c = search needs
 
 returns : tie.Need-returns
-returns c = pass-none _ _ (sym (ap failureOf (c .enum-told .given .1)) ∙ c .before .before .action-failure .ensures)
+returns c = pass-none _ _ (sym (ap failureAs (c .enum-told .given .1)) ∙ c .before .before .action-failure .ensures)
 
 returns-2 : tie.Need-returns-2
-returns-2 c = pass-some _ _ _ (sym (ap failureOf (c .enum-told2 .given .1)) ∙ c .before .before .action-failure .ensures)
+returns-2 c = pass-some _ _ _ (sym (ap failureAs (c .enum-told2 .given .1)) ∙ c .before .before .action-failure .ensures)
 
 pub passes-spec : {M : Type 1} → statement M
 passes-spec = tie.close (tie.spec action-failure-requires enum-told enum-told-2 returns returns-2)

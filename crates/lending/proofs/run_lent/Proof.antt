@@ -40,10 +40,10 @@ use denote.Exit.{yes}
 use Prim.Native.Nat.{_≤_}
 use lib.ListN.{take}
 use Rattle.rules.specs.Runs as rules
-use Rattle.gate.specs.Outcomes.{ledgerOf}
+use Rattle.gate.specs.Outcomes.{ledgerAs}
 use Rattle.row.specs.declared.Certificate.{Certificate}
 use Rattle.row.specs.Rows.{rowAs}
-use Rattle.runs.specs.Judged.{runAs}
+use Rattle.runs.specs.Judged.{runOutcomeAs}
 use Rattle.row.proofs.Lent.{slice, lent}
 use Rattle.lending.proofs.Lends.{Rows, rows-vals, rows-tells, rows-makes, rows-typed, count, room, elements, apart, lends, takes-back}
 use Rattle.gate.specs.declared.Ledger.{Ledger}
@@ -85,7 +85,7 @@ module _ {M : Type 1} (𝓤 : URA M) (H : Heap 𝓤) (A : Atoms 𝓤) (W : Given
   abbrev Had : RunOutcome → Val → List ℕ → List (Item 𝓤)
   Had r v zs = ‵ (flft κ₀ q₀) ∷ ‵ (flft κ₁ q₁) ∷ ‵ (flft κ₂ q₂) ∷ ‵ (flft κ₃ q₃) ∷ ‵ (Shared u8 κ₀ km0) ∷ ‵ (Shared u8 κ₁ acl) ∷ ‵ (Shared u8 κ₂ requests) ∷ ‵ (finally u8 (name answers) zs) ∷ ‵ (RunOutcome-type.the-row .own r (v ∷ [])) ∷ []
 
-  exits : (r : RunOutcome) (v : Val) (zs : List ℕ) → runAs r zs ≡ rules.run (ledgerOf ledger) (now km0) (now acl) (rowAs (take n row)) (now requests) (now answers) → length zs ≡ length (now answers) → ent 𝓤 (⋆ 𝓤 H A (Had r v zs)) (Post v)
+  exits : (r : RunOutcome) (v : Val) (zs : List ℕ) → runOutcomeAs r zs ≡ rules.run (ledgerAs ledger) (now km0) (now acl) (rowAs (take n row)) (now requests) (now answers) → length zs ≡ length (now answers) → ent 𝓤 (⋆ 𝓤 H A (Had r v zs)) (Post v)
   exits r v zs e l =
       qed W (Had r v zs) ∵ suffices ! _ (ends-at 𝓤 H A this.ended stayed (this.clauses 𝓤 H A mem run) W (((κ₀, (κ₁, (κ₂, (κ₃, tt)))), (q₀, (q₁, (q₂, (q₃, tt)))), tt, x, at), tt) v r (tt, (tt, (tt, (tt, (tt, (tt, (zs, tt))))))) (tt, (tt, (tt, (tt, (tt, (tt, (l, tt)))))))) $ says ! e $
       nothing ! $ move ! (4 ∷ 0 ∷ []) $ join ! $ move ! (3 ∷ 0 ∷ []) $ join ! $ move ! (2 ∷ 0 ∷ []) $ join ! $ move ! (1 ∷ 0 ∷ []) $ join ! $ nothing ! $ move ! (5 ∷ 0 ∷ []) $ fjoin ! $ move ! (4 ∷ 0 ∷ []) $ fjoin ! $ owned ! usize (Is usize) (uint-makes 𝓤 H A W w64) n (vint w64 n ∷ []) (refl, n-fits) $ fjoin ! $ owned ! Rows (Is Rows) (rows-makes 𝓤 H A W) row (rows-vals row) row-is $ fjoin ! $ move ! (3 ∷ 0 ∷ []) $ fjoin ! $ move ! (2 ∷ 0 ∷ []) $ fjoin ! $ owned ! Ledger-type.the-row (Is Ledger-type.the-row) (LL.makes Ledger-type.the-type Ledger-type-laws.the-plain 𝓤 H A) ledger (LL.val Ledger-type.the-type Ledger-type-laws.the-laws ledger ∷ []) ledger-is $ fjoin ! $ move ! (1 ∷ 0 ∷ []) $ frame ! $ frame ! $ done !
@@ -158,7 +158,7 @@ module _ {M : Type 1} (𝓤 : URA M) (H : Heap 𝓤) (A : Atoms 𝓤) (W : Given
       copies ! u8 κ₂ requests $
       move ! (13 ∷ 12 ∷ 9 ∷ 11 ∷ 10 ∷ 4 ∷ 2 ∷ 6 ∷ 0 ∷ 14 ∷ []) $
       cut (items-plain-run α part) (raw (C-plain-run 𝓤 H A mem run .pre (to-plain-run α part, tt)) ∷ []) _ (goes-plain-run α part) $
-      asks ! (fmOf 𝓤 H (W .laws) 𝓣) plain-run.ended (plain-run.clauses 𝓤 H A mem run) known-plain-run (to-plain-run α part) tt (λ r ws₀. runAs r (ws₀ .1 .1 .1 .1 .1 .0) ≡ rules.run (ledgerOf ledger) (now km0) (now acl) (rowAs (take n row)) (now requests) (now answers)) (λ r ws₀. id⊢ 𝓤 _)
+      asks ! (fmOf 𝓤 H (W .laws) 𝓣) plain-run.ended (plain-run.clauses 𝓤 H A mem run) known-plain-run (to-plain-run α part) tt (λ r ws₀. runOutcomeAs r (ws₀ .1 .1 .1 .1 .1 .0) ≡ rules.run (ledgerAs ledger) (now km0) (now acl) (rowAs (take n row)) (now requests) (now answers)) (λ r ws₀. id⊢ 𝓤 _)
       (and-then ! (load ! (from ! (stop !)) (look ! 27 refl)) (and-then ! (load ! (from ! (stop !)) (look ! 25 refl)) (and-then ! (load ! (from ! (stop !)) (look ! 23 refl)) (and-then ! (load ! (from ! (stop !)) (look ! 10 refl)) (and-then ! (load ! (from ! (stop !)) (look ! 17 refl)) (and-then ! (load ! (from ! (stop !)) (look ! 6 refl)) (no-more !))))))) (λ v r ws₀ e.
       use1 W (‵ (flft κ₀ q₀) ⊛ (‵ (flft κ₁ q₁) ⊛ (‵ (flft (α ∷ []) fullShare) ⊛ (‵ (flft κ₂ q₂) ⊛ (‵ (flft κ₃ q₃) ⊛ (‵ ftrue)))))) (id⊢ 𝓤 _) $
       split ! $

@@ -26,11 +26,11 @@ returns c =
     let l = c .before in
     hints-short _ _ _ _ _ _ _ (l .before .loop .inv .1 .1 .1) (l .loop-test .taken) (c .if1 .taken)
 
-shared-slice-read-wide : tie.Need-shared-slice-read-wide Inv-loop μ-loop
-shared-slice-read-wide c = search needs
+shared-slice-read-widened : tie.Need-shared-slice-read-widened Inv-loop μ-loop
+shared-slice-read-widened c = search needs
 
-wide-requires : tie.Need-wide-requires Inv-loop μ-loop
-wide-requires c κs = search needs
+widened-requires : tie.Need-widened-requires Inv-loop μ-loop
+widened-requires c κs = search needs
 
 cast-h : tie.Need-cast-h Inv-loop μ-loop
 cast-h c = search needs
@@ -45,7 +45,7 @@ returns-2 : tie.Need-returns-2 Inv-loop μ-loop
 returns-2 c =
     let f = c .before .before .before .before .before in
     let l = f .before in
-    action-wider _ _ _ _ _ _ _ (l .before .loop .inv .1 .1 .1) (l .loop-test .taken) _ _ _ (f .if1 .left) (c .before .before .before .wide .ensures .0) (c .before .before .action-at .ensures) (c .before .hinted-no-wider .ensures .0) (c .if2 .taken)
+    action-wider _ _ _ _ _ _ _ (l .before .loop .inv .1 .1 .1) (l .loop-test .taken) _ _ _ (f .if1 .left) (c .before .before .before .widened .ensures .0) (c .before .before .action-at .ensures) (c .before .hinted-no-wider .ensures .0) (c .if2 .taken)
 
 add-i : tie.Need-add-i Inv-loop μ-loop
 add-i c = search needs
@@ -72,7 +72,7 @@ loop-again c =
     let l = f .before in
     let e = c .next-action2 .ensures in
     let k = g .before .hinted-no-wider .ensures .1 (not-false _ (g .if2 .left)) in
-    let m = action-kept _ _ _ _ _ _ _ (l .before .loop .inv .1 .1 .1) (l .loop-test .taken) _ _ _ (f .if1 .left) (g .before .before .before .wide .ensures .0) (g .before .before .action-at .ensures) (g .before .hinted-no-wider .ensures .0) _ (g .if2 .left) k e in
+    let m = action-kept _ _ _ _ _ _ _ (l .before .loop .inv .1 .1 .1) (l .loop-test .taken) _ _ _ (f .if1 .left) (g .before .before .before .widened .ensures .0) (g .before .before .action-at .ensures) (g .before .hinted-no-wider .ensures .0) _ (g .if2 .left) k e in
     (search needs, (e .inside, (search needs, m)))
 
 sub-all-zero : tie.Need-sub-all-zero Inv-loop μ-loop
@@ -102,8 +102,8 @@ actions-no-wider-spec =
     loop-holds
     sub-loop
     returns
-    shared-slice-read-wide
-    wide-requires
+    shared-slice-read-widened
+    widened-requires
     cast-h
     action-at-requires
     hinted-no-wider-requires

@@ -58,11 +58,11 @@ part-hint-start c = search needs
 part-hint-end : tie.Need-part-hint-end Inv-loop μ-loop
 part-hint-end c = search needs
 
-shared-slice-read-wide : tie.Need-shared-slice-read-wide Inv-loop μ-loop
-shared-slice-read-wide c = search needs
+shared-slice-read-widened : tie.Need-shared-slice-read-widened Inv-loop μ-loop
+shared-slice-read-widened c = search needs
 
-wide-requires : tie.Need-wide-requires Inv-loop μ-loop
-wide-requires c κs = search needs
+widened-requires : tie.Need-widened-requires Inv-loop μ-loop
+widened-requires c κs = search needs
 
 returns-2 : tie.Need-returns-2 Inv-loop μ-loop
 returns-2 c =
@@ -71,7 +71,7 @@ returns-2 c =
     let l = g .before in
     let v = l .before .loop .inv .1 .1 in
     let t = l .loop-test .taken in
-    source-falls _ _ _ _ _ _ _ (v .1 .0) t (v .0 t) (g .if1 .left) _ (w .wide .ensures .0) (c .if2 .taken)
+    source-falls _ _ _ _ _ _ _ (v .1 .0) t (v .0 t) (g .if1 .left) _ (w .widened .ensures .0) (c .if2 .taken)
 
 cast-group-at : tie.Need-cast-group-at Inv-loop μ-loop
 cast-group-at c = search needs
@@ -135,7 +135,7 @@ returns-3 c =
     let v = l .before .loop .inv .1 .1 in
     let t = l .loop-test .taken in
     let k = source-found _ _ _ _ _ (v .1 .1 .1) (f .if2 .left) (p .group-at2 .ensures) _ _ _ (s .source-narrows .ensures) in
-    source-wider _ _ _ _ _ _ _ (v .1 .0) t (v .0 t) (g .if1 .left) _ (w .wide .ensures .0) (f .if2 .left) _ k (c .if3 .taken)
+    source-wider _ _ _ _ _ _ _ (v .1 .0) t (v .0 t) (g .if1 .left) _ (w .widened .ensures .0) (f .if2 .left) _ k (c .if3 .taken)
 
 group-at-requires-3 : tie.Need-group-at-requires-3 Inv-loop μ-loop
 group-at-requires-3 c κs = c .before .before .before .before .before .before .group-at2 .ensures .inside
@@ -169,7 +169,7 @@ loop-again c =
     let t = l .loop-test .taken in
     let e = c .group-at4 .ensures in
     let d = source-found _ _ _ _ _ (v .1 .1 .1) (f .if2 .left) (p .group-at2 .ensures) _ _ _ (s .source-narrows .ensures) in
-    let n = source-kept _ _ _ _ _ _ _ (v .1 .0) t (v .0 t) (g .if1 .left) _ (w .wide .ensures .0) (f .if2 .left) _ d (k .if3 .left) in
+    let n = source-kept _ _ _ _ _ _ _ (v .1 .0) t (v .0 t) (g .if1 .left) _ (w .widened .ensures .0) (f .if2 .left) _ d (k .if3 .left) in
     let m = left-next _ _ _ _ _ (v .1 .1 .1) (f .if2 .left) (p .group-at2 .ensures) _ (j .group-at3 .ensures) in
     (e .inside, (search needs, (e .head, (groups-on _ _ _ _ _ _ _ _ e n, (j .group-at3 .ensures .inside, m)))))
 
@@ -194,8 +194,8 @@ shows-narrowing-spec =
     sub-hint
     part-hint-start
     part-hint-end
-    shared-slice-read-wide
-    wide-requires
+    shared-slice-read-widened
+    widened-requires
     returns-2
     cast-group-at
     group-at-requires-2

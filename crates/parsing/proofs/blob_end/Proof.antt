@@ -1,5 +1,5 @@
 use Rattle.rules.specs.Basics.{ascii}
-use Rattle.listings.specs.Decoding.{has, afterWord}
+use Rattle.listings.specs.Decoding.{hasWord, afterWord}
 use Rattle.words.specs.Telling.{pastWord}
 use Rattle.parsing.proofs.Laws.{end-told}
 use borrow.Author.Needs.{needs}
@@ -19,7 +19,7 @@ take-word-requires-2 : tie.Need-take-word-requires-2
 take-word-requires-2 c κs = search needs
 
 returns : tie.Need-returns
-unfolding ascii has afterWord pastWord
+unfolding ascii hasWord afterWord pastWord
 returns c = end-told _ _ _ _ (c .before .before .take-word .ensures) (c .take-word2 .ensures)
 
 pub blob-end-spec : {M : Type 1} → statement M

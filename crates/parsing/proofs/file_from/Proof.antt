@@ -1,5 +1,5 @@
 use Rattle.rules.specs.Basics.{ascii}
-use Rattle.listings.specs.Decoding.{has, afterHash, afterNumber, hashAfter, numberAfter}
+use Rattle.listings.specs.Decoding.{hasWord, afterHash, afterNumber, hashAfter, numberAfter}
 use Rattle.words.specs.Telling.{pastHash, pastNumber, hashIn, numberIn}
 use Rattle.parsing.proofs.Laws.{file-put}
 use borrow.Author.Needs.{needs}
@@ -34,7 +34,7 @@ same-length : tie.Need-same-length
 same-length c = search needs
 
 returns : tie.Need-returns
-unfolding ascii has afterHash afterNumber hashAfter numberAfter pastHash pastNumber hashIn numberIn
+unfolding ascii hasWord afterHash afterNumber hashAfter numberAfter pastHash pastNumber hashIn numberIn
 returns c = file-put _ (c .before .before .before .before .before .before .before .before .before .before .before .before .before .before .before .before .before .before .before .before .before .args .from) (c .before .before .before .before .before .before .before .before .before .before .before .before .before .before .before .before .before .before .before .before .before .args .at) _ _ _ _ _ _ _ _ _ _ _ _ (c .before .before .before .before .before .before .before .before .before .before .before .before .before .before .before .before .take-number .ensures .0) (c .before .before .before .before .before .before .before .before .before .before .before .before .before .before .before .before .take-number .ensures .1) (c .before .before .before .before .before .before .before .before .before .before .before .take-hash .ensures .0) (c .before .before .before .before .before .before .before .before .before .before .before .take-hash .ensures .1) (c .before .before .before .before .before .before .append .ensures) (c .before .before .put-header .ensures)
 
 pub file-from-spec : {M : Type 1} → statement M

@@ -1,5 +1,5 @@
 use mathlib.Core.Path.{sym, _∙_, ap}
-use Rattle.files.specs.Faults.{faultOf}
+use Rattle.files.specs.Faults.{faultAs}
 use Rattle.prepared.proofs.Preparing.{file-few, not-prepared, is-prepared}
 use borrow.Author.Needs.{needs}
 use Rattle.prepared.proofs.prepare.Statement.{statement}
@@ -18,13 +18,13 @@ enum-told : tie.Need-enum-told
 enum-told c = search needs
 
 form-of-requires : tie.Need-form-of-requires
-form-of-requires c κs = file-few _ (sym (c .before .before .acl-file .ensures) ∙ ap faultOf (c .enum-told .given .1))
+form-of-requires c κs = file-few _ (sym (c .before .before .acl-file .ensures) ∙ ap faultAs (c .enum-told .given .1))
 
 returns : tie.Need-returns
-returns c = let f = c .before .before in c .refused .ensures ∙ not-prepared _ _ (sym (f .before .before .acl-file .ensures) ∙ ap faultOf (f .fault .given .1))
+returns c = let f = c .before .before in c .refused .ensures ∙ not-prepared _ _ (sym (f .before .before .acl-file .ensures) ∙ ap faultAs (f .fault .given .1))
 
 returns-2 : tie.Need-returns-2
-returns-2 c = let t = c .before in is-prepared _ _ (sym (t .before .before .acl-file .ensures) ∙ ap faultOf (t .enum-told .given .1)) (c .form-of .ensures)
+returns-2 c = let t = c .before in is-prepared _ _ (sym (t .before .before .acl-file .ensures) ∙ ap faultAs (t .enum-told .given .1)) (c .form-of .ensures)
 
 pub prepare-spec : {M : Type 1} → statement M
 prepare-spec =

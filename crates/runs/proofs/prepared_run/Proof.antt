@@ -37,7 +37,7 @@ use denote.Exit.{yes}
 use Rattle.rules.specs.Basics.{Bytes}
 use Rattle.rules.specs.Prepared.{preparedRun}
 use Rattle.gate.specs.declared.Ledger.{Ledger}
-use Rattle.gate.specs.Outcomes.{ledgerOf}
+use Rattle.gate.specs.Outcomes.{ledgerAs}
 use Rattle.gate.proofs.Ledger as L
 use Rattle.gate.proofs.Ledger.Laws as L′
 use Rattle.prepared.specs.declared.Prepared.{Prepared}
@@ -56,7 +56,7 @@ use Rattle.row.proofs.read_row.Symbol as read-row-def
 use Rattle.row.proofs.read_row.Symbol.{name as #row·read-row}
 use Rattle.row.proofs.read_row.Met as read-row-thm
 use Rattle.runs.specs.declared.RunOutcome.{RunOutcome}
-use Rattle.runs.specs.Judged.{runAs, preparedSeen}
+use Rattle.runs.specs.Judged.{runOutcomeAs, preparedSeen}
 use Rattle.runs.proofs.RunOutcome as O
 use Rattle.runs.proofs.RunOutcome.Laws as O′
 use Rattle.runs.proofs.Seeing.{prepared-seen}
@@ -109,7 +109,7 @@ module _ {M : Type 1} (𝓤 : URA M) (H : Heap 𝓤) (A : Atoms 𝓤) (W : Given
   Had r v zs = ‵ (flft κ₀ q₀) ∷ ‵ (flft κ₁ q₁) ∷ ‵ (flft κ₂ q₂) ∷ ‵ (flft κ₃ q₃) ∷ ‵ (flft κ₄ q₄) ∷ ‵ (Shared u8 κ₀ km0) ∷ ‵ (Shared u8 κ₁ acl) ∷ ‵ (Shared R κ₂ row) ∷ ‵ (Shared u8 κ₃ requests)
       ∷ ‵ (finally u8 (name answers) zs) ∷ ‵ (O.the-row .own r (v ∷ [])) ∷ []
 
-  exits : (r : RunOutcome) (v : Val) (zs : Bytes) → runAs r zs ≡ preparedRun (ledgerOf ledger) (now km0) (now acl) (rowAs (now row)) (formAs form) (now requests) (now answers) → length zs ≡ length (now answers) → ent 𝓤 (⋆ 𝓤 H A (Had r v zs)) (Post v)
+  exits : (r : RunOutcome) (v : Val) (zs : Bytes) → runOutcomeAs r zs ≡ preparedRun (ledgerAs ledger) (now km0) (now acl) (rowAs (now row)) (formAs form) (now requests) (now answers) → length zs ≡ length (now answers) → ent 𝓤 (⋆ 𝓤 H A (Had r v zs)) (Post v)
   exits r v zs e l =
       qed W (Had r v zs) ∵
       suffices ! _ (ends-at 𝓤 H A this.ended stayed (this.clauses 𝓤 H A mem runs) W (((κ₀, (κ₁, (κ₂, (κ₃, (κ₄, tt))))), (q₀, (q₁, (q₂, (q₃, (q₄, tt))))), tt, x, at), tt) v r (tt, (tt, (tt, (tt, (tt, (tt, (zs, tt))))))) (tt, (tt, (tt, (tt, (tt, (tt, (l, tt)))))))) $ says ! e $
@@ -180,7 +180,7 @@ module _ {M : Type 1} (𝓤 : URA M) (H : Heap 𝓤) (A : Atoms 𝓤) (W : Given
         cut Judging (raw (Judged 𝓤 H A mem runs .pre (to-judged s, tt)) ∷ []) _ (goes-judged s (subst (Is N.the-row s) (LL.tells N.the-type N′.the-laws s (v ∷ []) is) is)) $
         -- [what the callee asks; KM0; requests; ACL; token 2; row; the locals, the first at 6]
         asks ! (fmOf 𝓤 H (W .laws) 𝓣) judged.ended (judged.clauses 𝓤 H A mem runs) judges (to-judged s) tt
-        (λ r ws. runAs r (ws .1 .1 .1 .1 .1 .1 .0) ≡ preparedSeen (ledgerOf ledger) (now km0) (now acl) s (formAs form) (now requests) (now answers)) (λ r ws. id⊢ 𝓤 _)
+        (λ r ws. runOutcomeAs r (ws .1 .1 .1 .1 .1 .1 .0) ≡ preparedSeen (ledgerAs ledger) (now km0) (now acl) s (formAs form) (now requests) (now answers)) (λ r ws. id⊢ 𝓤 _)
         (and-then ! (load ! (from ! (stop !)) (look ! 24 refl)) (and-then ! (load ! (from ! (stop !)) (look ! 22 refl)) (and-then ! (load ! (from ! (stop !)) (look ! 20 refl)) (and-then ! (load ! (from ! (stop !)) (look ! 10 refl))
         (and-then ! (load ! (from ! (stop !)) (look ! 16 refl)) (and-then ! (load ! (from ! (stop !)) (look ! 14 refl)) (and-then ! (load ! (from ! (stop !)) (look ! 6 refl)) (no-more !)))))))) (λ w r ws e.
         use1 W (‵ (flft κ₀ q₀) ⊛ (‵ (flft κ₁ q₁) ⊛ (‵ (flft κ₃ q₃) ⊛ (‵ (flft κ₄ q₄) ⊛ ‵ ftrue)))) (id⊢ 𝓤 _) $ split ! $ move ! (1 ∷ []) $ split ! $ move ! (1 ∷ []) $ split ! $ move ! (1 ∷ []) $ split ! $ move ! (1 ∷ []) $ leave ! $
@@ -193,7 +193,7 @@ module _ {M : Type 1} (𝓤 : URA M) (H : Heap 𝓤) (A : Atoms 𝓤) (W : Given
         move ! (31 ∷ 32 ∷ []) $ free1 ! $ move ! (29 ∷ 30 ∷ []) $ free1 ! $ move ! (27 ∷ 28 ∷ []) $ free1 ! $ move ! (25 ∷ 26 ∷ []) $ free1 ! $ move ! (23 ∷ 24 ∷ []) $ free1 ! $ move ! (21 ∷ 22 ∷ []) $ free1 ! $
         move ! (19 ∷ 20 ∷ []) $ free1 ! $ move ! (17 ∷ 18 ∷ []) $ free1 ! $ move ! (15 ∷ 16 ∷ []) $ free1 ! $ move ! (13 ∷ 14 ∷ []) $ free1 ! $ move ! (11 ∷ 12 ∷ []) $ free1 ! $ free0 ! $
         move ! (5 ∷ 4 ∷ 9 ∷ 3 ∷ 2 ∷ 6 ∷ 8 ∷ 10 ∷ 7 ∷ 1 ∷ 0 ∷ []) $
-        by ! (exits r w (ws .1 .1 .1 .1 .1 .1 .0) (e ∙ prepared-seen (ledgerOf ledger) (now km0) (now acl) (rowAs (now row)) s (formAs form) (now requests) (now answers) saw) l)))))))))))))))))
+        by ! (exits r w (ws .1 .1 .1 .1 .1 .1 .0) (e ∙ prepared-seen (ledgerAs ledger) (now km0) (now acl) (rowAs (now row)) s (formAs form) (now requests) (now answers) saw) l)))))))))))))))))
 
 module _ {M : Type 1} (𝓤 : URA M) (H : Heap 𝓤) (A : Atoms 𝓤) (W : Given 𝓤 H A) (mem : Memory → SProp 𝓤) (runs : Routine → Fun 𝓤) (𝓣 : Tables 𝓤 H) (reads : Triple 𝓤 (𝓣 .C #row·read-row) (Read 𝓤 H A mem runs)) (judges : Triple 𝓤 (𝓣 .C #runs·prepared-judged) (Judged 𝓤 H A mem runs)) where
   walks : Walks 𝓤 H A this.ended stayed (WpFn 𝓤 H (𝓣 .C) (𝓣 .Λ) code.function) (this.clauses 𝓤 H A mem runs)

@@ -1,7 +1,7 @@
 use mathlib.Core.Path.{_∙_, ap}
 use Rattle.rules.specs.Ledger as rules
 use Rattle.prepared.specs.Forms.{formAs}
-use Rattle.cabinet.specs.Kept.{cabinetOf}
+use Rattle.cabinet.specs.Kept.{cabinetAs}
 use Rattle.runs.specs.Judged.{preparedSeen}
 use Rattle.slots.proofs.Laws.{slot-missing, slot-there}
 use borrow.Author.Needs.{needs}
@@ -31,7 +31,7 @@ returns-2 c =
     let j = c .before .before .before in
     let l = j .before .before in
     let a = l .before .before .before .before .before .before .args in
-    slot-there (cabinetOf (a .cabinet)) (a .slot) (a .answers .now) _ _ _ (l .before .if1 .left) (c .put-back .ensures _)
+    slot-there (cabinetAs (a .cabinet)) (a .slot) (a .answers .now) _ _ _ (l .before .if1 .left) (c .put-back .ensures _)
     (j .prepared-judged .ensures ∙ ap (λ (m : rules.Ledger). preparedSeen m (a .km0 .now) (a .acl .now) (a .seen) (formAs (a .form)) (a .requests .now) (a .answers .now)) (l .ledger .ensures))
 
 pub prepared-judged-spec : {M : Type 1} → statement M

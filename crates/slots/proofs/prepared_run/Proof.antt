@@ -37,12 +37,12 @@ use denote.Triple.Walked.{says, Stays, stay-none-slice, stay-none, gave-slice, w
 use denote.Exit.{yes}
 use Rattle.rules.specs.Cabinet.{ledgerAt}
 use Rattle.prepared.specs.Forms.{formAs}
-use Rattle.cabinet.specs.Kept.{cabinetOf}
+use Rattle.cabinet.specs.Kept.{cabinetAs}
 use Rattle.row.specs.declared.Certificate.{Certificate}
 use Rattle.row.specs.Rows.{rowAs, Saw}
 use Rattle.runs.specs.Judged.{preparedSeen}
 use Rattle.rules.specs.CabinetRuns.{runInSlot, cabinetPreparedRun}
-use Rattle.slots.specs.Handed.{ranOf}
+use Rattle.slots.specs.Handed.{cabinetRanAs}
 use Rattle.slots.proofs.Laws.{prepared-seen-at}
 use Rattle.cabinet.specs.declared.Cabinet.{Cabinet}
 use Rattle.cabinet.proofs.Cabinet as Cabinet-type
@@ -96,7 +96,7 @@ module _ {M : Type 1} (𝓤 : URA M) (H : Heap 𝓤) (A : Atoms 𝓤) (W : Given
   abbrev Had : CabinetRan → Val → List ℕ → List (Item 𝓤)
   Had r v zs = ‵ (flft κ₀ q₀) ∷ ‵ (flft κ₁ q₁) ∷ ‵ (flft κ₂ q₂) ∷ ‵ (flft κ₃ q₃) ∷ ‵ (flft κ₄ q₄) ∷ ‵ (Shared u8 κ₀ km0) ∷ ‵ (Shared u8 κ₁ acl) ∷ ‵ (Shared R κ₂ row) ∷ ‵ (Shared u8 κ₃ requests) ∷ ‵ (finally u8 (name answers) zs) ∷ ‵ (CabinetRan-type.the-row .own r (v ∷ [])) ∷ []
 
-  exits : (r : CabinetRan) (v : Val) (zs : List ℕ) → ranOf r zs ≡ cabinetPreparedRun (cabinetOf cabinet) slot (now km0) (now acl) (rowAs (now row)) (formAs form) (now requests) (now answers) → length zs ≡ length (now answers) → ent 𝓤 (⋆ 𝓤 H A (Had r v zs)) (Post v)
+  exits : (r : CabinetRan) (v : Val) (zs : List ℕ) → cabinetRanAs r zs ≡ cabinetPreparedRun (cabinetAs cabinet) slot (now km0) (now acl) (rowAs (now row)) (formAs form) (now requests) (now answers) → length zs ≡ length (now answers) → ent 𝓤 (⋆ 𝓤 H A (Had r v zs)) (Post v)
   exits r v zs e l =
       qed W (Had r v zs) ∵ suffices ! _ (ends-at 𝓤 H A this.ended stayed (this.clauses 𝓤 H A mem run) W (((κ₀, (κ₁, (κ₂, (κ₃, (κ₄, tt))))), (q₀, (q₁, (q₂, (q₃, (q₄, tt))))), tt, x, at), tt) v r (tt, (tt, (tt, (tt, (tt, (tt, (tt, (zs, tt)))))))) (tt, (tt, (tt, (tt, (tt, (tt, (tt, (l, tt))))))))) $ says ! e $
       nothing ! $ move ! (5 ∷ 0 ∷ []) $ join ! $ move ! (4 ∷ 0 ∷ []) $ join ! $ move ! (3 ∷ 0 ∷ []) $ join ! $ move ! (2 ∷ 0 ∷ []) $ join ! $ move ! (1 ∷ 0 ∷ []) $ join ! $ nothing ! $ move ! (6 ∷ 0 ∷ []) $ fjoin ! $ move ! (5 ∷ 0 ∷ []) $ fjoin ! $ owned ! Prepared-type.the-row (Is Prepared-type.the-row) (LL.makes Prepared-type.the-type Prepared-type-laws.the-plain 𝓤 H A) form (LL.val Prepared-type.the-type Prepared-type-laws.the-laws form ∷ []) form-is $ fjoin ! $ move ! (4 ∷ 0 ∷ []) $ fjoin ! $ move ! (3 ∷ 0 ∷ []) $ fjoin ! $ move ! (2 ∷ 0 ∷ []) $ fjoin ! $ owned ! usize (Is usize) (uint-makes 𝓤 H A W w64) slot (vint w64 slot ∷ []) (refl, slot-fits) $ fjoin ! $ owned ! Cabinet-type.the-row (Is Cabinet-type.the-row) (LL.makes Cabinet-type.the-type Cabinet-type-laws.the-plain 𝓤 H A) cabinet (LL.val Cabinet-type.the-type Cabinet-type-laws.the-laws cabinet ∷ []) cabinet-is $ fjoin ! $ move ! (1 ∷ 0 ∷ []) $ frame ! $ frame ! $ done !
@@ -194,7 +194,7 @@ module _ {M : Type 1} (𝓤 : URA M) (H : Heap 𝓤) (A : Atoms 𝓤) (W : Given
       copies ! u8 κ₃ requests $
       move ! (11 ∷ 7 ∷ 10 ∷ 9 ∷ 4 ∷ 2 ∷ 0 ∷ 12 ∷ []) $
       cut (items-judged s) (raw (C-judged 𝓤 H A mem run .pre (to-judged s, tt)) ∷ []) _ (goes-judged s s-is) $
-      asks ! (fmOf 𝓤 H (W .laws) 𝓣) judged.ended (judged.clauses 𝓤 H A mem run) known-judged (to-judged s) tt (λ r ws₁. ranOf r (ws₁ .1 .1 .1 .1 .1 .1 .1 .0) ≡ runInSlot (cabinetOf cabinet) slot (now answers) (preparedSeen (ledgerAt (cabinetOf cabinet) slot) (now km0) (now acl) s (formAs form) (now requests) (now answers))) (λ r ws₁. id⊢ 𝓤 _)
+      asks ! (fmOf 𝓤 H (W .laws) 𝓣) judged.ended (judged.clauses 𝓤 H A mem run) known-judged (to-judged s) tt (λ r ws₁. cabinetRanAs r (ws₁ .1 .1 .1 .1 .1 .1 .1 .0) ≡ runInSlot (cabinetAs cabinet) slot (now answers) (preparedSeen (ledgerAt (cabinetAs cabinet) slot) (now km0) (now acl) s (formAs form) (now requests) (now answers))) (λ r ws₁. id⊢ 𝓤 _)
       (and-then ! (load ! (from ! (stop !)) (look ! 26 refl)) (and-then ! (load ! (from ! (stop !)) (look ! 24 refl)) (and-then ! (load ! (from ! (stop !)) (look ! 22 refl)) (and-then ! (load ! (from ! (stop !)) (look ! 20 refl)) (and-then ! (load ! (from ! (stop !)) (look ! 10 refl)) (and-then ! (load ! (from ! (stop !)) (look ! 16 refl)) (and-then ! (load ! (from ! (stop !)) (look ! 14 refl)) (and-then ! (load ! (from ! (stop !)) (look ! 6 refl)) (no-more !))))))))) (λ v r ws₁ e.
       use1 W (‵ (flft κ₀ q₀) ⊛ (‵ (flft κ₁ q₁) ⊛ (‵ (flft κ₃ q₃) ⊛ (‵ (flft κ₄ q₄) ⊛ (‵ ftrue))))) (id⊢ 𝓤 _) $
       split ! $
@@ -269,7 +269,7 @@ module _ {M : Type 1} (𝓤 : URA M) (H : Heap 𝓤) (A : Atoms 𝓤) (W : Given
       free1 ! $
       free0 ! $
       move ! (5 ∷ 4 ∷ 9 ∷ 3 ∷ 2 ∷ 8 ∷ 7 ∷ 10 ∷ 6 ∷ 1 ∷ 0 ∷ []) $
-      by ! (exits r v (ws₁ .1 .1 .1 .1 .1 .1 .1 .0) (e ∙ prepared-seen-at (cabinetOf cabinet) slot (now km0) (now acl) (rowAs (now row)) s (formAs form) (now requests) (now answers) saw) fits-last)))))))))))))))))))
+      by ! (exits r v (ws₁ .1 .1 .1 .1 .1 .1 .1 .0) (e ∙ prepared-seen-at (cabinetAs cabinet) slot (now km0) (now acl) (rowAs (now row)) s (formAs form) (now requests) (now answers) saw) fits-last)))))))))))))))))))
 
 module _ {M : Type 1} (𝓤 : URA M) (H : Heap 𝓤) (A : Atoms 𝓤) (W : Given 𝓤 H A) (mem : Memory → SProp 𝓤) (run : Routine → Fun 𝓤) (𝓣 : Tables 𝓤 H) (known-read-row : Triple 𝓤 (𝓣 .C #row·read-row) (C-read-row 𝓤 H A mem run)) (known-judged : Triple 𝓤 (𝓣 .C #slots·prepared-judged) (C-judged 𝓤 H A mem run)) where
   walks : Walks 𝓤 H A this.ended stayed (WpFn 𝓤 H (𝓣 .C) (𝓣 .Λ) code.function) (this.clauses 𝓤 H A mem run)

@@ -1,6 +1,6 @@
 use mathlib.Core.Path.{_∙_, ap}
 use Rattle.rules.specs.Ledger as rules
-use Rattle.cabinet.specs.Kept.{cabinetOf}
+use Rattle.cabinet.specs.Kept.{cabinetAs}
 use Rattle.runs.specs.Judged.{runSeen}
 use Rattle.slots.proofs.Laws.{slot-missing, slot-there}
 use borrow.Author.Needs.{needs}
@@ -30,7 +30,7 @@ returns-2 c =
     let j = c .before .before .before in
     let l = j .before .before in
     let a = l .before .before .before .before .before .before .args in
-    slot-there (cabinetOf (a .cabinet)) (a .slot) (a .answers .now) _ _ _ (l .before .if1 .left) (c .put-back .ensures _)
+    slot-there (cabinetAs (a .cabinet)) (a .slot) (a .answers .now) _ _ _ (l .before .if1 .left) (c .put-back .ensures _)
     (j .run-judged .ensures ∙ ap (λ (m : rules.Ledger). runSeen m (a .km0 .now) (a .acl .now) (a .seen) (a .requests .now) (a .answers .now)) (l .ledger .ensures))
 
 pub run-judged-spec : {M : Type 1} → statement M

@@ -1,13 +1,13 @@
 use mathlib.Core.Path.{sym, ap}
 use Prim.Native.Nat.{ℕ}
 use Rattle.steps.specs.declared.Step.{Step}
-use Rattle.steps.specs.Steps.{stepOf, stepNumber}
+use Rattle.steps.specs.Steps.{stepAs, stepNumber}
 use borrow.Author.Needs.{needs}
 use Rattle.steps.proofs.number.Statement.{statement}
 use Rattle.steps.proofs.number.Tie as tie
 
 abbrev numbered : Step → ℕ
-numbered s = stepNumber (stepOf s)
+numbered s = stepNumber (stepAs s)
 
 enum-told : tie.Need-enum-told
 enum-told c = search needs

@@ -1,6 +1,6 @@
 use mathlib.Core.Path.{sym, _∙_, ap}
 use borrow.Author.Tests.{not-true, not-false}
-use Rattle.suites.specs.Calls.{answerOf}
+use Rattle.suites.specs.Calls.{lookupAs}
 use Rattle.suites.proofs.Laws.{suite-found, suite-measured}
 use Rattle.subject.proofs.Laws.{subject-nowhere, subject-refused, subject-under}
 use borrow.Author.Needs.{needs}
@@ -22,12 +22,12 @@ enum-known-found-2 c = search needs
 write-under-requires : tie.Need-write-under-requires
 write-under-requires c κs =
     let told = c .before .before in
-    (not-false _ (told .before .before .before .if1 .left), suite-measured _ _ (sym (ap answerOf (told .found2 .given .1)) ∙ told .before .before .suite-of .ensures))
+    (not-false _ (told .before .before .before .if1 .left), suite-measured _ _ (sym (ap lookupAs (told .found2 .given .1)) ∙ told .before .before .suite-of .ensures))
 
 returns-2 : tie.Need-returns-2
 returns-2 c =
     let told = c .before in
-    subject-refused _ _ _ _ _ (sym (ap answerOf (told .found .given .1)) ∙ told .before .before .suite-of .ensures) (not-false _ (told .before .before .before .if1 .left))
+    subject-refused _ _ _ _ _ (sym (ap lookupAs (told .found .given .1)) ∙ told .before .before .suite-of .ensures) (not-false _ (told .before .before .before .if1 .left))
 
 same-length : tie.Need-same-length
 same-length c = search needs
@@ -36,7 +36,7 @@ returns-3 : tie.Need-returns-3
 returns-3 c =
     let done = c .before .before in
     let told = done .before .before .before in
-    subject-under _ _ _ _ _ (suite-found _ _ (sym (ap answerOf (told .found2 .given .1)) ∙ told .before .before .suite-of .ensures))
+    subject-under _ _ _ _ _ (suite-found _ _ (sym (ap lookupAs (told .found2 .given .1)) ∙ told .before .before .suite-of .ensures))
     (not-false _ (told .before .before .before .if1 .left)) _ _ (done .write-under .ensures)
 
 pub write-subject-spec : {M : Type 1} → statement M

@@ -1,5 +1,5 @@
 use mathlib.Core.Path.{sym, _∙_, ap}
-use Rattle.files.specs.Faults.{faultOf}
+use Rattle.files.specs.Faults.{faultAs}
 use Rattle.trimming.proofs.Ends.{ends-refused}
 use borrow.Author.Needs.{needs}
 use Rattle.trimming.proofs.trim.Statement.{statement}
@@ -15,7 +15,7 @@ trim-read-requires : tie.Need-trim-read-requires
 trim-read-requires c κs =
     let t = c .before .before .before in
     let k = t .before .before in
-    let e = ap faultOf (t .enum-told .given .1) in
+    let e = ap faultAs (t .enum-told .given .1) in
     (k .read-both .ensures .1 e, sym (k .read-both .ensures .0) ∙ e)
 
 enum-known-checked : tie.Need-enum-known-checked
@@ -34,7 +34,7 @@ returns-2 : tie.Need-returns-2
 returns-2 c =
     let t = c .before in
     let k = t .before .before in
-    ends-refused _ _ _ _ _ (sym (k .read-both .ensures .0) ∙ ap faultOf (t .checked .given .1))
+    ends-refused _ _ _ _ _ (sym (k .read-both .ensures .0) ∙ ap faultAs (t .checked .given .1))
 
 pub trim-spec : {M : Type 1} → statement M
 trim-spec =

@@ -1,5 +1,5 @@
 use mathlib.Core.Path.{sym, _∙_, ap}
-use Rattle.steps.specs.Steps.{failureOf}
+use Rattle.steps.specs.Steps.{failureAs}
 use Rattle.trimming.proofs.Ends.{ends-step}
 use borrow.Author.Needs.{needs}
 use Rattle.trimming.proofs.trim_read.Statement.{statement}
@@ -16,7 +16,7 @@ trim-passed-requires c κs =
     let t = c .before .before in
     let k = t .before .before in
     let p = k .before .before .before .before .before .pre in
-    (p .0, p .1, sym (k .bundle-steps .ensures) ∙ ap failureOf (t .enum-told .given .1))
+    (p .0, p .1, sym (k .bundle-steps .ensures) ∙ ap failureAs (t .enum-told .given .1))
 
 enum-known-failure : tie.Need-enum-known-failure
 enum-known-failure c = search needs
@@ -34,7 +34,7 @@ returns-2 : tie.Need-returns-2
 returns-2 c =
     let t = c .before in
     let k = t .before .before in
-    ends-step _ _ _ _ (k .before .before .before .before .before .pre .1) _ (sym (k .bundle-steps .ensures) ∙ ap failureOf (t .failure .given .1))
+    ends-step _ _ _ _ (k .before .before .before .before .before .pre .1) _ (sym (k .bundle-steps .ensures) ∙ ap failureAs (t .failure .given .1))
 
 pub trim-read-spec : {M : Type 1} → statement M
 trim-read-spec =

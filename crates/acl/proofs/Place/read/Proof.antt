@@ -4,14 +4,14 @@ use lib.ListN.{length}
 use Rattle.rules.specs.Sizes.{limitsMax}
 use Rattle.rules.specs.Basics.{records}
 use Rattle.rules.proofs.Rows.{recordsFrom}
-use Rattle.acl.specs.Places.{placeOf, reading}
+use Rattle.acl.specs.Places.{aclPlaceAs, reading}
 use Rattle.acl.proofs.Laws.{was-true, acl-bad, acl-full, acl-open, acl-sound, read-stop, read-next, read-done}
 use borrow.Author.Needs.{needs}
 use Rattle.acl.proofs.Place.read.Statement.{statement}
 use Rattle.acl.proofs.Place.read.Tie as tie
 
 abbrev Inv-loop : tie.InvT-loop
-Inv-loop acl place₀ at₀ place at = (at ≤ length acl) × ((place .limits ≤ limitsMax) × (reading (placeOf place) (recordsFrom acl at) ≡ reading (placeOf place₀) (records acl)))
+Inv-loop acl place₀ at₀ place at = (at ≤ length acl) × ((place .limits ≤ limitsMax) × (reading (aclPlaceAs place) (recordsFrom acl at) ≡ reading (aclPlaceAs place₀) (records acl)))
 
 abbrev μ-loop : tie.MeasureT-loop
 μ-loop acl place₀ at₀ place at = length acl - at

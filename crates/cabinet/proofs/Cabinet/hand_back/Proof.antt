@@ -1,4 +1,4 @@
-use Rattle.charging.specs.Charges.{answerOf}
+use Rattle.charging.specs.Charges.{answerAs}
 use Rattle.cabinet.proofs.Laws.{handed}
 use borrow.Author.Needs.{needs}
 use Rattle.cabinet.proofs.Cabinet.hand_back.Statement.{statement}
@@ -16,7 +16,7 @@ element-set-from-s c = search needs
 returns : tie.Need-returns
 returns c =
     let a = c .before .before .before .args in
-    handed (a .t1 .slots) (a .t1 .counters) _ _ (a .at) (record { counts = a .counts; loaded = a .loaded; last = a .after }) (answerOf (a .reply)) (c .charge-counters .ensures)
+    handed (a .t1 .slots) (a .t1 .counters) _ _ (a .at) (record { counts = a .counts; loaded = a .loaded; last = a .after }) (answerAs (a .reply)) (c .charge-counters .ensures)
 
 pub hand-back-spec : {M : Type 1} → statement M
 hand-back-spec = tie.close (tie.spec charge-counters-requires mul-s element-set-from-s returns)

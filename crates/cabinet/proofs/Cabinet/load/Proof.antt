@@ -3,7 +3,7 @@ use lib.ListN.{replicate}
 use Rattle.rules.specs.Sizes.{groupsMax}
 use Rattle.rules.specs.Gate.{done, load}
 use Rattle.rules.specs.Cabinet.{ledgerAt, cabinetLoad}
-use Rattle.cabinet.specs.Kept.{cabinetOf}
+use Rattle.cabinet.specs.Kept.{cabinetAs}
 use Rattle.cabinet.proofs.Laws.{handed, slot-refused, slot-taken}
 use borrow.Author.Needs.{needs}
 use Rattle.cabinet.proofs.Cabinet.load.Statement.{statement}
@@ -26,7 +26,7 @@ returns-2 : tie.Need-returns-2
 unfolding cabinetLoad
 returns-2 c =
     let a = c .before .args in
-    slot-taken (cabinetOf (a .t1)) (a .slot) (load (ledgerAt (cabinetOf (a .t1)) (a .slot)) (a .time)) _ (search needs)
+    slot-taken (cabinetAs (a .t1)) (a .slot) (load (ledgerAt (cabinetAs (a .t1)) (a .slot)) (a .time)) _ (search needs)
     (handed (a .t1 .slots) (a .t1 .counters) (a .t1 .counters) (a .t1 .counters) (a .slot) (record { counts = replicate groupsMax 0; loaded = a .time; last = a .time }) done refl)
 
 pub load-spec : {M : Type 1} → statement M
