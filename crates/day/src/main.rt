@@ -1,6 +1,7 @@
 // The day program: `day KM0 ACL REQUESTS`, three file names. It starts with a fresh ledger loaded at 0 and prints a line for each request record; a bad
 // file or record, or too many records, print `0 refuse N` alone.
 use arguments::Input;
+use charging::Reply;
 use files::Checked;
 use gate::Ledger;
 use libc::STDERR_FILENO;
@@ -14,7 +15,7 @@ fn loaded() -> Ledger {
 // The line of request record k, and the ledger after it.
 fn answer(k: u64, before: Ledger, km0: &[u8], acl: &[u8], rec: &[u8]) -> Ledger {
     let o = before.request(km0, acl, rec);
-    let reply = o.reply;
+    let reply: Reply = o.reply;
     printing::print_line(k);
     outcomes::print_reply(reply);
     printing::print(b"\n");
