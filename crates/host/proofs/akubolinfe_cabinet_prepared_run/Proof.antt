@@ -282,4 +282,4 @@ akubolinfe-cabinet-prepared-run-spec 𝓤 H 𝓜 𝓖 𝓡 =
     (tables 𝓤 H 𝓜 𝓡 code.env .C) (tables 𝓤 H 𝓜 𝓡 code.env .Λ) #host·akubolinfe-cabinet-prepared-run code.function (code.unfolded 𝓤 H 𝓜 𝓡)
     (meets 𝓤 H (𝓖 .A) (givenOf 𝓤 H 𝓜 𝓖) (𝓜 .mem) (𝓡 .run) (tablesOf 𝓤 H 𝓜 (tables 𝓤 H 𝓜 𝓡 code.env))
     (cited 𝓤 H (C-prepared 𝓤 H (𝓖 .A) (𝓜 .mem) (𝓡 .run)) 𝓜 𝓡 code.env #slots·prepared-run prepared-def.routine code.calls-slots·prepared-run (prepared-thm.met 𝓤 H 𝓜 𝓖 𝓡))
-    (cited 𝓤 H (C-told 𝓤 H (𝓖 .A) (𝓜 .mem) (𝓡 .run)) 𝓜 𝓡 code.env #host-runs·cabinet-run told-def.routine code.calls-told·cabinet-run (told-thm.met 𝓤 H 𝓜 𝓖 𝓡)))
+    (cited 𝓤 H (C-told 𝓤 H (𝓖 .A) (𝓜 .mem) (𝓡 .run)) 𝓜 𝓡 code.env #host-runs·cabinet-run told-def.routine code.calls-host-runs·cabinet-run (told-thm.met 𝓤 H 𝓜 𝓖 𝓡)))

@@ -270,4 +270,4 @@ akubolinfe-cabinet-run-spec 𝓤 H 𝓜 𝓖 𝓡 =
     (tables 𝓤 H 𝓜 𝓡 code.env .C) (tables 𝓤 H 𝓜 𝓡 code.env .Λ) #host·akubolinfe-cabinet-run code.function (code.unfolded 𝓤 H 𝓜 𝓡)
     (meets 𝓤 H (𝓖 .A) (givenOf 𝓤 H 𝓜 𝓖) (𝓜 .mem) (𝓡 .run) (tablesOf 𝓤 H 𝓜 (tables 𝓤 H 𝓜 𝓡 code.env))
     (cited 𝓤 H (C-plain-run 𝓤 H (𝓖 .A) (𝓜 .mem) (𝓡 .run)) 𝓜 𝓡 code.env #slots·run plain-run-def.routine code.calls-slots·run (plain-run-thm.met 𝓤 H 𝓜 𝓖 𝓡))
-    (cited 𝓤 H (C-told 𝓤 H (𝓖 .A) (𝓜 .mem) (𝓡 .run)) 𝓜 𝓡 code.env #host-runs·cabinet-run told-def.routine code.calls-told·cabinet-run (told-thm.met 𝓤 H 𝓜 𝓖 𝓡)))
+    (cited 𝓤 H (C-told 𝓤 H (𝓖 .A) (𝓜 .mem) (𝓡 .run)) 𝓜 𝓡 code.env #host-runs·cabinet-run told-def.routine code.calls-host-runs·cabinet-run (told-thm.met 𝓤 H 𝓜 𝓖 𝓡)))
