@@ -3,11 +3,11 @@
 use Prim.Native.Nat.{ℕ, zero, suc, _+_, _-_, _*_, _/_, _%_, _^_, _<_, _≤_}
 use native.Mathlib.Omega.{arith}
 use native.Mathlib.Nat.{zero-mod}
-use mathlib.Core.Path.{_≡_, refl, sym, _∙_, ap}
-use mathlib.Core.List.{List, [], _∷_}
+use mathlib.Core.Path.{_≡_, refl, sym, _∙_, ap, ap₂}
+use mathlib.Core.List.{List, [], _∷_, _++_}
 use mathlib.Core.Bool.{Bool, true, false, not, _&&_, _||_}
 use borrow.Author.Tests.{eq-eqb, ne-eqb, not-true, not-false}
-use lib.ListN.{length, take, drop, getD}
+use lib.ListN.{length, take, drop, getD, length-drop, take-append-drop}
 use lib.Dec.{eqb, leb}
 use Rattle.rules.specs.Sizes.{hashBytes, aclRecords, certificatesMax, setBits}
 use Rattle.rules.specs.Basics.{Bytes, any, same, kind, flag, part, number, optional, matchesNumber, setOf, fits}
@@ -15,6 +15,8 @@ use Rattle.rules.specs.Acl.{groupOf, groupsOf, aclOf}
 use Rattle.rules.specs.Request as rules
 use Rattle.rules.specs.Chain.{serves}
 use lib.Pow.{mod-pow-add}
+use lib.Seq.{take-all, length-take-le}
+use Rattle.fields.proofs.Laws.{and-assoc}
 use Rattle.rules.proofs.GroupSets.{digit-odd}
 use Rattle.rules.proofs.Sets.{set-rest}
 use Rattle.rules.proofs.Rows.{recordsFrom, rows-end, rows-lent, lentRecord, lent-record, kind-at}
@@ -26,6 +28,23 @@ matched-any wanted n used e = sym (rw (not-true used e))
 
 pub matched-same : (wanted n : ℕ) (used : Bool) → not used ≡ false → eqb wanted n ≡ matchesNumber (optional used wanted) n
 matched-same wanted n used e = sym (rw (not-false used e))
+
+-- two hashes, by their first sixteen bytes and their last four
+same-append : (vs ws xs ys : Bytes) → length vs ≡ length ws → same (vs ++ xs) (ws ++ ys) ≡ (same vs ws && same xs ys)
+unfolding same
+same-append [] [] xs ys l = refl
+same-append [] (w ∷ ws) xs ys l = absurd (omega arith)
+same-append (v ∷ vs) [] xs ys l = absurd (omega arith)
+same-append (v ∷ vs) (w ∷ ws) xs ys l = ap (λ (t : Bool). eqb v w && t) (same-append vs ws xs ys (omega arith)) ∙ sym (and-assoc (eqb v w) (same vs ws) (same xs ys))
+
+hash-rest : (x : Bytes) → length x ≡ hashBytes → take (20 - 16) (drop 16 x) ≡ drop 16 x
+hash-rest x h = take-all 4 (drop 16 x) (omega (arith, length-drop 16 x))
+
+pub same-parts : (x y : Bytes) (a b : Bool) → length x ≡ hashBytes → length y ≡ hashBytes → a ≡ same (take (16 - 0) (drop 0 x)) (take (16 - 0) (drop 0 y)) → b ≡ same (take (20 - 16) (drop 16 x)) (take (20 - 16) (drop 16 y))
+    → (a && b) ≡ same x y
+same-parts x y a b h k d e =
+    rw (d, e, hash-rest x h, hash-rest y k) (sym (same-append (take 16 x) (take 16 y) (drop 16 x) (drop 16 y) (length-take-le 16 x (omega arith) ∙ sym (length-take-le 16 y (omega arith)))))
+    ∙ ap₂ same (take-append-drop 16 x) (take-append-drop 16 y)
 
 -- a certificate against a group's record, by the code's tests
 pub serving-lent : (g h : Bytes) (a b m : Bool) (n mi : ℕ) → a ≡ same h (take (24 - 4) (drop 4 g)) → m ≡ flag 1 g → n ≡ number 24 2 g → b ≡ matchesNumber (optional m n) mi

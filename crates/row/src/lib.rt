@@ -4,8 +4,8 @@ ghost use mathlib.Core.Path.{_≡_};
 ghost use mathlib.Core.Bool.{not, _&&_, _||_};
 ghost use Prim.Native.Nat.{_+_, _-_, _*_, _%_, _≤_};
 ghost use lib.ListN.{length, take};
-ghost use Rattle.rules.specs.Sizes.{recordBytes, setBits};
-ghost use Rattle.rules.specs.Basics.{all, any, flag, optional, matchesNumber};
+ghost use Rattle.rules.specs.Sizes.{recordBytes, hashBytes, setBits};
+ghost use Rattle.rules.specs.Basics.{all, any, same, flag, optional, matchesNumber};
 ghost use Rattle.rules.specs.Acl.{aclOf};
 ghost use Rattle.rules.specs.Runs.{mechanismNamed};
 ghost use Rattle.row.specs.Rows.{certificateAs, rowAs, recordBefore, serving, digit, LastGroup, certifiedSet, readableOf, Saw};
@@ -47,13 +47,22 @@ fn matches_number(used: bool, wanted: u16, n: u16) -> bool
     wanted == n
 }
 
+// Whether two hashes are the same, by sixteen bytes and four: a certificate's copy is stored in words of eight, eight and four bytes, and the last eight of
+// its twenty bytes, which same_bytes would compare at once, lie across two of them, so that their load would wait for the stores.
+fn same_hash(h: &[u8], k: &[u8]) -> bool
+    requires { ⌜ (length (now h) ≡ hashBytes) × (length (now k) ≡ hashBytes) ⌝ }
+    ensures { λ r. ⌜ r ≡ same (now (h .entry)) (now (k .entry)) ⌝ }
+{
+    fields::same_bytes(&h[0..16], &k[0..16]) & fields::same_bytes(&h[16..20], &k[16..20])
+}
+
 // Whether a certificate has the hash of a group's certifier and, where named, its mechanism. The group is given by its record.
 fn serves_group(c: Certificate, group: &[u8]) -> bool
     requires { ⌜ length (now group) ≡ recordBytes ⌝ }
     ensures { λ r. ⌜ r ≡ serving (now (group .entry)) (certificateAs c) ⌝ }
 {
     let h = c.hash;
-    fields::same_bytes(&h, &group[4..24])
+    same_hash(&h, &group[4..24])
         & matches_number(
             fields::flag_of(1, group),
             fields::be16(group, 24),
