@@ -1,15 +1,11 @@
 -- Tests of two records in the definitions' terms.
 use Prim.Native.Nat.{ℕ}
 use mathlib.Core.Path.{_≡_}
-use mathlib.Core.Bool.{Bool, not, _&&_, _||_}
+use mathlib.Core.Bool.{_&&_}
 use lib.Dec.{eqb, leb}
-use Rattle.rules.specs.Basics.{Bytes, implies, byte, number}
+use Rattle.rules.specs.Basics.{Bytes, byte, number}
 use Rattle.rules.specs.Acl.{limitOf}
 use Rattle.rules.specs.Narrow.{answers}
-
--- an allowing flag
-pub allowed-is : (a b x y : Bool) → a ≡ x → b ≡ y → (not a || b) ≡ implies x y
-allowed-is a b x y p q = rw (p, q)
 
 -- a limit that answers another
 pub answers-is : (old new : Bytes) (x y : ℕ) → x ≡ number 8 4 new → y ≡ number 8 4 old

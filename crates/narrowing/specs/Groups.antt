@@ -3,13 +3,13 @@ use Prim.Native.Nat.{ℕ, _+_, _-_, _≤_}
 use mathlib.Core.Path.{_≡_}
 use mathlib.Core.List.{List}
 use mathlib.Core.Option.{Option, none, some}
-use mathlib.Core.Bool.{Bool, _&&_}
+use mathlib.Core.Bool.{Bool}
 use lib.ListN.{length, drop, getElem?}
 use lib.Dec.{leb, ltb}
-use Rattle.rules.specs.Sizes.{recordBytes, hashBytes}
-use Rattle.rules.specs.Basics.{if_then_else_, Bytes, part, number, flag, optional, records}
+use Rattle.rules.specs.Sizes.{recordBytes}
+use Rattle.rules.specs.Basics.{if_then_else_, Bytes, records}
 use Rattle.rules.specs.Acl.{Action, actionsOf, groupOf}
-use Rattle.rules.specs.Narrow.{kept, keptNumber, groupNarrows}
+use Rattle.rules.specs.Narrow.{groupNarrows}
 use Rattle.groups.specs.Parts.{actionFrom}
 
 -- The action whose record stands at a place of a group's records, with the record of kind 15 that may follow it; none where no record does.
@@ -25,12 +25,6 @@ pub record ActionAt (s : Bytes) (h r : ℕ) : Type 0 where
   pub found : actionIn s r ≡ getElem? (actionsOf (records s)) h
   pub next : recordBytes ≤ length s - r → actionsOf (records (drop (r + recordBytes) s)) ≡ drop (h + 1) (actionsOf (records s))
   pub inside : r ≤ length s
-
--- "a new group keeps any certifier and mechanism", by the groups' first records
-unfoldable pub certifierKept : Bytes → Bytes → Bool
-certifierKept n o =
-    kept (optional (flag 0 n) (part 4 hashBytes n)) (optional (flag 0 o) (part 4 hashBytes o))
-    && keptNumber (optional (flag 1 n) (number 24 2 n)) (optional (flag 1 o) (number 24 2 o))
 
 -- a new group against its source, by their records
 unfoldable pub recordsNarrow : Bytes → List Bytes → Bytes → Bytes → List Bytes → Bool

@@ -1,7 +1,7 @@
 use Rattle.rules.proofs.Choices.{and-is}
 use borrow.Author.Needs.{needs}
-use Rattle.narrowing.proofs.blob_no_wider.Statement.{statement}
-use Rattle.narrowing.proofs.blob_no_wider.Tie as tie
+use Rattle.restrictions.proofs.blob_no_wider.Statement.{statement}
+use Rattle.restrictions.proofs.blob_no_wider.Tie as tie
 
 not-added-requires : tie.Need-not-added-requires
 not-added-requires c κs = search needs

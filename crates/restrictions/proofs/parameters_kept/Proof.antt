@@ -1,6 +1,6 @@
 use borrow.Author.Needs.{needs}
-use Rattle.narrowing.proofs.parameters_kept.Statement.{statement}
-use Rattle.narrowing.proofs.parameters_kept.Tie as tie
+use Rattle.restrictions.proofs.parameters_kept.Statement.{statement}
+use Rattle.restrictions.proofs.parameters_kept.Tie as tie
 
 flag-of-requires : tie.Need-flag-of-requires
 flag-of-requires c κs = search needs

@@ -1,7 +1,7 @@
-use Rattle.narrowing.proofs.Laws.{blob-against, blobs-compared, archive-against-bits, archive-against-blob, archives-compared}
+use Rattle.restrictions.proofs.Laws.{blob-against, blobs-compared, archive-against-bits, archive-against-blob, archives-compared}
 use borrow.Author.Needs.{needs}
-use Rattle.narrowing.proofs.rule_no_wider.Statement.{statement}
-use Rattle.narrowing.proofs.rule_no_wider.Tie as tie
+use Rattle.restrictions.proofs.rule_no_wider.Statement.{statement}
+use Rattle.restrictions.proofs.rule_no_wider.Tie as tie
 
 shared-slice-read-kind : tie.Need-shared-slice-read-kind
 shared-slice-read-kind c = search needs

@@ -1,6 +1,6 @@
 use borrow.Author.Needs.{needs}
-use Rattle.narrowing.proofs.archive_no_wider.Statement.{statement}
-use Rattle.narrowing.proofs.archive_no_wider.Tie as tie
+use Rattle.restrictions.proofs.archive_no_wider.Statement.{statement}
+use Rattle.restrictions.proofs.archive_no_wider.Tie as tie
 
 be16-requires : tie.Need-be16-requires
 be16-requires c κs = search needs

@@ -1,7 +1,7 @@
-use Rattle.narrowing.proofs.Laws.{certifier-is}
+use Rattle.restrictions.proofs.Laws.{certifier-is}
 use borrow.Author.Needs.{needs}
-use Rattle.narrowing.proofs.certifier_kept.Statement.{statement}
-use Rattle.narrowing.proofs.certifier_kept.Tie as tie
+use Rattle.restrictions.proofs.certifier_kept.Statement.{statement}
+use Rattle.restrictions.proofs.certifier_kept.Tie as tie
 
 hash-kept-requires : tie.Need-hash-kept-requires
 hash-kept-requires c κs = search needs

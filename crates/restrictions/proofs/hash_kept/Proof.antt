@@ -1,7 +1,7 @@
-use Rattle.narrowing.proofs.Laws.{hash-is}
+use Rattle.restrictions.proofs.Laws.{hash-is}
 use borrow.Author.Needs.{needs}
-use Rattle.narrowing.proofs.hash_kept.Statement.{statement}
-use Rattle.narrowing.proofs.hash_kept.Tie as tie
+use Rattle.restrictions.proofs.hash_kept.Statement.{statement}
+use Rattle.restrictions.proofs.hash_kept.Tie as tie
 
 flag-of-requires : tie.Need-flag-of-requires
 flag-of-requires c κs = search needs

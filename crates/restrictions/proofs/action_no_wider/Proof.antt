@@ -1,7 +1,7 @@
-use Rattle.narrowing.proofs.Laws.{bits-against, bits-compared, rules-compared}
+use Rattle.restrictions.proofs.Laws.{bits-against, bits-compared, rules-compared}
 use borrow.Author.Needs.{needs}
-use Rattle.narrowing.proofs.action_no_wider.Statement.{statement}
-use Rattle.narrowing.proofs.action_no_wider.Tie as tie
+use Rattle.restrictions.proofs.action_no_wider.Statement.{statement}
+use Rattle.restrictions.proofs.action_no_wider.Tie as tie
 
 shared-slice-read-if1 : tie.Need-shared-slice-read-if1
 shared-slice-read-if1 c = search needs

@@ -1,7 +1,7 @@
-use Rattle.narrowing.proofs.Tests.{allowed-is}
+use Rattle.restrictions.proofs.Laws.{allowed-is}
 use borrow.Author.Needs.{needs}
-use Rattle.narrowing.proofs.not_added.Statement.{statement}
-use Rattle.narrowing.proofs.not_added.Tie as tie
+use Rattle.restrictions.proofs.not_added.Statement.{statement}
+use Rattle.restrictions.proofs.not_added.Tie as tie
 
 flag-of-requires : tie.Need-flag-of-requires
 flag-of-requires c κs = search needs
