@@ -1,5 +1,7 @@
--- What a call comes to, whichever kind of call it is: the one case over the kinds of call for laws that follow a ledger from call to call.
+-- What a call comes to, whichever kind of call it is. `kind` is the one case over the kinds of call; from it come the laws that the theorems cite: what
+-- a call leaves of the ledger (`comes`), what a permitted one is (`permit-is`), whether it replaces the ACL in force (`replaces`).
 use Prim.Native.Nat.{ℕ, _≤_}
+use native.Mathlib.Omega.{arith}
 use mathlib.Core.Path.{_≡_, refl}
 use mathlib.Core.List.{List}
 use mathlib.Core.Option.{Option, none, some}
@@ -8,61 +10,125 @@ use lib.ListN.{length, getElem?, replicate}
 use lib.Dec.{ltb}
 use Rattle.rules.specs.Sizes.{groupsMax, countersMax}
 use Rattle.rules.specs.Numbers.{notNarrower, outOfRange}
-use Rattle.rules.specs.Basics.{Bytes}
-use Rattle.rules.specs.Acl.{Group, aclOf}
-use Rattle.rules.specs.Request.{Request, requestOf, Hint, hintsOf}
+use Rattle.rules.specs.Basics.{if_then_else_, Bytes, records}
+use Rattle.rules.specs.Acl.{Group, aclOf, aclFault}
+use Rattle.rules.specs.Request.{operation, reduceAcl, expandAcl, requestOf, hintsOf}
 use Rattle.rules.specs.Ledger.{Ledger, charge, loadedAt, cleared, recounted, carried}
 use Rattle.rules.specs.Narrow.{narrows}
-use Rattle.rules.specs.Gate.{Outcome, numberOf, nearest, Judgement, granted, denied, judge, grants, refusedNear, permitted, finished, outcomeUnless, settle, requestFiles, request, clear, narrowFiles, narrowed, narrow, expandFiles, expanded, expand}
+use Rattle.rules.specs.Gate.{Outcome, permit, numberOf, nearest, Judgement, granted, denied, judge, grants, refusedNear, refused, permitted, finished, outcomeUnless, settle, requestFiles, request, clear, narrowFiles, narrow, expandFiles, expand}
+use Rattle.theorems.specs.Demands.{Call, requesting, loading, clearing, narrowing, expanding, State, outcome, replacement, inForce, after, requestIn, wantedIn}
+use Rattle.theorems.specs.Account.{requestAsked, km0Given}
+use Rattle.rules.proofs.Laws.{never, fault-none-every}
 use Rattle.rules.proofs.Few.{narrow-few}
-use Rattle.theorems.specs.Demands.{Call, requesting, loading, clearing, narrowing, expanding, State, outcome}
+use Rattle.rules.proofs.Forms.{KnownUse}
+use Rattle.theorems.proofs.RequestFile.{known-request, use-wanted}
 use Rattle.theorems.proofs.Permit.{granted-is, called}
 
--- the group counts that a permitted call leaves: those of the charge, those that a narrowing carries over, or zeros
-pub data Leaves (counts : List ℕ) : List ℕ → Type 0 where
-  as-charged : Leaves counts counts
-  by-hints : (hints : List Hint) → length hints ≤ groupsMax → Leaves counts (carried counts hints)
-  zeroed : Leaves counts (replicate groupsMax 0)
+-- What a permitted call is, and what it leaves of the group counts after the charge: a use leaves them, a narrowing, which its hints show, carries
+-- them over, and an expansion zeroes them.
+pub data Way (acl : Bytes) (counts : List ℕ) : Call → List ℕ → Type 0 where
+  uses : (km0 req : Bytes) → Way acl counts (requesting km0 req) counts
+  reduces : (km0 req new hints : Bytes) → narrows (aclOf acl) (aclOf new) (hintsOf hints) ≡ true → length (hintsOf hints) ≤ groupsMax → Way acl counts (narrowing km0 req new hints) (carried counts (hintsOf hints))
+  expands : (km0 req new : Bytes) → requestOf req .wanted ≡ operation expandAcl → Way acl counts (expanding km0 req new) (replicate groupsMax 0)
 
--- A call is refused and leaves the ledger; or it is a load; or a clear; or it is permitted by a group that stands at its place and grants.
-pub data Comes (s : State) (c : Call) : Outcome → Type 0 where
-  refuses : (n : ℕ) (near : Option ℕ) → Comes s c (refusedNear (s .ledger) n near)
-  loads : (time : ℕ) → c ≡ loading time → Comes s c (finished (loadedAt (s .ledger) time))
-  zeroes : (n : ℕ) → c ≡ clearing n → Comes s c (finished (cleared (s .ledger) n))
-  permits : (km0 : Bytes) (q : Request) (k : ℕ) (g : Group) (counts : List ℕ) → getElem? (aclOf (s .acl)) k ≡ some g → grants (s .ledger) km0 q k g ≡ true → Leaves (charge (s .ledger) k g (q .time) .counts) counts → Comes s c (permitted k (recounted (charge (s .ledger) k g (q .time)) counts))
+-- A judged call whose files have no fault: it asks, and what it asks for is known.
+pub record Sound (acl : Bytes) (counts : List ℕ) (c : Call) (left : List ℕ) : Type 0 where
+  pub file : aclFault (records acl) ≡ none
+  pub asks : requestIn c ≡ some (requestAsked c)
+  pub wants : wantedIn c ≡ some (requestAsked c .wanted)
+  pub known : KnownUse (requestAsked c .wanted)
+  pub way : Way acl counts c left
 
-called-comes : (s : State) (c : Call) (fault : Option ℕ) (km0 : Bytes) (q : Request) (onPermit : ℕ → Ledger → Outcome)
-    → ((k : ℕ) (g : Group) → fault ≡ none → getElem? (aclOf (s .acl)) k ≡ some g → grants (s .ledger) km0 q k g ≡ true → Comes s c (onPermit k (charge (s .ledger) k g (q .time))))
-    → Comes s c (called fault (s .ledger) km0 (aclOf (s .acl)) q onPermit)
-called-comes s c fault km0 q onPermit f = pick fault refl (judge (s .ledger) km0 (aclOf (s .acl)) q) refl
+-- A call is judged, or a load, or a clear of a counter in the table or past it; with what it makes of a ledger.
+pub data Kind (acl : Bytes) : Call → (Ledger → Outcome) → Type 0 where
+  judged : {c : Call} (fault : Option ℕ) (shown : Bool) (recount : List ℕ → List ℕ) → (fault ≡ none → shown ≡ true → (counts : List ℕ) → Sound acl counts c (recount counts))
+      → Kind acl c (λ l. called fault l (km0Given c) (aclOf acl) (requestAsked c) (λ k m. if shown then permitted k (recounted m (recount (m .counts))) else refused l notNarrower))
+  loaded : (time : ℕ) → Kind acl (loading time) (λ l. finished (loadedAt l time))
+  within : (n : ℕ) → ltb n countersMax ≡ true → Kind acl (clearing n) (λ l. finished (cleared l n))
+  past : (n : ℕ) → Kind acl (clearing n) (λ l. refused l outOfRange)
+
+pub kind : (acl : Bytes) (c : Call) → Kind acl c (λ l. outcome (record { ledger = l; acl = acl }) c)
+unfolding outcome request clear narrow expand
+kind acl (requesting km0 req) =
+    judged (requestFiles km0 acl req) true (λ counts. counts)
+    (λ e t counts. let n = fault-none-every _ e in record { file = n .1 .0; asks = refl; wants = refl; known = known-request (records req) (n .1 .1 .0); way = uses km0 req })
+kind acl (loading time) = loaded time
+kind acl (clearing n) = pick (ltb n countersMax) refl
   where
-    pick : (o : Option ℕ) → fault ≡ o → (j : Judgement) → judge (s .ledger) km0 (aclOf (s .acl)) q ≡ j → Comes s c (outcomeUnless (s .ledger) o (settle (s .ledger) (q .time) onPermit j))
-    pick (some x) p j e = refuses x none
-    pick none p (granted k g) e = let r = granted-is (s .ledger) km0 (aclOf (s .acl)) q k g e in f k g p (r .0) (r .1)
-    pick none p (denied d) e = refuses (numberOf d) (nearest d)
+    pick : (b : Bool) → ltb n countersMax ≡ b → Kind acl (clearing n) (λ l. clear l n)
+    pick true e = rw e (within n e)
+    pick false e = rw e (past n)
+kind acl (narrowing km0 req new hints) =
+    judged {c = narrowing km0 req new hints} (narrowFiles km0 acl req new hints) (narrows (aclOf acl) (aclOf new) (hintsOf hints)) (λ counts. carried counts (hintsOf hints))
+    (λ e t counts.
+    let n = fault-none-every _ e in
+    let u : requestOf req .wanted ≡ operation reduceAcl = use-wanted reduceAcl (records req) (n .1 .1 .0) in
+    record { file = n .1 .0; asks = refl; wants = refl; known = rw u (omega arith); way = reduces km0 req new hints t (narrow-few km0 acl req new hints e) })
+kind acl (expanding km0 req new) =
+    judged {c = expanding km0 req new} (expandFiles km0 acl req new) true (λ counts. replicate groupsMax 0)
+    (λ e t counts.
+    let n = fault-none-every _ e in
+    let u : requestOf req .wanted ≡ operation expandAcl = use-wanted expandAcl (records req) (n .1 .1 .0) in
+    record { file = n .1 .0; asks = refl; wants = refl; known = rw u (omega arith); way = expands km0 req new u })
+
+-- A permitted call: the group that is the reply stands at its place and grants.
+pub record Permits (s : State) (c : Call) (k : ℕ) (g : Group) (counts : List ℕ) : Type 0 where
+  pub there : getElem? (aclOf (s .acl)) k ≡ some g
+  pub granting : grants (s .ledger) (km0Given c) (requestAsked c) k g ≡ true
+  pub sound : Sound (s .acl) (charge (s .ledger) k g (requestAsked c .time) .counts) c counts
+
+-- A call is refused and leaves the ledger; or it is a load; or a clear; or it is permitted.
+pub data Comes (s : State) : Call → Outcome → Type 0 where
+  refuses : {c : Call} (n : ℕ) (near : Option ℕ) → Comes s c (refusedNear (s .ledger) n near)
+  loads : (time : ℕ) → Comes s (loading time) (finished (loadedAt (s .ledger) time))
+  zeroes : (n : ℕ) → ltb n countersMax ≡ true → Comes s (clearing n) (finished (cleared (s .ledger) n))
+  permits : {c : Call} (k : ℕ) (g : Group) (counts : List ℕ) → Permits s c k g counts → Comes s c (permitted k (recounted (charge (s .ledger) k g (requestAsked c .time)) counts))
 
 pub comes : (s : State) (c : Call) → Comes s c (outcome s c)
-unfolding outcome request clear narrow expand
-comes s (requesting km0 req) =
-    called-comes s (requesting km0 req) (requestFiles km0 (s .acl) req) km0 (requestOf req) permitted
-    (λ k g n e d. permits km0 (requestOf req) k g (charge (s .ledger) k g (requestOf req .time) .counts) e d as-charged)
-comes s (loading time) = loads time refl
-comes s (clearing n) = pick (ltb n countersMax) refl
+comes s c = pick c (λ l. outcome (record { ledger = l; acl = s .acl }) c) (kind (s .acl) c)
   where
-    pick : (b : Bool) → ltb n countersMax ≡ b → Comes s (clearing n) (clear (s .ledger) n)
-    pick true e = rw e (zeroes n refl)
-    pick false e = rw e (refuses outOfRange none)
-comes s (narrowing km0 req new hints) =
-    called-comes s (narrowing km0 req new hints) (narrowFiles km0 (s .acl) req new hints) km0 (requestOf req) (narrowed (s .ledger) (aclOf (s .acl)) (aclOf new) (hintsOf hints))
-    (λ k g n e d. pick k g n e d (narrows (aclOf (s .acl)) (aclOf new) (hintsOf hints)) refl)
+    settled : (c : Call) (fault : Option ℕ) (shown : Bool) (recount : List ℕ → List ℕ) → (fault ≡ none → shown ≡ true → (counts : List ℕ) → Sound (s .acl) counts c (recount counts)) → (j : Judgement) → judge (s .ledger) (km0Given c) (aclOf (s .acl)) (requestAsked c) ≡ j
+        → Comes s c (outcomeUnless (s .ledger) fault (settle (s .ledger) (requestAsked c .time) (λ k m. if shown then permitted k (recounted m (recount (m .counts))) else refused (s .ledger) notNarrower) j))
+    settled c (some x) shown recount h j e = refuses x none
+    settled c none shown recount h (denied d) e = refuses (numberOf d) (nearest d)
+    settled c none false recount h (granted k g) e = refuses notNarrower none
+    settled c none true recount h (granted k g) e =
+        let r = granted-is (s .ledger) (km0Given c) (aclOf (s .acl)) (requestAsked c) k g e in
+        permits k g _ (record { there = r .0; granting = r .1; sound = h refl refl _ })
+
+    pick : (c : Call) (f : Ledger → Outcome) → Kind (s .acl) c f → Comes s c (f (s .ledger))
+    pick c f (judged fault shown recount h) = settled c fault shown recount h _ refl
+    pick c f (loaded time) = loads time
+    pick c f (within n e) = zeroes n e
+    pick c f (past n) = refuses outOfRange none
+
+-- Is it permitted? Then some group grants it, and it is one of the three ways.
+pub permit-is : (s : State) (c : Call) (k : ℕ) → outcome s c .answer ≡ permit k → (g : Group) × (counts : List ℕ) × Permits s c k g counts
+permit-is s c k e = pick c (outcome s c) (comes s c) e
   where
-    pick : (k : ℕ) (g : Group) → narrowFiles km0 (s .acl) req new hints ≡ none → getElem? (aclOf (s .acl)) k ≡ some g → grants (s .ledger) km0 (requestOf req) k g ≡ true
-        → (b : Bool) → narrows (aclOf (s .acl)) (aclOf new) (hintsOf hints) ≡ b
-        → Comes s (narrowing km0 req new hints) (narrowed (s .ledger) (aclOf (s .acl)) (aclOf new) (hintsOf hints) k (charge (s .ledger) k g (requestOf req .time)))
-    pick k g n e d true t =
-        let l = charge (s .ledger) k g (requestOf req .time) in
-        rw t (permits km0 (requestOf req) k g (carried (l .counts) (hintsOf hints)) e d (by-hints (hintsOf hints) (narrow-few km0 (s .acl) req new hints n)))
-    pick k g n e d false t = rw t (refuses notNarrower none)
-comes s (expanding km0 req new) =
-    called-comes s (expanding km0 req new) (expandFiles km0 (s .acl) req new) km0 (requestOf req) expanded
-    (λ k g n e d. permits km0 (requestOf req) k g (replicate groupsMax 0) e d zeroed)
+    pick : (c : Call) (o : Outcome) → Comes s c o → o .answer ≡ permit k → (g : Group) × (counts : List ℕ) × Permits s c k g counts
+    pick c o (refuses n near) e = absurd (never (cc))
+    pick c o (loads time) e = absurd (never (cc))
+    pick c o (zeroes n d) e = absurd (never (cc))
+    pick c o (permits i g counts p) e = let q : i ≡ k = cc in (g, counts, rw q at p)
+
+-- Does it replace the ACL in force? That stands, or the call is a narrowing that its hints show, or a permitted expansion.
+pub data Replaces (s : State) : Call → Bytes → Type 0 where
+  stands : {c : Call} → Replaces s c (s .acl)
+  narrower : (km0 req new hints : Bytes) → narrows (aclOf (s .acl)) (aclOf new) (hintsOf hints) ≡ true → Replaces s (narrowing km0 req new hints) new
+  wider : (km0 req new : Bytes) (k : ℕ) (g : Group) (counts : List ℕ) → requestOf req .wanted ≡ operation expandAcl → Permits s (expanding km0 req new) k g counts → Replaces s (expanding km0 req new) new
+
+pub replaces : (s : State) (c : Call) → Replaces s c (after s c .acl)
+unfolding after
+replaces s c = pick c (outcome s c) (comes s c)
+  where
+    by-way : (c : Call) (k : ℕ) (g : Group) (counts left : List ℕ) → Way (s .acl) counts c left → Permits s c k g left → Replaces s c (replacement (s .acl) c)
+    by-way c k g counts left (uses km0 req) p = stands
+    by-way c k g counts left (reduces km0 req new hints t few) p = narrower km0 req new hints t
+    by-way c k g counts left (expands km0 req new u) p = wider km0 req new k g left u p
+
+    pick : (c : Call) (o : Outcome) → Comes s c o → Replaces s c (inForce (s .acl) (replacement (s .acl) c) (o .answer))
+    pick c o (refuses n near) = stands
+    pick c o (loads time) = stands
+    pick c o (zeroes n e) = stands
+    pick c o (permits k g counts p) = by-way c k g _ counts (p .sound .way) p

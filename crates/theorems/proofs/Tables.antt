@@ -7,11 +7,12 @@ use mathlib.Core.List.{List, [], _∷_, map}
 use lib.ListN.{length, getD, replicate, length-set, length-append, length-replicate, length-map}
 use Rattle.rules.specs.Sizes.{groupsMax, countersMax}
 use Rattle.rules.specs.Acl.{Group}
-use Rattle.rules.specs.Request.{Hint}
+use Rattle.rules.specs.Request.{Hint, hintsOf}
 use Rattle.rules.specs.Ledger.{Ledger, freshLedger, charge, carried}
 use Rattle.rules.specs.Gate.{Outcome}
 use Rattle.theorems.specs.Demands.{Call, State, outcome, after, afterAll}
-use Rattle.theorems.proofs.Calls.{Leaves, as-charged, by-hints, zeroed, Comes, refuses, loads, zeroes, permits, comes}
+use Rattle.theorems.specs.Account.{requestAsked}
+use Rattle.theorems.proofs.Calls.{Way, uses, reduces, expands, Comes, refuses, loads, zeroes, permits, comes}
 use Rattle.theorems.proofs.Counters.{raisedBy-length}
 
 -- as many counts as an ACL may have groups, and as many counters as there are named ones
@@ -35,20 +36,20 @@ carried-sized counts hints h =
     omega arith
 
 pub call-sized : (s : State) (c : Call) → Sized (s .ledger) → Sized (outcome s c .ledger)
-call-sized s c h = pick (outcome s c) (comes s c)
+call-sized s c h = pick c (outcome s c) (comes s c)
   where
-    left-sized : (counts after : List ℕ) → Leaves counts after → length counts ≡ groupsMax → length after ≡ groupsMax
-    left-sized counts after as-charged t = t
-    left-sized counts after (by-hints hints few) t = carried-sized counts hints few
-    left-sized counts after zeroed t = length-replicate {A = ℕ} groupsMax 0
+    left-sized : (c : Call) (counts left : List ℕ) → Way (s .acl) counts c left → length counts ≡ groupsMax → length left ≡ groupsMax
+    left-sized c counts left (uses km0 req) t = t
+    left-sized c counts left (reduces km0 req new hints e few) t = carried-sized counts (hintsOf hints) few
+    left-sized c counts left (expands km0 req new e) t = length-replicate {A = ℕ} groupsMax 0
 
-    pick : (o : Outcome) → Comes s c o → Sized (o .ledger)
-    pick o (refuses n near) = h
-    pick o (loads time e) = record { groups = length-replicate {A = ℕ} groupsMax 0; named = h .named }
-    pick o (zeroes n e) = record { groups = h .groups; named = length-set (s .ledger .counters) n 0 ∙ h .named }
-    pick o (permits km0 q k g counts e d f) =
-        let t = charge-sized (s .ledger) k g (q .time) h in
-        record { groups = left-sized (charge (s .ledger) k g (q .time) .counts) counts f (t .groups); named = t .named }
+    pick : (c : Call) (o : Outcome) → Comes s c o → Sized (o .ledger)
+    pick c o (refuses n near) = h
+    pick c o (loads time) = record { groups = length-replicate {A = ℕ} groupsMax 0; named = h .named }
+    pick c o (zeroes n e) = record { groups = h .groups; named = length-set (s .ledger .counters) n 0 ∙ h .named }
+    pick c o (permits k g counts p) =
+        let t = charge-sized (s .ledger) k g (requestAsked c .time) h in
+        record { groups = left-sized c _ counts (p .sound .way) (t .groups); named = t .named }
 
 pub calls-sized : (s : State) (cs : List Call) → Sized (s .ledger) → Sized (afterAll s cs .ledger)
 unfolding afterAll after
