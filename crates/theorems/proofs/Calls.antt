@@ -39,10 +39,14 @@ pub record Sound (acl : Bytes) (counts : List ℕ) (c : Call) (left : List ℕ) 
   pub known : KnownUse (requestAsked c .wanted)
   pub way : Way acl counts c left
 
+-- what a permit comes to, on the ledger before it: other group counts, unless the call's hints show no narrowing
+abbrev pub recounts : Bool → (List ℕ → List ℕ) → Ledger → ℕ → Ledger → Outcome
+recounts shown recount l k m = if shown then permitted k (recounted m (recount (m .counts))) else refused l notNarrower
+
 -- A call is judged, or a load, or a clear of a counter in the table or past it; with what it makes of a ledger.
 pub data Kind (acl : Bytes) : Call → (Ledger → Outcome) → Type 0 where
   judged : {c : Call} (fault : Option ℕ) (shown : Bool) (recount : List ℕ → List ℕ) → (fault ≡ none → shown ≡ true → (counts : List ℕ) → Sound acl counts c (recount counts))
-      → Kind acl c (λ l. called fault l (km0Given c) (aclOf acl) (requestAsked c) (λ k m. if shown then permitted k (recounted m (recount (m .counts))) else refused l notNarrower))
+      → Kind acl c (λ l. called fault l (km0Given c) (aclOf acl) (requestAsked c) (recounts shown recount l))
   loaded : (time : ℕ) → Kind acl (loading time) (λ l. finished (loadedAt l time))
   within : (n : ℕ) → ltb n countersMax ≡ true → Kind acl (clearing n) (λ l. finished (cleared l n))
   past : (n : ℕ) → Kind acl (clearing n) (λ l. refused l outOfRange)
@@ -88,7 +92,7 @@ pub comes : (s : State) (c : Call) → Comes s c (outcome s c)
 comes s c = pick c (λ l. outcome (record { ledger = l; acl = s .acl }) c) (kind (s .acl) c)
   where
     settled : (c : Call) (fault : Option ℕ) (shown : Bool) (recount : List ℕ → List ℕ) → (fault ≡ none → shown ≡ true → (counts : List ℕ) → Sound (s .acl) counts c (recount counts)) → (j : Judgement) → judge (s .ledger) (km0Given c) (aclOf (s .acl)) (requestAsked c) ≡ j
-        → Comes s c (outcomeUnless (s .ledger) fault (settle (s .ledger) (requestAsked c .time) (λ k m. if shown then permitted k (recounted m (recount (m .counts))) else refused (s .ledger) notNarrower) j))
+        → Comes s c (outcomeUnless (s .ledger) fault (settle (s .ledger) (requestAsked c .time) (recounts shown recount (s .ledger)) j))
     settled c (some x) shown recount h j e = refuses x none
     settled c none shown recount h (denied d) e = refuses (numberOf d) (nearest d)
     settled c none false recount h (granted k g) e = refuses notNarrower none

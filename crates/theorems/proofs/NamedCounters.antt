@@ -2,24 +2,25 @@
 -- Two wrong products that this rules out: a gate that refuses where some counter that is not named is full, and a narrowing that looks at the
 -- counters that the new ACL names.
 use Prim.Native.Nat.{ℕ, suc, _-_}
-use mathlib.Core.Path.{_≡_, refl, sym, _∙_, ap, ap₂, subst}
+use mathlib.Core.Path.{_≡_, refl, _∙_, ap, ap₂}
 use mathlib.Core.List.{List, [], _∷_, _++_, map}
 use mathlib.Core.Option.{Option, none, some}
 use mathlib.Core.Bool.{Bool, true, false, _&&_, _||_}
 use lib.ListN.{getD}
 use lib.Dec.{eqb, ltb}
-use Rattle.rules.specs.Sizes.{fullCount, countersMax}
+use Rattle.rules.specs.Sizes.{fullCount}
 use Rattle.rules.specs.Basics.{if_then_else_, Bytes, any, all, Every}
 use Rattle.rules.specs.Acl.{Limit, Group, aclOf}
-use Rattle.rules.specs.Request.{Request, requestOf, hintsOf}
+use Rattle.rules.specs.Request.{Request}
 use Rattle.rules.specs.Ledger.{Ledger, charge}
 use Rattle.rules.specs.Grant.{groupAdmits, certified, limitLeft, limitsLeft}
-use Rattle.rules.specs.Narrow.{narrows}
-use Rattle.rules.specs.Gate.{Outcome, Lowest, group, lowest, early, Judgement, granted, denied, tooEarly, grants, whyNot, judgedBy, judge, permitted, outcomeUnless, settle, requestFiles, request, clear, narrowFiles, narrowed, narrow, expandFiles, expanded, expand}
+use Rattle.rules.specs.Gate.{Outcome, Lowest, group, lowest, early, Judgement, granted, denied, tooEarly, grants, whyNot, judgedBy, judge, outcomeUnless, settle}
 use Rattle.rules.specs.Cabinet.{Slot, countsAndTimes, ledgerWith}
-use Rattle.theorems.specs.Demands.{Call, requesting, loading, clearing, narrowing, expanding, outcome, names, oneOf}
+use Rattle.theorems.specs.Demands.{Call, outcome, names, oneOf}
+use Rattle.theorems.specs.Account.{requestAsked, km0Given}
 use Rattle.theorems.specs.Cabinets.{countersNamed, countersIn}
 use Rattle.theorems.proofs.Permit.{called}
+use Rattle.theorems.proofs.Calls.{recounts, Kind, judged, loaded, within, past, kind}
 
 -- two tables read the same at these numbers
 abbrev Agree : List ℕ → List ℕ → List ℕ → Type 0
@@ -84,41 +85,27 @@ pub record Alike (o p : Outcome) : Type 0 where
   pub slots : countsAndTimes (o .ledger) ≡ countsAndTimes (p .ledger)
 
 module _ (s : Slot) (a b : List ℕ) where
-  called-alike : (fault : Option ℕ) (km0 : Bytes) (gs : List Group) (q : Request) (onPermit onPermit' : ℕ → Ledger → Outcome) → Agree a b (countersIn gs)
-      → ((k : ℕ) (g : Group) → Alike (onPermit k (charge (ledgerWith s a) k g (q .time))) (onPermit' k (charge (ledgerWith s b) k g (q .time))))
-      → Alike (called fault (ledgerWith s a) km0 gs q onPermit) (called fault (ledgerWith s b) km0 gs q onPermit')
-  called-alike fault km0 gs q onPermit onPermit' h f =
-      subst (λ (j : Judgement). Alike (outcomeUnless (ledgerWith s a) fault (settle (ledgerWith s a) (q .time) onPermit j)) (called fault (ledgerWith s b) km0 gs q onPermit'))
-      (sym (judge-agrees a b s km0 q gs h)) (pick fault (judge (ledgerWith s b) km0 gs q))
+  called-alike : (fault : Option ℕ) (km0 : Bytes) (gs : List Group) (q : Request) (shown : Bool) (recount : List ℕ → List ℕ) → Agree a b (countersIn gs)
+      → Alike (called fault (ledgerWith s a) km0 gs q (recounts shown recount (ledgerWith s a))) (called fault (ledgerWith s b) km0 gs q (recounts shown recount (ledgerWith s b)))
+  unfolding charge
+  called-alike fault km0 gs q shown recount h = rw (judge-agrees a b s km0 q gs h) (pick fault shown (judge (ledgerWith s b) km0 gs q))
     where
-      pick : (o : Option ℕ) (j : Judgement) → Alike (outcomeUnless (ledgerWith s a) o (settle (ledgerWith s a) (q .time) onPermit j)) (outcomeUnless (ledgerWith s b) o (settle (ledgerWith s b) (q .time) onPermit' j))
-      pick (some x) j = record { answers = refl; slots = refl }
-      pick none (granted k g) = f k g
-      pick none (denied d) = record { answers = refl; slots = refl }
+      pick : (o : Option ℕ) (t : Bool) (j : Judgement) → Alike (outcomeUnless (ledgerWith s a) o (settle (ledgerWith s a) (q .time) (recounts t recount (ledgerWith s a)) j)) (outcomeUnless (ledgerWith s b) o (settle (ledgerWith s b) (q .time) (recounts t recount (ledgerWith s b)) j))
+      pick (some x) t j = record { answers = refl; slots = refl }
+      pick none t (denied d) = record { answers = refl; slots = refl }
+      pick none true (granted k g) = record { answers = refl; slots = refl }
+      pick none false (granted k g) = record { answers = refl; slots = refl }
 
   -- One call, of any bytes.
   call-alike : (acl : Bytes) (c : Call) → Agree a b (countersIn (aclOf acl))
       → Alike (outcome (record { ledger = ledgerWith s a; acl = acl }) c) (outcome (record { ledger = ledgerWith s b; acl = acl }) c)
-  unfolding outcome request clear narrow expand charge
-  call-alike acl (requesting km0 req) h =
-      called-alike (requestFiles km0 acl req) km0 (aclOf acl) (requestOf req) permitted permitted h (λ k g. record { answers = refl; slots = refl })
-  call-alike acl (loading time) h = record { answers = refl; slots = refl }
-  call-alike acl (clearing counter) h = pick (ltb counter countersMax) refl
+  call-alike acl c h = pick c (λ l. outcome (record { ledger = l; acl = acl }) c) (kind acl c)
     where
-      pick : (t : Bool) → ltb counter countersMax ≡ t → Alike (clear (ledgerWith s a) counter) (clear (ledgerWith s b) counter)
-      pick true e = rw e (record { answers = refl; slots = refl })
-      pick false e = rw e (record { answers = refl; slots = refl })
-  call-alike acl (narrowing km0 req new hints) h =
-      called-alike (narrowFiles km0 acl req new hints) km0 (aclOf acl) (requestOf req) (narrowed (ledgerWith s a) (aclOf acl) (aclOf new) (hintsOf hints))
-      (narrowed (ledgerWith s b) (aclOf acl) (aclOf new) (hintsOf hints)) h (λ k g. pick k g (narrows (aclOf acl) (aclOf new) (hintsOf hints)) refl)
-    where
-      pick : (k : ℕ) (g : Group) (t : Bool) → narrows (aclOf acl) (aclOf new) (hintsOf hints) ≡ t
-          → Alike (narrowed (ledgerWith s a) (aclOf acl) (aclOf new) (hintsOf hints) k (charge (ledgerWith s a) k g (requestOf req .time)))
-          (narrowed (ledgerWith s b) (aclOf acl) (aclOf new) (hintsOf hints) k (charge (ledgerWith s b) k g (requestOf req .time)))
-      pick k g true e = rw e (record { answers = refl; slots = refl })
-      pick k g false e = rw e (record { answers = refl; slots = refl })
-  call-alike acl (expanding km0 req new) h =
-      called-alike (expandFiles km0 acl req new) km0 (aclOf acl) (requestOf req) expanded expanded h (λ k g. record { answers = refl; slots = refl })
+      pick : (c : Call) (f : Ledger → Outcome) → Kind acl c f → Alike (f (ledgerWith s a)) (f (ledgerWith s b))
+      pick c f (judged fault shown recount x) = called-alike fault (km0Given c) (aclOf acl) (requestAsked c) shown recount h
+      pick c f (loaded time) = record { answers = refl; slots = refl }
+      pick c f (within n e) = record { answers = refl; slots = refl }
+      pick c f (past n) = record { answers = refl; slots = refl }
 
   -- Two ledgers with the same group counts and times, of which the counters that the lent ACL names read the same: the same answer, and the same group
   -- counts and times after it.

@@ -3,7 +3,7 @@
 use Prim.Native.Nat.{ℕ, zero, suc, _+_, _-_, _≤_, _<_}
 use native.Mathlib.Omega.{arith}
 use mathlib.Core.Path.{_≡_, refl, sym, _∙_, ap}
-use mathlib.Core.Logic.{_⊎_, inl, inr, _≢_}
+use mathlib.Core.Logic.{_≢_}
 use mathlib.Core.List.{List, [], _∷_, _++_, map}
 use mathlib.Core.Option.{Option, none, some}
 use mathlib.Core.Bool.{Bool, true, false, false≢true}
@@ -12,24 +12,21 @@ use lib.Seq.{getD-set-same, getD-set-other}
 use lib.Dec.{eqb, ltb}
 use borrow.Author.Tests.{eqb-true, eqb-false, leb-true, ltb-true, ltb-false, lt-ltb}
 use Rattle.rules.specs.Sizes.{groupsMax, countersMax, fullCount}
-use Rattle.rules.specs.Numbers.{notNarrower, outOfRange}
 use Rattle.rules.specs.Basics.{Bytes, Every, records}
-use Rattle.rules.specs.Acl.{Limit, Group, aclOf, aclFault}
-use Rattle.rules.specs.Request.{operation, Request, reduceAcl, requestOf, Hint, hintsOf}
+use Rattle.rules.specs.Acl.{Limit, Group, aclOf}
+use Rattle.rules.specs.Request.{Request, Hint, hintsOf}
 use Rattle.rules.specs.Ledger.{Ledger, raisedBy, charge, loadedAt, cleared, recounted, carried}
 use Rattle.rules.specs.Grant.{groupAdmits, certified, limitsLeft}
 use Rattle.rules.specs.Narrow.{groupNarrows, narrowsSource, narrowsFrom, narrows}
-use Rattle.rules.specs.Gate.{Outcome, permit, load, numberOf, nearest, Judgement, granted, denied, grants, judge, refusedNear, refused, permitted, finished, requestFiles, request, clear, narrowFiles, narrow, expandFiles, expand}
-use Rattle.theorems.specs.Demands.{Call, requesting, loading, clearing, narrowing, expanding, State, outcome, after, EveryPermit, names}
-use Rattle.theorems.specs.Account.{PutDown, AllPutDown, isExpansion}
-use Rattle.rules.proofs.Laws.{never, and-left, and-right, and-both, every-map, fault-none-every}
+use Rattle.rules.specs.Gate.{Outcome, permit, load, grants, permitted, clear}
+use Rattle.theorems.specs.Demands.{Call, State, outcome, replacement, inForce, after, EveryPermit, names}
+use Rattle.theorems.specs.Account.{requestAsked, km0Given, PutDownTo, PutDown, AllPutDown, isExpansion}
+use Rattle.rules.proofs.Laws.{never, and-left, and-right, and-both, every-map}
 use Rattle.theorems.proofs.Lists.{there-below, zero-at, every-all}
-use Rattle.rules.proofs.Few.{narrow-few}
 use Rattle.rules.proofs.Forms.{KnownUse}
 use Rattle.theorems.proofs.AclFile.{acl-bound}
 use Rattle.theorems.proofs.Hints.{limit-self}
-use Rattle.theorems.proofs.RequestFile.{known-request, use-wanted}
-use Rattle.theorems.proofs.Permit.{granted-is}
+use Rattle.theorems.proofs.Calls.{Way, uses, reduces, expands, Permits, Comes, refuses, loads, zeroes, permits, comes}
 use Rattle.theorems.proofs.Counters.{raisedBy-length, reading, raisedBy-at}
 use Rattle.theorems.proofs.Narrowing.{all-every, limit-left, admits-source, certified-source, left-source, names-source}
 
@@ -64,7 +61,7 @@ covers-narrow n hints o f e c =
 
 -- The account follows the ledger: `os` gives, for each group of the ACL in force, its group of the first ACL.
 record Follows (first : List Group) (a l : Ledger) (gs : List Group) (os : List ℕ) : Type 0 where
-  loads : a .loaded ≡ l .loaded
+  load-time : a .loaded ≡ l .loaded
   counter-size : length (a .counters) ≡ length (l .counters)
   count-size : length (l .counts) ≡ groupsMax
   lower : (c : ℕ) → getD (a .counters) c 0 ≤ getD (l .counters) c 0
@@ -73,13 +70,13 @@ record Follows (first : List Group) (a l : Ledger) (gs : List Group) (os : List 
 
 -- a permit of the ledger is one of the account
 grants-first : (first : List Group) (a l : Ledger) (km0 : Bytes) (q : Request) (k o : ℕ) (g f : Group) → a .loaded ≡ l .loaded → ((c : ℕ) → getD (a .counters) c 0 ≤ getD (l .counters) c 0) → Covers g f → getD (a .counts) o 0 ≤ getD (l .counts) k 0 → KnownUse (q .wanted) → grants l km0 q k g ≡ true → grants a km0 q o f ≡ true
-grants-first first a l km0 q k o g f loads lower c fewer known e =
+grants-first first a l km0 q k o g f timed lower c fewer known e =
     let x = c .admitted km0 q known (search conj) in
     let y = c .certifies q (search conj) in
     let u = ltb-true (getD (l .counts) k 0) fullCount (search conj) in
     let v : ltb (getD (a .counts) o 0) fullCount ≡ true = lt-ltb (getD (a .counts) o 0) fullCount (omega arith) in
     let w : limitsLeft (a .counters) (getD (a .counts) o 0) (q .time - a .loaded) (f .limits) ≡ true =
-    rw loads (c .leaves (l .counters) (a .counters) (getD (l .counts) k 0) (getD (a .counts) o 0) (q .time - l .loaded) fewer lower (search conj)) in
+    rw timed (c .leaves (l .counters) (a .counters) (getD (l .counts) k 0) (getD (a .counts) o 0) (q .time - l .loaded) fewer lower (search conj)) in
     and-both _ _ (and-both _ _ x y) (and-both _ _ v w)
 
 -- Tables.
@@ -112,7 +109,7 @@ charged-follows : (first : List Group) (a l : Ledger) (gs : List Group) (os : Li
 unfolding charge
 charged-follows first a l gs os k o g f t h below here c fewer =
     record {
-      loads = h .loads;
+      load-time = h .load-time;
       counter-size = raisedBy-length (a .counters) (f .limits) (a .counters) ∙ h .counter-size ∙ sym (raisedBy-length (l .counters) (g .limits) (l .counters));
       count-size = length-set (l .counts) k _ ∙ h .count-size;
       lower = raised-lower (a .counters) (l .counters) (f .limits) (g .limits) (h .counter-size) (h .lower) (c .naming);
@@ -205,14 +202,14 @@ getD-there (y ∷ ys) (suc i) x e = getD-there ys i x e
 narrowed-follows : (first : List Group) (a l : Ledger) (gs : List Group) (os : List ℕ) (ns : List Group) (hs : List Hint) → Follows first a l gs os → narrows gs ns hs ≡ true → length hs ≤ groupsMax → Follows first a (recounted l (carried (l .counts) hs)) ns (map (λ h. getD os (h .source) 0) hs)
 narrowed-follows first a l gs os ns hs f e b =
     record {
-      loads = f .loads;
+      load-time = f .load-time;
       counter-size = f .counter-size;
       count-size =
           length-append (map (λ h. getD (l .counts) (h .source) 0) hs) (replicate (groupsMax - length hs) 0)
           ∙ sizes (length-map hs (λ h. getD (l .counts) (h .source) 0)) (length-replicate {A = ℕ} (groupsMax - length hs) 0);
       lower = f .lower;
       rising = rises;
-      origin = λ k n d. comes k n (narrows-at gs 0 ns hs k n e d);
+      origin = λ k n d. narrowed-origin k n (narrows-at gs 0 ns hs k n e d);
     }
   where
     sizes : {x y : ℕ} → x ≡ length hs → y ≡ groupsMax - length hs → x + y ≡ groupsMax
@@ -237,70 +234,20 @@ narrowed-follows first a l gs os ns hs f e b =
         let d = getD-there os (v .0 .source) (t .0) (t .1) in
         omega (arith, u .2, v .2)
 
-    comes : (k : ℕ) (n : Group) → (h : Hint) × (g : Group) × (getElem? hs k ≡ some h) × (getElem? gs (h .source) ≡ some g) × (groupNarrows n (h .actions) g ≡ true)
+    narrowed-origin : (k : ℕ) (n : Group) → (h : Hint) × (g : Group) × (getElem? hs k ≡ some h) × (getElem? gs (h .source) ≡ some g) × (groupNarrows n (h .actions) g ≡ true)
         → (o : ℕ) × (x : Group) × (getElem? (map (λ h. getD os (h .source) 0) hs) k ≡ some o) × (getElem? first o ≡ some x) × Covers n x × (getD (a .counts) o 0 ≤ getD (carried (l .counts) hs) k 0)
-    comes k n r =
+    narrowed-origin k n r =
         let o = f .origin (r .0 .source) (r .1) (r .3) in
         let w = map-at (λ h. getD os (h .source) 0) hs k (r .0) (r .2) in
         let c = getD-there os (r .0 .source) (o .0) (o .2) in
         let z = carried-at (λ h. getD (l .counts) (h .source) 0) hs (replicate (groupsMax - length hs) 0) k (r .0) (r .2) in
         (o .0, o .1, w ∙ ap some c, o .3, covers-narrow n (r .0 .actions) (r .1) (o .1) (r .4) (o .4), rw z (o .5))
 
--- the outcome is a refusal, which leaves the ledger
-abbrev Refuses : Ledger → Outcome → Type 0
-Refuses l o = (f : ℕ) × (near : Option ℕ) × (o ≡ refusedNear l f near)
-
--- a request is refused or permitted ..
-abbrev RequestWays : Ledger → Bytes → Bytes → Bytes → Type 0
-RequestWays l km0 acl req =
-    Refuses l (request l km0 acl req)
-    ⊎ ((k : ℕ) × (g : Group) × (requestFiles km0 acl req ≡ none) × (judge l km0 (aclOf acl) (requestOf req) ≡ granted k g) × (request l km0 acl req ≡ permitted k (charge l k g (requestOf req .time))))
-
-request-ways : (l : Ledger) (km0 acl req : Bytes) → RequestWays l km0 acl req
-unfolding request
-request-ways l km0 acl req = pick (requestFiles km0 acl req) refl (judge l km0 (aclOf acl) (requestOf req)) refl
-  where
-    pick : (f : Option ℕ) → requestFiles km0 acl req ≡ f → (j : Judgement) → judge l km0 (aclOf acl) (requestOf req) ≡ j → RequestWays l km0 acl req
-    pick (some f) p j q = inl (f, none, rw p)
-    pick none p (denied f) q = inl (numberOf f, nearest f, rw (p, q))
-    pick none p (granted k g) q = inr (k, g, p, q, rw (p, q))
-
--- .. and so is a narrowing ..
-abbrev NarrowWays : Ledger → Bytes → Bytes → Bytes → Bytes → Bytes → Type 0
-NarrowWays l km0 acl req new hints =
-    Refuses l (narrow l km0 acl req new hints)
-    ⊎ ((k : ℕ) × (g : Group) × (narrowFiles km0 acl req new hints ≡ none) × (judge l km0 (aclOf acl) (requestOf req) ≡ granted k g)
-    × (narrows (aclOf acl) (aclOf new) (hintsOf hints) ≡ true)
-    × (narrow l km0 acl req new hints ≡ permitted k (recounted (charge l k g (requestOf req .time)) (carried (charge l k g (requestOf req .time) .counts) (hintsOf hints)))))
-
-narrow-ways : (l : Ledger) (km0 acl req new hints : Bytes) → NarrowWays l km0 acl req new hints
-unfolding narrow
-narrow-ways l km0 acl req new hints =
-    pick (narrowFiles km0 acl req new hints) refl (judge l km0 (aclOf acl) (requestOf req)) refl (narrows (aclOf acl) (aclOf new) (hintsOf hints)) refl
-  where
-    pick : (f : Option ℕ) → narrowFiles km0 acl req new hints ≡ f → (j : Judgement) → judge l km0 (aclOf acl) (requestOf req) ≡ j → (b : Bool) → narrows (aclOf acl) (aclOf new) (hintsOf hints) ≡ b → NarrowWays l km0 acl req new hints
-    pick (some f) p j q b r = inl (f, none, rw p)
-    pick none p (denied f) q b r = inl (numberOf f, nearest f, rw (p, q))
-    pick none p (granted k g) q true r = inr (k, g, p, q, r, rw (p, q, r))
-    pick none p (granted k g) q false r = inl (notNarrower, none, rw (p, q, r))
-
--- .. and an expansion
-abbrev ExpandWays : Ledger → Bytes → Bytes → Bytes → Bytes → Type 0
-ExpandWays l km0 acl req new = Refuses l (expand l km0 acl req new) ⊎ ((k : ℕ) × (expand l km0 acl req new .answer ≡ permit k))
-
-expand-ways : (l : Ledger) (km0 acl req new : Bytes) → ExpandWays l km0 acl req new
-unfolding expand
-expand-ways l km0 acl req new = pick (expandFiles km0 acl req new) refl (judge l km0 (aclOf acl) (requestOf req)) refl
-  where
-    pick : (f : Option ℕ) → expandFiles km0 acl req new ≡ f → (j : Judgement) → judge l km0 (aclOf acl) (requestOf req) ≡ j → ExpandWays l km0 acl req new
-    pick (some f) p j q = inl (f, none, rw p)
-    pick none p (denied f) q = inl (numberOf f, nearest f, rw (p, q))
-    pick none p (granted k g) q = inr (k, rw (p, q))
-
+-- a clear and a load keep it following, too
 clear-follows : (first : List Group) (a l : Ledger) (gs : List Group) (os : List ℕ) (c : ℕ) → Follows first a l gs os → Follows first (cleared a c) (cleared l c) gs os
 clear-follows first a l gs os c f =
     record {
-      loads = f .loads;
+      load-time = f .load-time;
       counter-size = length-set (a .counters) c 0 ∙ f .counter-size ∙ sym (length-set (l .counters) c 0);
       count-size = f .count-size;
       lower = λ i. both i (eqb i c) refl;
@@ -317,7 +264,7 @@ clear-follows first a l gs os c f =
 load-follows : (first : List Group) (a l : Ledger) (gs : List Group) (os : List ℕ) (t : ℕ) → Follows first a l gs os → Follows first (loadedAt a t) (loadedAt l t) gs os
 load-follows first a l gs os t f =
     record {
-      loads = refl;
+      load-time = refl;
       counter-size = f .counter-size;
       count-size = length-replicate {A = ℕ} groupsMax 0;
       lower = f .lower;
@@ -325,89 +272,53 @@ load-follows first a l gs os t f =
       origin = λ k g e. let r = f .origin k g e in (r .0, r .1, r .2, r .3, r .4, rw (zero-at groupsMax (r .0)) (omega arith));
     }
 
-clear-done : (l : Ledger) (c : ℕ) → ltb c countersMax ≡ true → clear l c ≡ finished (cleared l c)
+clear-done : (l : Ledger) (c : ℕ) → ltb c countersMax ≡ true → clear l c .ledger ≡ cleared l c
 unfolding clear
 clear-done l c e = rw e
 
-clear-refused : (l : Ledger) (c : ℕ) → ltb c countersMax ≡ false → clear l c ≡ refused l outOfRange
-unfolding clear
-clear-refused l c e = rw e
-
 module _ (first : List Group) where
-  -- a permit of the group at a place is put down to its origin, and the account goes on following
-  put-permit : (a l : Ledger) (km0 acl : Bytes) (q : Request) (os : List ℕ) (k : ℕ) (g : Group) → Follows first a l (aclOf acl) os → aclFault (records acl) ≡ none → KnownUse (q .wanted) → judge l km0 (aclOf acl) q ≡ granted k g
-      → (o : ℕ) × (f : Group) × (getElem? first o ≡ some f) × (grants a km0 q o f ≡ true) × Follows first (charge a o f (q .time)) (charge l k g (q .time)) (aclOf acl) os
-  put-permit a l km0 acl q os k g f e n j =
-      let r = granted-is l km0 (aclOf acl) q k g j in
-      let o = f .origin k g (r .0) in
-      let b = acl-bound (records acl) e in
-      let m = there-below (aclOf acl) k g (r .0) in (
-        o .0,
-        o .1,
-        o .3,
-        grants-first first a l km0 q k (o .0) g (o .1) (f .loads) (f .lower) (o .4) (o .5) n (r .1),
-        charged-follows first a l (aclOf acl) os k (o .0) g (o .1) (q .time) f (omega arith) (o .2) (o .4) (o .5),
-      )
-
   -- One call, given what comes after it: `go` has what is to hold of the account then.
   module _ (a : Ledger) (s : State) (os : List ℕ) (f : Follows first a (s .ledger) (aclOf (s .acl)) os) (next : Ledger → Type 0) where
     -- what is to hold after a call, if the account still follows
-    abbrev Goes : Call → Type 0
-    Goes c = (b : Ledger) (ps : List ℕ) → Follows first b (after s c .ledger) (aclOf (after s c .acl)) ps → next b
+    abbrev Goes : Call → Outcome → Type 0
+    Goes c o = (b : Ledger) (ps : List ℕ) → Follows first b (o .ledger) (aclOf (inForce (s .acl) (replacement (s .acl) c) (o .answer))) ps → next b
 
-    put-request : (km0 req : Bytes) → Goes (requesting km0 req) → PutDown first a (requesting km0 req) next (outcome s (requesting km0 req) .answer)
-    unfolding outcome after
-    put-request km0 req go = ways (request-ways (s .ledger) km0 (s .acl) req)
-      where
-        ways : RequestWays (s .ledger) km0 (s .acl) req → PutDown first a (requesting km0 req) next (request (s .ledger) km0 (s .acl) req .answer)
-        ways (inl r) = rw (r .2) (go a os (rw (r .2) f))
-        ways (inr r) =
-            let n = fault-none-every _ (r .2) in
-            let p = put-permit a (s .ledger) km0 (s .acl) (requestOf req) os (r .0) (r .1) f (n .1 .0) (known-request (records req) (n .1 .1 .0)) (r .3) in
-            rw (r .4) (p .0, p .1, p .2, p .3, go _ os (rw (r .4) (p .4)))
+    -- a permit of the group at a place is put down to its origin, and the account goes on following
+    put-permit : (c : Call) (k : ℕ) (g : Group) (counts : List ℕ) → Permits s c k g counts
+        → ((b : Ledger) → Follows first b (charge (s .ledger) k g (requestAsked c .time)) (aclOf (s .acl)) os → next b)
+        → PutDownTo first a (km0Given c) (requestAsked c) next
+    put-permit c k g counts p go =
+        let q = requestAsked c in
+        let o = f .origin k g (p .there) in
+        let b = acl-bound (records (s .acl)) (p .sound .file) in
+        let m = there-below (aclOf (s .acl)) k g (p .there) in (
+          o .0,
+          o .1,
+          o .3,
+          grants-first first a (s .ledger) (km0Given c) q k (o .0) g (o .1) (f .load-time) (f .lower) (o .4) (o .5) (p .sound .known) (p .granting),
+          go _ (charged-follows first a (s .ledger) (aclOf (s .acl)) os k (o .0) g (o .1) (q .time) f (omega arith) (o .2) (o .4) (o .5)),
+        )
 
-    put-clear : (c : ℕ) → Goes (clearing c) → PutDown first a (clearing c) next (outcome s (clearing c) .answer)
-    unfolding outcome after
-    put-clear c go = pick (ltb c countersMax) refl
-      where
-        pick : (b : Bool) → ltb c countersMax ≡ b → PutDown first a (clearing c) next (clear (s .ledger) c .answer)
-        pick true e =
-            rw (clear-done (s .ledger) c e)
-            (go (clear a c .ledger) os (rw (clear-done (s .ledger) c e, clear-done a c e) (clear-follows first a (s .ledger) (aclOf (s .acl)) os c f)))
-        pick false e = rw (clear-refused (s .ledger) c e) (go a os (rw (clear-refused (s .ledger) c e) f))
+    -- .. with the group counts that the call leaves
+    put-way : (c : Call) (k : ℕ) (g : Group) (counts : List ℕ) → Way (s .acl) (charge (s .ledger) k g (requestAsked c .time) .counts) c counts → Permits s c k g counts → isExpansion c ≡ false
+        → Goes c (permitted k (recounted (charge (s .ledger) k g (requestAsked c .time)) counts))
+        → PutDownTo first a (km0Given c) (requestAsked c) next
+    put-way c k g counts (uses km0 req) p d go = put-permit c k g counts p (λ b h. go b os h)
+    put-way c k g counts (reduces km0 req new hints t few) p d go =
+        put-permit c k g counts p (λ b h. go b _ (narrowed-follows first b _ (aclOf (s .acl)) os (aclOf new) (hintsOf hints) h t few))
+    put-way c k g counts (expands km0 req new u) p d go = absurd (false≢true (sym d))
 
-    put-narrow : (km0 req new hints : Bytes) → Goes (narrowing km0 req new hints) → PutDown first a (narrowing km0 req new hints) next (outcome s (narrowing km0 req new hints) .answer)
-    unfolding outcome after
-    put-narrow km0 req new hints go = ways (narrow-ways (s .ledger) km0 (s .acl) req new hints)
-      where
-        ways : NarrowWays (s .ledger) km0 (s .acl) req new hints → PutDown first a (narrowing km0 req new hints) next (narrow (s .ledger) km0 (s .acl) req new hints .answer)
-        ways (inl r) = rw (r .2) (go a os (rw (r .2) f))
-        ways (inr r) =
-            let n = fault-none-every _ (r .2) in
-            let u : requestOf req .wanted ≡ operation reduceAcl = use-wanted reduceAcl (records req) (n .1 .1 .0) in
-            let p = put-permit a (s .ledger) km0 (s .acl) (requestOf req) os (r .0) (r .1) f (n .1 .0) (rw u (omega arith)) (r .3) in
-            let v = narrowed-follows first _ _ (aclOf (s .acl)) os (aclOf new) (hintsOf hints) (p .4) (r .4) (narrow-few km0 (s .acl) req new hints (r .2)) in
-            rw (r .5) (p .0, p .1, p .2, p .3, go _ (map (λ h. getD os (h .source) 0) (hintsOf hints)) (rw (r .5) v))
-
-    put-expand : (km0 req new : Bytes) → ((k : ℕ) → outcome s (expanding km0 req new) .answer ≡ permit k → true ≡ false) → Goes (expanding km0 req new) → PutDown first a (expanding km0 req new) next (outcome s (expanding km0 req new) .answer)
-    unfolding outcome after
-    put-expand km0 req new d go = ways (expand-ways (s .ledger) km0 (s .acl) req new)
-      where
-        ways : ExpandWays (s .ledger) km0 (s .acl) req new → PutDown first a (expanding km0 req new) next (expand (s .ledger) km0 (s .acl) req new .answer)
-        ways (inl r) = rw (r .2) (go a os (rw (r .2) f))
-        ways (inr r) = absurd (false≢true (sym (d (r .0) (r .1))))
-
-    put-call : (c : Call) → ((k : ℕ) → outcome s c .answer ≡ permit k → isExpansion c ≡ false) → Goes c → PutDown first a c next (outcome s c .answer)
-    unfolding outcome after
-    put-call (requesting km0 req) d go = put-request km0 req go
-    put-call (loading t) d go = go _ os (load-follows first a (s .ledger) (aclOf (s .acl)) os t f)
-    put-call (clearing n) d go = put-clear n go
-    put-call (narrowing km0 req new hints) d go = put-narrow km0 req new hints go
-    put-call (expanding km0 req new) d go = put-expand km0 req new d go
+    put-call : (c : Call) (o : Outcome) → Comes s c o → ((k : ℕ) → o .answer ≡ permit k → isExpansion c ≡ false) → Goes c o → PutDown first a c next (o .answer)
+    put-call c o (refuses n near) d go = go a os f
+    put-call c o (loads t) d go = go _ os (load-follows first a (s .ledger) (aclOf (s .acl)) os t f)
+    put-call c o (zeroes n e) d go = rw (clear-done a n e) (go _ os (clear-follows first a (s .ledger) (aclOf (s .acl)) os n f))
+    put-call c o (permits k g counts p) d go = put-way c k g counts (p .sound .way) p (d k refl) go
 
   put-down : (a : Ledger) (s : State) (os : List ℕ) (cs : List Call) → Follows first a (s .ledger) (aclOf (s .acl)) os → EveryPermit (λ s c. isExpansion c ≡ false) s cs → AllPutDown first a s cs
+  unfolding after
   put-down a s os [] f d = tt
-  put-down a s os (c ∷ cs) f d = put-call a s os f (λ b. AllPutDown first b (after s c) cs) c (d .0) (λ b ps g. put-down b (after s c) ps cs g (d .1))
+  put-down a s os (c ∷ cs) f d =
+      put-call a s os f (λ b. AllPutDown first b (after s c) cs) c (outcome s c) (comes s c) (d .0) (λ b ps g. put-down b (after s c) ps cs g (d .1))
 
 -- the places of a list, each its own origin
 upTo : ℕ → ℕ → List ℕ
@@ -438,7 +349,7 @@ narrowing-never-buys-uses ledger time acl calls d =
     start : Follows (aclOf acl) (loadedAt ledger time) (loadedAt ledger time) (aclOf acl) (upTo 0 (length (aclOf acl)))
     start =
         record {
-          loads = refl;
+          load-time = refl;
           counter-size = refl;
           count-size = length-replicate {A = ℕ} groupsMax 0;
           lower = λ c. omega arith;
