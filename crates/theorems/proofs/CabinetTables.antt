@@ -2,24 +2,19 @@
 -- drops a slot when it is narrowed, and one that charges a full counter through another slot.
 use Prim.Native.Nat.{ℕ, zero, suc, _<_}
 use native.Mathlib.Omega.{arith}
-use mathlib.Core.Path.{_≡_, refl, sym, _∙_, ap, subst}
-use mathlib.Core.Logic.{_⊎_, inl, inr}
+use mathlib.Core.Path.{_≡_, _∙_}
 use mathlib.Core.List.{List, [], _∷_}
-use mathlib.Core.Option.{some}
-use mathlib.Core.Bool.{Bool, true, false}
 use lib.ListN.{length, getD, length-replicate}
-use lib.Dec.{ltb}
-use borrow.Author.Tests.{ltb-true}
 use Rattle.rules.specs.Sizes.{groupsMax, countersMax, slotsMax}
 use Rattle.rules.specs.Basics.{Every}
 use Rattle.rules.specs.Ledger.{Ledger}
-use Rattle.rules.specs.Cabinet.{Slot, Cabinet, countsAndTimes, freshSlot, freshCabinet, emptySlot, slotAt, ledgerAt, CabinetOutcome, inSlot}
+use Rattle.rules.specs.Cabinet.{Slot, Cabinet, countsAndTimes, freshSlot, freshCabinet, emptySlot, slotAt, ledgerAt, CabinetOutcome}
 use Rattle.theorems.specs.Demands.{outcome}
-use Rattle.theorems.specs.Cabinets.{CabinetCall, clearingAll, cabinetAfter, cabinetAfterAll, slotIn, lentIn, gateCall, gateOutcome}
+use Rattle.theorems.specs.Cabinets.{CabinetCall, clearingAll, cabinetOutcome, cabinetAfter, cabinetAfterAll, lentIn, gateCall, gateOutcome}
 use Rattle.theorems.proofs.Lists.{every-set, every-getD, every-replicate}
 use Rattle.theorems.proofs.Tables.{fresh-sized, call-sized}
 use Rattle.theorems.proofs.Bounds.{Held, fresh-bounded, call-bounded}
-use Rattle.theorems.proofs.Slots.{kinds, in-slot, clears-everywhere, clear-slots, slots-kept}
+use Rattle.theorems.proofs.Slots.{Lands, to-slot, to-none, to-all, lands, slots-kept}
 
 module _ {A : Type 0} (P : A → Type 0) where
   every-within : (xs : List A) (i : ℕ) (d : A) → i < length xs → Every P xs → P (getD xs i d)
@@ -32,26 +27,16 @@ module _ (P : List ℕ → Type 0) (Q : List ℕ → Type 0) (keeps : (l : Ledge
   abbrev Kept : Cabinet → Type 0
   Kept d = Every (λ s. P (s .counts)) (d .slots) × Q (d .counters)
 
-  kept-slot : (x : CabinetCall) (k : ℕ) → Kept c → (b : Bool) → ltb k slotsMax ≡ b → Kept (inSlot c k (gateOutcome (ledgerAt c k) x) .cabinet)
-  kept-slot x k h true t =
-      let r = keeps (ledgerAt c k) x (at k (ltb-true k slotsMax t)) (h .1) in
-      rw t (every-set (λ s. P (s .counts)) (c .slots) k (countsAndTimes (gateOutcome (ledgerAt c k) x .ledger)) (r .0) (h .0), r .1)
-  kept-slot x k h false t = rw t h
-
   kept : (x : CabinetCall) → Kept c → Kept (cabinetAfter c x)
   unfolding outcome
-  kept x h = pick (kinds x)
+  kept x h = pick x (cabinetOutcome c x) (lands c x)
     where
-      cleared : (n : ℕ) → Kept (cabinetAfter c (clearingAll n))
-      cleared n =
-          let r = keeps (ledgerAt c 0) (clearingAll n) (at 0 (omega arith)) (h .1) in (
-            subst (λ (ss : List Slot). Every (λ s. P (s .counts)) ss) (sym (clear-slots c n)) (h .0),
-            subst Q (sym (ap (λ (l : Ledger). l .counters) (clears-everywhere c n 0 .1))) (r .1),
-          )
-
-      pick : ((k : ℕ) × (slotIn x ≡ some k)) ⊎ ((n : ℕ) × (x ≡ clearingAll n)) → Kept (cabinetAfter c x)
-      pick (inl p) = subst (λ (r : CabinetOutcome). Kept (r .cabinet)) (sym (in-slot c x (p .0) (p .1))) (kept-slot x (p .0) h (ltb (p .0) slotsMax) refl)
-      pick (inr p) = subst (λ (y : CabinetCall). Kept (cabinetAfter c y)) (sym (p .1)) (cleared (p .0))
+      pick : (x : CabinetCall) (r : CabinetOutcome) → Lands c x r → Kept (r .cabinet)
+      pick x r (to-slot k e b) =
+          let l = keeps (ledgerAt c k) x (at k b) (h .1) in
+          (every-set (λ s. P (s .counts)) (c .slots) k (countsAndTimes (gateOutcome (ledgerAt c k) x .ledger)) (l .0) (h .0), l .1)
+      pick x r (to-none k e b f) = h
+      pick x r (to-all n) = (h .0, keeps (ledgerAt c 0) (clearingAll n) (at 0 (omega arith)) (h .1) .1)
 
 -- "eight slots", each with its group counts, "and one shared table of named counters"
 pub record CabinetSized (c : Cabinet) : Type 0 where

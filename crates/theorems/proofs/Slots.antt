@@ -3,7 +3,7 @@
 -- every slot's counts, and one that takes slot 8.
 use Prim.Native.Nat.{ℕ, _≤_, _<_}
 use mathlib.Core.Path.{_≡_, refl, sym, _∙_, ap, subst}
-use mathlib.Core.Logic.{_↔_, _⊎_, inl, inr}
+use mathlib.Core.Logic.{_↔_}
 use mathlib.Core.List.{List, [], _∷_}
 use mathlib.Core.Option.{Option, none, some}
 use mathlib.Core.Bool.{Bool, true, false}
@@ -12,33 +12,55 @@ use lib.Seq.{getD-set-same, getD-set-other, set-getD}
 use lib.Dec.{eqb, ltb}
 use borrow.Author.Tests.{eqb-false, lt-ltb, le-ltb, ltb-true, ltb-false}
 use Rattle.rules.specs.Sizes.{slotsMax, countersMax}
-use Rattle.rules.specs.Numbers.{notCertified, spent, outOfRange, noSlot}
-use Rattle.rules.specs.Basics.{any, present}
+use Rattle.rules.specs.Numbers.{outOfRange, noSlot}
+use Rattle.rules.specs.Basics.{any}
 use Rattle.rules.specs.Ledger.{Ledger}
-use Rattle.rules.specs.Gate.{done, refuse, clear}
+use Rattle.rules.specs.Gate.{Outcome, refuse, clear}
 use Rattle.rules.specs.Cabinet.{Slot, Cabinet, countsAndTimes, emptySlot, slotAt, ledgerWith, ledgerAt, putBack, CabinetOutcome, cabinetRefused, asGate, inSlot, cabinetRequest, cabinetLoad, cabinetClear, cabinetNarrow, cabinetExpand}
-use Rattle.theorems.specs.Demands.{outcome, oneOf}
+use Rattle.theorems.specs.Demands.{clearing, outcome, clears, oneOf}
 use Rattle.theorems.specs.Cabinets.{CabinetCall, requestingAt, loadingAt, clearingAll, narrowingAt, expandingAt, cabinetOutcome, cabinetAfter, slotIn, gateOutcome, isSlot, gateCall, lentIn}
 use Rattle.rules.proofs.Laws.{never, not-both, or-right}
 use Rattle.theorems.proofs.Demand1.{refused-ledger}
 use Rattle.theorems.proofs.Refusals.{requestNumbers, narrowNumbers, request-number, expand-number, narrow-number, clear-number, Numbered, RefusalIn}
 
+-- the gate's answer, and of the ledger that it handed back the counters
+abbrev onTable : Cabinet → Outcome → CabinetOutcome
+onTable c o = record { answer = o .answer; cabinet = record { slots = c .slots; counters = o .ledger .counters } }
+
+-- What a call comes to, whichever kind it is: what the gate makes of it, in one of the eight slots; a refusal, where its slot is none of these; or, of a
+-- clear, what the gate makes of it on the shared table. This is the one case over the kinds of call of the cabinet.
+pub data Lands (c : Cabinet) : CabinetCall → CabinetOutcome → Type 0 where
+  to-slot : {x : CabinetCall} (k : ℕ) → slotIn x ≡ some k → k < slotsMax → Lands c x (asGate c k (gateOutcome (ledgerAt c k) x))
+  to-none : {x : CabinetCall} (k : ℕ) → slotIn x ≡ some k → slotsMax ≤ k → ((n : ℕ) → clears n (gateCall x) ≡ false) → Lands c x (cabinetRefused c noSlot)
+  to-all : (n : ℕ) → Lands c (clearingAll n) (onTable c (clear (ledgerAt c 0) n))
+
+pub lands : (c : Cabinet) (x : CabinetCall) → Lands c x (cabinetOutcome c x)
+unfolding cabinetOutcome cabinetRequest cabinetLoad cabinetClear cabinetNarrow cabinetExpand outcome clear
+lands c x = pick x
+  where
+    at : (x : CabinetCall) (k : ℕ) → slotIn x ≡ some k → ((n : ℕ) → clears n (gateCall x) ≡ false) → (b : Bool) → ltb k slotsMax ≡ b → Lands c x (inSlot c k (gateOutcome (ledgerAt c k) x))
+    at x k e f true t = rw t (to-slot k e (ltb-true k slotsMax t))
+    at x k e f false t = rw t (to-none k e (ltb-false k slotsMax t) f)
+
+    as-clear : (n : ℕ) (b : Bool) → ltb n countersMax ≡ b → cabinetClear c n ≡ onTable c (clear (ledgerAt c 0) n)
+    as-clear n true t = rw t
+    as-clear n false t = rw t
+
+    pick : (x : CabinetCall) → Lands c x (cabinetOutcome c x)
+    pick (requestingAt slot km0 acl req) = at (requestingAt slot km0 acl req) slot refl (λ n. refl) _ refl
+    pick (loadingAt slot time) = at (loadingAt slot time) slot refl (λ n. refl) _ refl
+    pick (clearingAll n) = rw (as-clear n _ refl) (to-all n)
+    pick (narrowingAt slot km0 acl req new hints) = at (narrowingAt slot km0 acl req new hints) slot refl (λ n. refl) _ refl
+    pick (expandingAt slot km0 acl req new) = at (expandingAt slot km0 acl req new) slot refl (λ n. refl) _ refl
+
 -- a call to a slot
 pub in-slot : (c : Cabinet) (x : CabinetCall) (k : ℕ) → slotIn x ≡ some k → cabinetOutcome c x ≡ inSlot c k (gateOutcome (ledgerAt c k) x)
-unfolding cabinetOutcome cabinetRequest cabinetLoad cabinetNarrow cabinetExpand outcome
-in-slot c (requestingAt slot km0 acl req) k e = let q : slot ≡ k = cc in rw q
-in-slot c (loadingAt slot time) k e = let q : slot ≡ k = cc in rw q
-in-slot c (clearingAll counter) k e = absurd (never (cc))
-in-slot c (narrowingAt slot km0 acl req new hints) k e = let q : slot ≡ k = cc in rw q
-in-slot c (expandingAt slot km0 acl req new) k e = let q : slot ≡ k = cc in rw q
-
--- a call is made to a slot, or is a clear
-pub kinds : (x : CabinetCall) → ((k : ℕ) × (slotIn x ≡ some k)) ⊎ ((counter : ℕ) × (x ≡ clearingAll counter))
-kinds (requestingAt slot km0 acl req) = inl (slot, refl)
-kinds (loadingAt slot time) = inl (slot, refl)
-kinds (clearingAll counter) = inr (counter, refl)
-kinds (narrowingAt slot km0 acl req new hints) = inl (slot, refl)
-kinds (expandingAt slot km0 acl req new) = inl (slot, refl)
+in-slot c x k e = pick x (cabinetOutcome c x) (lands c x) e
+  where
+    pick : (x : CabinetCall) (r : CabinetOutcome) → Lands c x r → slotIn x ≡ some k → r ≡ inSlot c k (gateOutcome (ledgerAt c k) x)
+    pick x r (to-slot j d b) e = let q : k ≡ j = cc in rw (q, lt-ltb j slotsMax b)
+    pick x r (to-none j d b f) e = let q : k ≡ j = cc in rw (q, le-ltb j slotsMax b)
+    pick x r (to-all n) e = absurd (never (cc))
 
 -- .. to one of the eight
 pub inside : (c : Cabinet) (x : CabinetCall) (k : ℕ) → slotIn x ≡ some k → k < slotsMax → cabinetOutcome c x ≡ asGate c k (gateOutcome (ledgerAt c k) x)
@@ -70,66 +92,37 @@ clears-everywhere c counter k = pick (ltb counter countersMax) refl
     pick true e = rw e (refl, refl)
     pick false e = rw e (refl, refl)
 
--- .. and leaves the slots
-pub clear-slots : (c : Cabinet) (counter : ℕ) → cabinetAfter c (clearingAll counter) .slots ≡ c .slots
-unfolding cabinetOutcome cabinetClear
-clear-slots c counter = pick (ltb counter countersMax) refl
-  where
-    pick : (b : Bool) → ltb counter countersMax ≡ b → cabinetClear c counter .cabinet .slots ≡ c .slots
-    pick true e = rw e
-    pick false e = rw e
-
 -- "A request, load or replacement changes no other slot's counts or times"; a clear changes no slot's
 pub others-stand : (c : Cabinet) (x : CabinetCall) (other : ℕ) → isSlot other (slotIn x) ≡ false → slotAt (cabinetAfter c x) other ≡ slotAt c other
-others-stand c x other e = pick (kinds x)
+others-stand c x other e = pick x (cabinetOutcome c x) (lands c x) e
   where
-    within : (k : ℕ) → eqb k other ≡ false → (b : Bool) → ltb k slotsMax ≡ b → slotAt (inSlot c k (gateOutcome (ledgerAt c k) x) .cabinet) other ≡ slotAt c other
-    within k d true t = rw t (getD-set-other (c .slots) k other _ emptySlot (λ q. eqb-false k other d (sym q)))
-    within k d false t = rw t
-
-    pick : ((k : ℕ) × (slotIn x ≡ some k)) ⊎ ((counter : ℕ) × (x ≡ clearingAll counter)) → slotAt (cabinetAfter c x) other ≡ slotAt c other
-    pick (inl p) = ap (λ (r : CabinetOutcome). slotAt (r .cabinet) other) (in-slot c x (p .0) (p .1)) ∙ within (p .0) (rw (p .1) at e) (ltb (p .0) slotsMax) refl
-    pick (inr p) = rw (p .1) (ap (λ (ss : List Slot). getD ss other emptySlot) (clear-slots c (p .0)))
+    pick : (x : CabinetCall) (r : CabinetOutcome) → Lands c x r → isSlot other (slotIn x) ≡ false → slotAt (r .cabinet) other ≡ slotAt c other
+    pick x r (to-slot k d b) e = getD-set-other (c .slots) k other _ emptySlot (λ q. eqb-false k other (rw d at e) (sym q))
+    pick x r (to-none k d b f) e = refl
+    pick x r (to-all n) e = refl
 
 -- the slots stay eight
 pub slots-kept : (c : Cabinet) (x : CabinetCall) → length (cabinetAfter c x .slots) ≡ length (c .slots)
-slots-kept c x = pick (kinds x)
+slots-kept c x = pick x (cabinetOutcome c x) (lands c x)
   where
-    within : (k : ℕ) (b : Bool) → ltb k slotsMax ≡ b → length (inSlot c k (gateOutcome (ledgerAt c k) x) .cabinet .slots) ≡ length (c .slots)
-    within k true t = rw t (length-set (c .slots) k _)
-    within k false t = rw t
-
-    pick : ((k : ℕ) × (slotIn x ≡ some k)) ⊎ ((counter : ℕ) × (x ≡ clearingAll counter)) → length (cabinetAfter c x .slots) ≡ length (c .slots)
-    pick (inl p) = ap (λ (r : CabinetOutcome). length (r .cabinet .slots)) (in-slot c x (p .0) (p .1)) ∙ within (p .0) (ltb (p .0) slotsMax) refl
-    pick (inr p) = rw (p .1) (ap (λ (ss : List Slot). length ss) (clear-slots c (p .0)))
+    pick : (x : CabinetCall) (r : CabinetOutcome) → Lands c x r → length (r .cabinet .slots) ≡ length (c .slots)
+    pick x r (to-slot k d b) = length-set (c .slots) k _
+    pick x r (to-none k d b f) = refl
+    pick x r (to-all n) = refl
 
 -- a slot's ledger put back as it was
 pub put-back : (c : Cabinet) (k : ℕ) → putBack c k (ledgerAt c k) ≡ c
 put-back c k = ap (λ (ss : List Slot). let d : Cabinet = record { slots = ss; counters = c .counters } in d) (set-getD (c .slots) k emptySlot)
 
-clear-refused : (c : Cabinet) (counter n : ℕ) (near : Option ℕ) → cabinetOutcome c (clearingAll counter) .answer ≡ refuse n near → cabinetAfter c (clearingAll counter) ≡ c
-unfolding cabinetOutcome cabinetClear
-clear-refused c counter n near d = pick (ltb counter countersMax) refl
-  where
-    pick : (b : Bool) → ltb counter countersMax ≡ b → cabinetClear c counter .cabinet ≡ c
-    pick true t = let f : done ≡ refuse n near = rw t at d in absurd (never (cc))
-    pick false t = rw t
-
 -- Demand 1 for the cabinet: a call that is refused changes nothing.
 pub demand-1-cabinet : (c : Cabinet) (x : CabinetCall) (n : ℕ) (near : Option ℕ) → cabinetOutcome c x .answer ≡ refuse n near → cabinetAfter c x ≡ c
-demand-1-cabinet c x n near e = pick (kinds x)
+unfolding outcome
+demand-1-cabinet c x n near e = pick x (cabinetOutcome c x) (lands c x) e
   where
-    within : (k : ℕ) (b : Bool) → ltb k slotsMax ≡ b → inSlot c k (gateOutcome (ledgerAt c k) x) .answer ≡ refuse n near → inSlot c k (gateOutcome (ledgerAt c k) x) .cabinet ≡ c
-    within k true t d =
-        let l = refused-ledger (record { ledger = ledgerAt c k; acl = lentIn x }) (gateCall x) n near (rw t at d) in
-        rw (t, l) (put-back c k)
-    within k false t d = rw t
-
-    pick : ((k : ℕ) × (slotIn x ≡ some k)) ⊎ ((counter : ℕ) × (x ≡ clearingAll counter)) → cabinetAfter c x ≡ c
-    pick (inl p) =
-        let q = in-slot c x (p .0) (p .1) in
-        ap (λ (r : CabinetOutcome). r .cabinet) q ∙ within (p .0) (ltb (p .0) slotsMax) refl (sym (ap (λ (r : CabinetOutcome). r .answer) q) ∙ e)
-    pick (inr p) = rw (p .1) (clear-refused c (p .0) n near (rw (p .1) at e))
+    pick : (x : CabinetCall) (r : CabinetOutcome) → Lands c x r → r .answer ≡ refuse n near → r .cabinet ≡ c
+    pick x r (to-slot k d b) e = rw (refused-ledger (record { ledger = ledgerAt c k; acl = lentIn x }) (gateCall x) n near e) (put-back c k)
+    pick x r (to-none k d b f) e = refl
+    pick x r (to-all m) e = rw (refused-ledger (record { ledger = ledgerAt c 0; acl = [] }) (clearing m) n near e)
 
 -- The numbers that the gate gives to a call ..
 abbrev pub gateNumbers : CabinetCall → List ℕ
@@ -147,60 +140,33 @@ slotNumbers (some slot) ns = noSlot ∷ ns
 abbrev pub cabinetNumbers : CabinetCall → List ℕ
 cabinetNumbers x = slotNumbers (slotIn x) (gateNumbers x)
 
-gate-number : (l : Ledger) (x : CabinetCall) → RefusalIn (gateNumbers x) (gateOutcome l x)
-unfolding outcome
-gate-number l (requestingAt slot km0 acl req) = request-number l km0 acl req
-gate-number l (loadingAt slot time) = λ n near e. absurd (never (cc))
-gate-number l (clearingAll counter) = clear-number l counter
-gate-number l (narrowingAt slot km0 acl req new hints) = narrow-number l km0 acl req new hints
-gate-number l (expandingAt slot km0 acl req new) = expand-number l km0 acl req new
-
--- 13 is none of the gate's numbers
-not-13 : (x : CabinetCall) → oneOf (gateNumbers x) noSlot ≡ false
-unfolding oneOf any
-not-13 (requestingAt slot km0 acl req) = refl
-not-13 (loadingAt slot time) = refl
-not-13 (clearingAll counter) = refl
-not-13 (narrowingAt slot km0 acl req new hints) = refl
-not-13 (expandingAt slot km0 acl req new) = refl
-
--- a number of a call to a slot is 13, or one of the gate's
-either-number : (x : CabinetCall) (k n : ℕ) → slotIn x ≡ some k → (n ≡ noSlot) ⊎ (oneOf (gateNumbers x) n ≡ true) → oneOf (cabinetNumbers x) n ≡ true
-unfolding oneOf any
-either-number x k n e (inl q) = rw (e, q)
-either-number x k n e (inr q) = rw e (or-right (eqb noSlot n) _ q)
+-- a refusal's number is one of the gate's, and 13 is none of these
+gate-number : (l : Ledger) (x : CabinetCall) → RefusalIn (gateNumbers x) (gateOutcome l x) × (oneOf (gateNumbers x) noSlot ≡ false)
+unfolding outcome oneOf any
+gate-number l (requestingAt slot km0 acl req) = (request-number l km0 acl req, refl)
+gate-number l (loadingAt slot time) = (λ n near e. absurd (never (cc)), refl)
+gate-number l (clearingAll counter) = (clear-number l counter, refl)
+gate-number l (narrowingAt slot km0 acl req new hints) = (narrow-number l km0 acl req new hints, refl)
+gate-number l (expandingAt slot km0 acl req new) = (expand-number l km0 acl req new, refl)
 
 -- Demand 1 for the cabinet, the numbers; 6 and 7 carry a group, and no other does.
 pub cabinet-number : (c : Cabinet) (x : CabinetCall) (n : ℕ) (near : Option ℕ) → cabinetOutcome c x .answer ≡ refuse n near → Numbered (cabinetNumbers x) n near
 unfolding oneOf any
-cabinet-number c x n near e = pick (kinds x)
+cabinet-number c x n near e = pick x (cabinetOutcome c x) (lands c x) e
   where
-    within : (k : ℕ) (b : Bool) → ltb k slotsMax ≡ b → inSlot c k (gateOutcome (ledgerAt c k) x) .answer ≡ refuse n near
-        → ((n ≡ noSlot) ⊎ (oneOf (gateNumbers x) n ≡ true)) × (present near ≡ oneOf (notCertified ∷ spent ∷ []) n)
-    within k true t d = let g = gate-number (ledgerAt c k) x n near (rw t at d) in (inr (g .0), g .1)
-    within k false t d =
-        let f : refuse noSlot none ≡ refuse n near = rw t at d in
-        let a : n ≡ noSlot = cc in
-        let b : near ≡ none = cc in
-        (inl a, rw (a, b))
-
-    pick : ((k : ℕ) × (slotIn x ≡ some k)) ⊎ ((counter : ℕ) × (x ≡ clearingAll counter)) → Numbered (cabinetNumbers x) n near
-    pick (inl p) =
-        let w = within (p .0) (ltb (p .0) slotsMax) refl (sym (ap (λ (r : CabinetOutcome). r .answer) (in-slot c x (p .0) (p .1))) ∙ e) in
-        (either-number x (p .0) n (p .1) (w .0), w .1)
-    pick (inr p) =
-        let d : cabinetOutcome c (clearingAll (p .0)) .answer ≡ refuse n near = rw (p .1) at e in
-        rw (p .1) (clear-number (ledgerAt c 0) (p .0) n near (sym (clears-everywhere c (p .0) 0 .0) ∙ d))
+    pick : (x : CabinetCall) (r : CabinetOutcome) → Lands c x r → r .answer ≡ refuse n near → Numbered (cabinetNumbers x) n near
+    pick x r (to-slot k d b) e = let g = gate-number (ledgerAt c k) x .0 n near e in (rw d (or-right (eqb noSlot n) _ (g .0)), g .1)
+    pick x r (to-none k d b f) e =
+        let p : n ≡ noSlot = cc in
+        let q : near ≡ none = cc in
+        (rw (d, p), rw (p, q))
+    pick x r (to-all m) e = clear-number (ledgerAt c 0) m n near e
 
 -- .. and 13 is given exactly for a slot over 7.
 pub thirteen : (c : Cabinet) (x : CabinetCall) (k : ℕ) → slotIn x ≡ some k → (cabinetOutcome c x .answer ≡ refuse noSlot none) ↔ (slotsMax ≤ k)
-thirteen c x k e = (there, λ h. ap (λ (r : CabinetOutcome). r .answer) (no-such-slot c x k e h))
+thirteen c x k e = (λ d. pick x (cabinetOutcome c x) (lands c x) e d, λ h. ap (λ (r : CabinetOutcome). r .answer) (no-such-slot c x k e h))
   where
-    there : cabinetOutcome c x .answer ≡ refuse noSlot none → slotsMax ≤ k
-    there d = pick (ltb k slotsMax) refl
-      where
-        pick : (b : Bool) → ltb k slotsMax ≡ b → slotsMax ≤ k
-        pick true t =
-            let q = inside c x k e (ltb-true k slotsMax t) in
-            absurd (not-both _ (gate-number (ledgerAt c k) x noSlot none (sym (ap (λ (r : CabinetOutcome). r .answer) q) ∙ d) .0) (not-13 x))
-        pick false t = ltb-false k slotsMax t
+    pick : (x : CabinetCall) (r : CabinetOutcome) → Lands c x r → slotIn x ≡ some k → r .answer ≡ refuse noSlot none → slotsMax ≤ k
+    pick x r (to-slot j d b) e f = let g = gate-number (ledgerAt c j) x in absurd (not-both _ (g .0 noSlot none f .0) (g .1))
+    pick x r (to-none j d b g) e f = let q : k ≡ j = cc in rw q b
+    pick x r (to-all n) e f = absurd (never (cc))
