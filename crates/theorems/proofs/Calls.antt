@@ -2,12 +2,13 @@
 -- a call leaves of the ledger (`comes`), what a permitted one is (`permit-is`), whether it replaces the ACL in force (`replaces`).
 use Prim.Native.Nat.{ℕ, _≤_}
 use native.Mathlib.Omega.{arith}
-use mathlib.Core.Path.{_≡_, refl}
+use mathlib.Core.Path.{_≡_, refl, ap}
 use mathlib.Core.List.{List}
 use mathlib.Core.Option.{Option, none, some}
-use mathlib.Core.Bool.{Bool, true, false}
+use mathlib.Core.Bool.{Bool, true, false, false≢true}
 use lib.ListN.{length, getElem?, replicate}
 use lib.Dec.{ltb}
+use borrow.Author.Tests.{eqb-true}
 use Rattle.rules.specs.Sizes.{groupsMax, countersMax}
 use Rattle.rules.specs.Numbers.{notNarrower, outOfRange}
 use Rattle.rules.specs.Basics.{if_then_else_, Bytes, records}
@@ -16,7 +17,7 @@ use Rattle.rules.specs.Request.{operation, reduceAcl, expandAcl, requestOf, hin
 use Rattle.rules.specs.Ledger.{Ledger, charge, loadedAt, cleared, recounted, carried}
 use Rattle.rules.specs.Narrow.{narrows}
 use Rattle.rules.specs.Gate.{Outcome, permit, numberOf, nearest, Judgement, granted, denied, judge, grants, refusedNear, refused, permitted, finished, outcomeUnless, settle, requestFiles, request, clear, narrowFiles, narrow, expandFiles, expand}
-use Rattle.theorems.specs.Demands.{Call, requesting, loading, clearing, narrowing, expanding, State, outcome, replacement, inForce, after, requestIn, wantedIn}
+use Rattle.theorems.specs.Demands.{Call, requesting, loading, clearing, narrowing, expanding, State, outcome, replacement, inForce, after, requestIn, wantedIn, clears}
 use Rattle.theorems.specs.Account.{requestAsked, km0Given}
 use Rattle.rules.proofs.Laws.{never, fault-none-every}
 use Rattle.rules.proofs.Few.{narrow-few}
@@ -136,3 +137,11 @@ replaces s c = pick c (outcome s c) (comes s c)
     pick c o (loads time) = stands
     pick c o (zeroes n e) = stands
     pick c o (permits k g counts p) = by-way c k g _ counts (p .sound .way) p
+
+-- Does it clear a counter? Then it is that counter's clear.
+pub clear-is : (c : ℕ) (call : Call) → clears c call ≡ true → call ≡ clearing c
+clear-is c (requesting km0 req) e = absurd (false≢true e)
+clear-is c (loading time) e = absurd (false≢true e)
+clear-is c (clearing n) e = ap clearing (eqb-true n c e)
+clear-is c (narrowing km0 req new hints) e = absurd (false≢true e)
+clear-is c (expanding km0 req new) e = absurd (false≢true e)

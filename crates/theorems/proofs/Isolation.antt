@@ -20,7 +20,7 @@ use Rattle.rules.proofs.Laws.{never}
 use Rattle.theorems.proofs.Slots.{as-the-gate, no-such-slot, others-stand, slots-kept}
 use Rattle.theorems.proofs.NamedCounters.{only-named}
 
-pub is-slot : (slot : ℕ) (o : Option ℕ) → isSlot slot o ≡ true → o ≡ some slot
+is-slot : (slot : ℕ) (o : Option ℕ) → isSlot slot o ≡ true → o ≡ some slot
 is-slot slot none e = absurd (false≢true e)
 is-slot slot (some k) e = ap some (eqb-true k slot e)
 

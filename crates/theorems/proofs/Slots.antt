@@ -54,7 +54,7 @@ lands c x = pick x
     pick (expandingAt slot km0 acl req new) = at (expandingAt slot km0 acl req new) slot refl (λ n. refl) _ refl
 
 -- a call to a slot
-pub in-slot : (c : Cabinet) (x : CabinetCall) (k : ℕ) → slotIn x ≡ some k → cabinetOutcome c x ≡ inSlot c k (gateOutcome (ledgerAt c k) x)
+in-slot : (c : Cabinet) (x : CabinetCall) (k : ℕ) → slotIn x ≡ some k → cabinetOutcome c x ≡ inSlot c k (gateOutcome (ledgerAt c k) x)
 in-slot c x k e = pick x (cabinetOutcome c x) (lands c x) e
   where
     pick : (x : CabinetCall) (r : CabinetOutcome) → Lands c x r → slotIn x ≡ some k → r ≡ inSlot c k (gateOutcome (ledgerAt c k) x)
