@@ -35,7 +35,7 @@ module _ (P : List ℕ → Type 0) (Q : List ℕ → Type 0) (keeps : (l : Ledge
       pick x r (to-slot k e b) =
           let l = keeps (ledgerAt c k) x (at k b) (h .1) in
           (every-set (λ s. P (s .counts)) (c .slots) k (countsAndTimes (gateOutcome (ledgerAt c k) x .ledger)) (l .0) (h .0), l .1)
-      pick x r (to-none k e b f) = h
+      pick x r (to-none k e b z) = h
       pick x r (to-all n) = (h .0, keeps (ledgerAt c 0) (clearingAll n) (at 0 (omega arith)) (h .1) .1)
 
 -- "eight slots", each with its group counts, "and one shared table of named counters"

@@ -1,14 +1,15 @@
 -- What a call comes to, whichever kind of call it is. `kind` is the one case over the kinds of call; from it come the laws that the theorems cite: what
--- a call leaves of the ledger (`comes`), what a permitted one is (`permit-is`), whether it replaces the ACL in force (`replaces`).
-use Prim.Native.Nat.{ℕ, _≤_}
+-- a call leaves of the ledger, and whether it clears a counter (`comes`); what a permitted one is (`permit-is`); what replaces the ACL in force
+-- (`replaces`).
+use Prim.Native.Nat.{ℕ, _≤_, _<_}
 use native.Mathlib.Omega.{arith}
-use mathlib.Core.Path.{_≡_, refl, ap}
+use mathlib.Core.Path.{_≡_, refl}
 use mathlib.Core.List.{List}
 use mathlib.Core.Option.{Option, none, some}
-use mathlib.Core.Bool.{Bool, true, false, false≢true}
+use mathlib.Core.Bool.{Bool, true, false}
 use lib.ListN.{length, getElem?, replicate}
 use lib.Dec.{ltb}
-use borrow.Author.Tests.{eqb-true}
+use borrow.Author.Tests.{ltb-false, ne-eqb}
 use Rattle.rules.specs.Sizes.{groupsMax, countersMax}
 use Rattle.rules.specs.Numbers.{notNarrower, outOfRange}
 use Rattle.rules.specs.Basics.{if_then_else_, Bytes, records}
@@ -40,37 +41,41 @@ pub record Sound (acl : Bytes) (counts : List ℕ) (c : Call) (left : List ℕ) 
   pub known : KnownUse (requestAsked c .wanted)
   pub way : Way acl counts c left
 
+-- a call that clears no counter of the table
+abbrev pub ClearsNone : Call → Type 0
+ClearsNone c = (n : ℕ) → n < countersMax → clears n c ≡ false
+
 -- what a permit comes to, on the ledger before it: other group counts, unless the call's hints show no narrowing
 abbrev pub recounts : Bool → (List ℕ → List ℕ) → Ledger → ℕ → Ledger → Outcome
 recounts shown recount l k m = if shown then permitted k (recounted m (recount (m .counts))) else refused l notNarrower
 
 -- A call is judged, or a load, or a clear of a counter in the table or past it; with what it makes of a ledger.
 pub data Kind (acl : Bytes) : Call → (Ledger → Outcome) → Type 0 where
-  judged : {c : Call} (fault : Option ℕ) (shown : Bool) (recount : List ℕ → List ℕ) → (fault ≡ none → shown ≡ true → (counts : List ℕ) → Sound acl counts c (recount counts))
+  judged : {c : Call} (fault : Option ℕ) (shown : Bool) (recount : List ℕ → List ℕ) → ClearsNone c → (fault ≡ none → shown ≡ true → (counts : List ℕ) → Sound acl counts c (recount counts))
       → Kind acl c (λ l. called fault l (km0Given c) (aclOf acl) (requestAsked c) (recounts shown recount l))
   loaded : (time : ℕ) → Kind acl (loading time) (λ l. finished (loadedAt l time))
   within : (n : ℕ) → ltb n countersMax ≡ true → Kind acl (clearing n) (λ l. finished (cleared l n))
-  past : (n : ℕ) → Kind acl (clearing n) (λ l. refused l outOfRange)
+  past : (n : ℕ) → ClearsNone (clearing n) → Kind acl (clearing n) (λ l. refused l outOfRange)
 
 pub kind : (acl : Bytes) (c : Call) → Kind acl c (λ l. outcome (record { ledger = l; acl = acl }) c)
 unfolding outcome request clear narrow expand
 kind acl (requesting km0 req) =
-    judged (requestFiles km0 acl req) true (λ counts. counts)
+    judged (requestFiles km0 acl req) true (λ counts. counts) (λ n h. refl)
     (λ e t counts. let n = fault-none-every _ e in record { file = n .1 .0; asks = refl; wants = refl; known = known-request (records req) (n .1 .1 .0); way = uses km0 req })
 kind acl (loading time) = loaded time
 kind acl (clearing n) = pick (ltb n countersMax) refl
   where
     pick : (b : Bool) → ltb n countersMax ≡ b → Kind acl (clearing n) (λ l. clear l n)
     pick true e = rw e (within n e)
-    pick false e = rw e (past n)
+    pick false e = let b = ltb-false n countersMax e in rw e (past n (λ m h. ne-eqb n m (λ q. omega arith)))
 kind acl (narrowing km0 req new hints) =
-    judged {c = narrowing km0 req new hints} (narrowFiles km0 acl req new hints) (narrows (aclOf acl) (aclOf new) (hintsOf hints)) (λ counts. carried counts (hintsOf hints))
+    judged {c = narrowing km0 req new hints} (narrowFiles km0 acl req new hints) (narrows (aclOf acl) (aclOf new) (hintsOf hints)) (λ counts. carried counts (hintsOf hints)) (λ n h. refl)
     (λ e t counts.
     let n = fault-none-every _ e in
     let u : requestOf req .wanted ≡ operation reduceAcl = use-wanted reduceAcl (records req) (n .1 .1 .0) in
     record { file = n .1 .0; asks = refl; wants = refl; known = rw u (omega arith); way = reduces km0 req new hints t (narrow-few km0 acl req new hints e) })
 kind acl (expanding km0 req new) =
-    judged {c = expanding km0 req new} (expandFiles km0 acl req new) true (λ counts. replicate groupsMax 0)
+    judged {c = expanding km0 req new} (expandFiles km0 acl req new) true (λ counts. replicate groupsMax 0) (λ n h. refl)
     (λ e t counts.
     let n = fault-none-every _ e in
     let u : requestOf req .wanted ≡ operation expandAcl = use-wanted expandAcl (records req) (n .1 .1 .0) in
@@ -82,40 +87,40 @@ pub record Permits (s : State) (c : Call) (k : ℕ) (g : Group) (counts : List �
   pub granting : grants (s .ledger) (km0Given c) (requestAsked c) k g ≡ true
   pub sound : Sound (s .acl) (charge (s .ledger) k g (requestAsked c .time) .counts) c counts
 
--- A call is refused and leaves the ledger; or it is a load; or a clear; or it is permitted.
+-- A call is refused and leaves the ledger; or it is a load; or a clear of a counter in the table; or it is permitted.
 pub data Comes (s : State) : Call → Outcome → Type 0 where
-  refuses : {c : Call} (n : ℕ) (near : Option ℕ) → Comes s c (refusedNear (s .ledger) n near)
+  refuses : {c : Call} (n : ℕ) (near : Option ℕ) → ClearsNone c → Comes s c (refusedNear (s .ledger) n near)
   loads : (time : ℕ) → Comes s (loading time) (finished (loadedAt (s .ledger) time))
   zeroes : (n : ℕ) → ltb n countersMax ≡ true → Comes s (clearing n) (finished (cleared (s .ledger) n))
-  permits : {c : Call} (k : ℕ) (g : Group) (counts : List ℕ) → Permits s c k g counts → Comes s c (permitted k (recounted (charge (s .ledger) k g (requestAsked c .time)) counts))
+  permits : {c : Call} (k : ℕ) (g : Group) (counts : List ℕ) → ClearsNone c → Permits s c k g counts → Comes s c (permitted k (recounted (charge (s .ledger) k g (requestAsked c .time)) counts))
 
 pub comes : (s : State) (c : Call) → Comes s c (outcome s c)
 comes s c = pick c (λ l. outcome (record { ledger = l; acl = s .acl }) c) (kind (s .acl) c)
   where
-    settled : (c : Call) (fault : Option ℕ) (shown : Bool) (recount : List ℕ → List ℕ) → (fault ≡ none → shown ≡ true → (counts : List ℕ) → Sound (s .acl) counts c (recount counts)) → (j : Judgement) → judge (s .ledger) (km0Given c) (aclOf (s .acl)) (requestAsked c) ≡ j
+    settled : (c : Call) (fault : Option ℕ) (shown : Bool) (recount : List ℕ → List ℕ) → ClearsNone c → (fault ≡ none → shown ≡ true → (counts : List ℕ) → Sound (s .acl) counts c (recount counts)) → (j : Judgement) → judge (s .ledger) (km0Given c) (aclOf (s .acl)) (requestAsked c) ≡ j
         → Comes s c (outcomeUnless (s .ledger) fault (settle (s .ledger) (requestAsked c .time) (recounts shown recount (s .ledger)) j))
-    settled c (some x) shown recount h j e = refuses x none
-    settled c none shown recount h (denied d) e = refuses (numberOf d) (nearest d)
-    settled c none false recount h (granted k g) e = refuses notNarrower none
-    settled c none true recount h (granted k g) e =
+    settled c (some x) shown recount z h j e = refuses x none z
+    settled c none shown recount z h (denied d) e = refuses (numberOf d) (nearest d) z
+    settled c none false recount z h (granted k g) e = refuses notNarrower none z
+    settled c none true recount z h (granted k g) e =
         let r = granted-is (s .ledger) (km0Given c) (aclOf (s .acl)) (requestAsked c) k g e in
-        permits k g _ (record { there = r .0; granting = r .1; sound = h refl refl _ })
+        permits k g _ z (record { there = r .0; granting = r .1; sound = h refl refl _ })
 
     pick : (c : Call) (f : Ledger → Outcome) → Kind (s .acl) c f → Comes s c (f (s .ledger))
-    pick c f (judged fault shown recount h) = settled c fault shown recount h _ refl
+    pick c f (judged fault shown recount z h) = settled c fault shown recount z h _ refl
     pick c f (loaded time) = loads time
     pick c f (within n e) = zeroes n e
-    pick c f (past n) = refuses outOfRange none
+    pick c f (past n z) = refuses outOfRange none z
 
 -- Is it permitted? Then some group grants it, and it is one of the three ways.
 pub permit-is : (s : State) (c : Call) (k : ℕ) → outcome s c .answer ≡ permit k → (g : Group) × (counts : List ℕ) × Permits s c k g counts
 permit-is s c k e = pick c (outcome s c) (comes s c) e
   where
     pick : (c : Call) (o : Outcome) → Comes s c o → o .answer ≡ permit k → (g : Group) × (counts : List ℕ) × Permits s c k g counts
-    pick c o (refuses n near) e = absurd (never (cc))
+    pick c o (refuses n near z) e = absurd (never (cc))
     pick c o (loads time) e = absurd (never (cc))
     pick c o (zeroes n d) e = absurd (never (cc))
-    pick c o (permits i g counts p) e = let q : i ≡ k = cc in (g, counts, rw q at p)
+    pick c o (permits i g counts z p) e = let q : i ≡ k = cc in (g, counts, rw q at p)
 
 -- Does it replace the ACL in force? That stands, or the call is a narrowing that its hints show, or a permitted expansion.
 pub data Replaces (s : State) : Call → Bytes → Type 0 where
@@ -133,15 +138,7 @@ replaces s c = pick c (outcome s c) (comes s c)
     by-way c k g counts left (expands km0 req new u) p = wider km0 req new k g left u p
 
     pick : (c : Call) (o : Outcome) → Comes s c o → Replaces s c (inForce (s .acl) (replacement (s .acl) c) (o .answer))
-    pick c o (refuses n near) = stands
+    pick c o (refuses n near z) = stands
     pick c o (loads time) = stands
     pick c o (zeroes n e) = stands
-    pick c o (permits k g counts p) = by-way c k g _ counts (p .sound .way) p
-
--- Does it clear a counter? Then it is that counter's clear.
-pub clear-is : (c : ℕ) (call : Call) → clears c call ≡ true → call ≡ clearing c
-clear-is c (requesting km0 req) e = absurd (false≢true e)
-clear-is c (loading time) e = absurd (false≢true e)
-clear-is c (clearing n) e = ap clearing (eqb-true n c e)
-clear-is c (narrowing km0 req new hints) e = absurd (false≢true e)
-clear-is c (expanding km0 req new) e = absurd (false≢true e)
+    pick c o (permits k g counts z p) = by-way c k g _ counts (p .sound .way) p

@@ -102,10 +102,10 @@ module _ (s : Slot) (a b : List ℕ) where
   call-alike acl c h = pick c (λ l. outcome (record { ledger = l; acl = acl }) c) (kind acl c)
     where
       pick : (c : Call) (f : Ledger → Outcome) → Kind acl c f → Alike (f (ledgerWith s a)) (f (ledgerWith s b))
-      pick c f (judged fault shown recount x) = called-alike fault (km0Given c) (aclOf acl) (requestAsked c) shown recount h
+      pick c f (judged fault shown recount z x) = called-alike fault (km0Given c) (aclOf acl) (requestAsked c) shown recount h
       pick c f (loaded time) = record { answers = refl; slots = refl }
       pick c f (within n e) = record { answers = refl; slots = refl }
-      pick c f (past n) = record { answers = refl; slots = refl }
+      pick c f (past n z) = record { answers = refl; slots = refl }
 
   -- Two ledgers with the same group counts and times, of which the counters that the lent ACL names read the same: the same answer, and the same group
   -- counts and times after it.

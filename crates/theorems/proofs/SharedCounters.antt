@@ -28,7 +28,7 @@ counter-after counter c x b h = pick x (cabinetOutcome c x) (lands c x)
   where
     pick : (x : CabinetCall) (r : CabinetOutcome) → Lands c x r → CounterAfter counter c x r
     pick x r (to-slot k e d) = called-counter counter (record { ledger = ledgerAt c k; acl = lentIn x }) (gateCall x) b h
-    pick x r (to-none k e d f) = rw (f counter) (refl, refl)
+    pick x r (to-none k e d z) = rw (z counter b) (refl, refl)
     pick x r (to-all n) = called-counter counter (record { ledger = ledgerAt c 0; acl = [] }) (clearing n) b h
 
 tallied : (counter : ℕ) (c : Cabinet) (n : ℕ) (xs : List CabinetCall) → counter < countersMax → counter < length (c .counters) → getD (c .counters) counter 0 ≡ n

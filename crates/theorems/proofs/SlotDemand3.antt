@@ -32,7 +32,7 @@ turns-gated slot c (x ∷ xs) = pick (isSlot slot (slotIn x)) refl (turns-gated 
   where
     answered : (x : CabinetCall) (r : CabinetOutcome) → Lands c x r → Gated x (r .answer)
     answered x r (to-slot k e b) = inr (ledgerAt c k, refl)
-    answered x r (to-none k e b f) = inl refl
+    answered x r (to-none k e b z) = inl refl
     answered x r (to-all n) = inr (ledgerAt c 0, refl)
 
     pick : (b : Bool) → isSlot slot (slotIn x) ≡ b → Every (λ t. Gated (t .call) (t .answer)) (turns slot (cabinetAfter c x) xs) → Every (λ t. Gated (t .call) (t .answer)) (turns slot c (x ∷ xs))

@@ -17,9 +17,10 @@ use Rattle.rules.specs.Basics.{any}
 use Rattle.rules.specs.Ledger.{Ledger}
 use Rattle.rules.specs.Gate.{Outcome, refuse, clear}
 use Rattle.rules.specs.Cabinet.{Slot, Cabinet, countsAndTimes, emptySlot, slotAt, ledgerWith, ledgerAt, putBack, CabinetOutcome, cabinetRefused, asGate, inSlot, cabinetRequest, cabinetLoad, cabinetClear, cabinetNarrow, cabinetExpand}
-use Rattle.theorems.specs.Demands.{clearing, outcome, clears, oneOf}
+use Rattle.theorems.specs.Demands.{clearing, outcome, oneOf}
 use Rattle.theorems.specs.Cabinets.{CabinetCall, requestingAt, loadingAt, clearingAll, narrowingAt, expandingAt, cabinetOutcome, cabinetAfter, slotIn, gateOutcome, isSlot, gateCall, lentIn}
 use Rattle.rules.proofs.Laws.{never, not-both, or-right}
+use Rattle.theorems.proofs.Calls.{ClearsNone}
 use Rattle.theorems.proofs.Demand1.{refused-ledger}
 use Rattle.theorems.proofs.Refusals.{requestNumbers, narrowNumbers, request-number, expand-number, narrow-number, clear-number, Numbered, RefusalIn}
 
@@ -31,27 +32,27 @@ onTable c o = record { answer = o .answer; cabinet = record { slots = c .slots; 
 -- clear, what the gate makes of it on the shared table. This is the one case over the kinds of call of the cabinet.
 pub data Lands (c : Cabinet) : CabinetCall → CabinetOutcome → Type 0 where
   to-slot : {x : CabinetCall} (k : ℕ) → slotIn x ≡ some k → k < slotsMax → Lands c x (asGate c k (gateOutcome (ledgerAt c k) x))
-  to-none : {x : CabinetCall} (k : ℕ) → slotIn x ≡ some k → slotsMax ≤ k → ((n : ℕ) → clears n (gateCall x) ≡ false) → Lands c x (cabinetRefused c noSlot)
+  to-none : {x : CabinetCall} (k : ℕ) → slotIn x ≡ some k → slotsMax ≤ k → ClearsNone (gateCall x) → Lands c x (cabinetRefused c noSlot)
   to-all : (n : ℕ) → Lands c (clearingAll n) (onTable c (clear (ledgerAt c 0) n))
 
 pub lands : (c : Cabinet) (x : CabinetCall) → Lands c x (cabinetOutcome c x)
 unfolding cabinetOutcome cabinetRequest cabinetLoad cabinetClear cabinetNarrow cabinetExpand outcome clear
 lands c x = pick x
   where
-    at : (x : CabinetCall) (k : ℕ) → slotIn x ≡ some k → ((n : ℕ) → clears n (gateCall x) ≡ false) → (b : Bool) → ltb k slotsMax ≡ b → Lands c x (inSlot c k (gateOutcome (ledgerAt c k) x))
-    at x k e f true t = rw t (to-slot k e (ltb-true k slotsMax t))
-    at x k e f false t = rw t (to-none k e (ltb-false k slotsMax t) f)
+    at : (x : CabinetCall) (k : ℕ) → slotIn x ≡ some k → ClearsNone (gateCall x) → (b : Bool) → ltb k slotsMax ≡ b → Lands c x (inSlot c k (gateOutcome (ledgerAt c k) x))
+    at x k e z true t = rw t (to-slot k e (ltb-true k slotsMax t))
+    at x k e z false t = rw t (to-none k e (ltb-false k slotsMax t) z)
 
     as-clear : (n : ℕ) (b : Bool) → ltb n countersMax ≡ b → cabinetClear c n ≡ onTable c (clear (ledgerAt c 0) n)
     as-clear n true t = rw t
     as-clear n false t = rw t
 
     pick : (x : CabinetCall) → Lands c x (cabinetOutcome c x)
-    pick (requestingAt slot km0 acl req) = at (requestingAt slot km0 acl req) slot refl (λ n. refl) _ refl
-    pick (loadingAt slot time) = at (loadingAt slot time) slot refl (λ n. refl) _ refl
+    pick (requestingAt slot km0 acl req) = at (requestingAt slot km0 acl req) slot refl (λ n h. refl) _ refl
+    pick (loadingAt slot time) = at (loadingAt slot time) slot refl (λ n h. refl) _ refl
     pick (clearingAll n) = rw (as-clear n _ refl) (to-all n)
-    pick (narrowingAt slot km0 acl req new hints) = at (narrowingAt slot km0 acl req new hints) slot refl (λ n. refl) _ refl
-    pick (expandingAt slot km0 acl req new) = at (expandingAt slot km0 acl req new) slot refl (λ n. refl) _ refl
+    pick (narrowingAt slot km0 acl req new hints) = at (narrowingAt slot km0 acl req new hints) slot refl (λ n h. refl) _ refl
+    pick (expandingAt slot km0 acl req new) = at (expandingAt slot km0 acl req new) slot refl (λ n h. refl) _ refl
 
 -- a call to a slot
 in-slot : (c : Cabinet) (x : CabinetCall) (k : ℕ) → slotIn x ≡ some k → cabinetOutcome c x ≡ inSlot c k (gateOutcome (ledgerAt c k) x)
@@ -59,7 +60,7 @@ in-slot c x k e = pick x (cabinetOutcome c x) (lands c x) e
   where
     pick : (x : CabinetCall) (r : CabinetOutcome) → Lands c x r → slotIn x ≡ some k → r ≡ inSlot c k (gateOutcome (ledgerAt c k) x)
     pick x r (to-slot j d b) e = let q : k ≡ j = cc in rw (q, lt-ltb j slotsMax b)
-    pick x r (to-none j d b f) e = let q : k ≡ j = cc in rw (q, le-ltb j slotsMax b)
+    pick x r (to-none j d b z) e = let q : k ≡ j = cc in rw (q, le-ltb j slotsMax b)
     pick x r (to-all n) e = absurd (never (cc))
 
 -- .. to one of the eight
@@ -98,7 +99,7 @@ others-stand c x other e = pick x (cabinetOutcome c x) (lands c x) e
   where
     pick : (x : CabinetCall) (r : CabinetOutcome) → Lands c x r → isSlot other (slotIn x) ≡ false → slotAt (r .cabinet) other ≡ slotAt c other
     pick x r (to-slot k d b) e = getD-set-other (c .slots) k other _ emptySlot (λ q. eqb-false k other (rw d at e) (sym q))
-    pick x r (to-none k d b f) e = refl
+    pick x r (to-none k d b z) e = refl
     pick x r (to-all n) e = refl
 
 -- the slots stay eight
@@ -107,7 +108,7 @@ slots-kept c x = pick x (cabinetOutcome c x) (lands c x)
   where
     pick : (x : CabinetCall) (r : CabinetOutcome) → Lands c x r → length (r .cabinet .slots) ≡ length (c .slots)
     pick x r (to-slot k d b) = length-set (c .slots) k _
-    pick x r (to-none k d b f) = refl
+    pick x r (to-none k d b z) = refl
     pick x r (to-all n) = refl
 
 -- a slot's ledger put back as it was
@@ -121,10 +122,10 @@ demand-1-cabinet c x n near e = pick x (cabinetOutcome c x) (lands c x) e
   where
     pick : (x : CabinetCall) (r : CabinetOutcome) → Lands c x r → r .answer ≡ refuse n near → r .cabinet ≡ c
     pick x r (to-slot k d b) e = rw (refused-ledger (record { ledger = ledgerAt c k; acl = lentIn x }) (gateCall x) n near e) (put-back c k)
-    pick x r (to-none k d b f) e = refl
+    pick x r (to-none k d b z) e = refl
     pick x r (to-all m) e = rw (refused-ledger (record { ledger = ledgerAt c 0; acl = [] }) (clearing m) n near e)
 
--- The numbers that the gate gives to a call ..
+-- The numbers that the gate gives to a call, which are by kind of call in the papers, too ..
 abbrev pub gateNumbers : CabinetCall → List ℕ
 gateNumbers (requestingAt slot km0 acl req) = requestNumbers
 gateNumbers (loadingAt slot time) = []
@@ -156,7 +157,7 @@ cabinet-number c x n near e = pick x (cabinetOutcome c x) (lands c x) e
   where
     pick : (x : CabinetCall) (r : CabinetOutcome) → Lands c x r → r .answer ≡ refuse n near → Numbered (cabinetNumbers x) n near
     pick x r (to-slot k d b) e = let g = gate-number (ledgerAt c k) x .0 n near e in (rw d (or-right (eqb noSlot n) _ (g .0)), g .1)
-    pick x r (to-none k d b f) e =
+    pick x r (to-none k d b z) e =
         let p : n ≡ noSlot = cc in
         let q : near ≡ none = cc in
         (rw (d, p), rw (p, q))
@@ -168,5 +169,5 @@ thirteen c x k e = (λ d. pick x (cabinetOutcome c x) (lands c x) e d, λ h. ap 
   where
     pick : (x : CabinetCall) (r : CabinetOutcome) → Lands c x r → slotIn x ≡ some k → r .answer ≡ refuse noSlot none → slotsMax ≤ k
     pick x r (to-slot j d b) e f = let g = gate-number (ledgerAt c j) x in absurd (not-both _ (g .0 noSlot none f .0) (g .1))
-    pick x r (to-none j d b g) e f = let q : k ≡ j = cc in rw q b
+    pick x r (to-none j d b z) e f = let q : k ≡ j = cc in rw q b
     pick x r (to-all n) e f = absurd (never (cc))

@@ -44,10 +44,10 @@ call-sized s c h = pick c (outcome s c) (comes s c)
     left-sized c counts left (expands km0 req new e) t = length-replicate {A = ℕ} groupsMax 0
 
     pick : (c : Call) (o : Outcome) → Comes s c o → Sized (o .ledger)
-    pick c o (refuses n near) = h
+    pick c o (refuses n near z) = h
     pick c o (loads time) = record { groups = length-replicate {A = ℕ} groupsMax 0; named = h .named }
     pick c o (zeroes n e) = record { groups = h .groups; named = length-set (s .ledger .counters) n 0 ∙ h .named }
-    pick c o (permits k g counts p) =
+    pick c o (permits k g counts z p) =
         let t = charge-sized (s .ledger) k g (requestAsked c .time) h in
         record { groups = left-sized c _ counts (p .sound .way) (t .groups); named = t .named }
 

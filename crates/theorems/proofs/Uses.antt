@@ -309,10 +309,10 @@ module _ (first : List Group) where
     put-way c k g counts (expands km0 req new u) p d go = absurd (false≢true (sym d))
 
     put-call : (c : Call) (o : Outcome) → Comes s c o → ((k : ℕ) → o .answer ≡ permit k → isExpansion c ≡ false) → Goes c o → PutDown first a c next (o .answer)
-    put-call c o (refuses n near) d go = go a os f
+    put-call c o (refuses n near z) d go = go a os f
     put-call c o (loads t) d go = go _ os (load-follows first a (s .ledger) (aclOf (s .acl)) os t f)
     put-call c o (zeroes n e) d go = rw (clear-done a n e) (go _ os (clear-follows first a (s .ledger) (aclOf (s .acl)) os n f))
-    put-call c o (permits k g counts p) d go = put-way c k g counts (p .sound .way) p (d k refl) go
+    put-call c o (permits k g counts z p) d go = put-way c k g counts (p .sound .way) p (d k refl) go
 
   put-down : (a : Ledger) (s : State) (os : List ℕ) (cs : List Call) → Follows first a (s .ledger) (aclOf (s .acl)) os → EveryPermit (λ s c. isExpansion c ≡ false) s cs → AllPutDown first a s cs
   unfolding after
