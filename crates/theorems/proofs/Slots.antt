@@ -35,22 +35,26 @@ pub data Lands (c : Cabinet) : CabinetCall → CabinetOutcome → Type 0 where
   to-none : {x : CabinetCall} (k : ℕ) → slotIn x ≡ some k → slotsMax ≤ k → ClearsNone (gateCall x) → Lands c x (cabinetRefused c noSlot)
   to-all : (n : ℕ) → Lands c (clearingAll n) (onTable c (clear (ledgerAt c 0) n))
 
+clear-table : (c : Cabinet) (n : ℕ) → cabinetOutcome c (clearingAll n) ≡ onTable c (clear (ledgerAt c 0) n)
+unfolding cabinetOutcome cabinetClear clear
+clear-table c n = pick (ltb n countersMax) refl
+  where
+    pick : (b : Bool) → ltb n countersMax ≡ b → cabinetClear c n ≡ onTable c (clear (ledgerAt c 0) n)
+    pick true t = rw t
+    pick false t = rw t
+
 pub lands : (c : Cabinet) (x : CabinetCall) → Lands c x (cabinetOutcome c x)
-unfolding cabinetOutcome cabinetRequest cabinetLoad cabinetClear cabinetNarrow cabinetExpand outcome clear
+unfolding cabinetOutcome cabinetRequest cabinetLoad cabinetNarrow cabinetExpand outcome
 lands c x = pick x
   where
     at : (x : CabinetCall) (k : ℕ) → slotIn x ≡ some k → ClearsNone (gateCall x) → (b : Bool) → ltb k slotsMax ≡ b → Lands c x (inSlot c k (gateOutcome (ledgerAt c k) x))
     at x k e z true t = rw t (to-slot k e (ltb-true k slotsMax t))
     at x k e z false t = rw t (to-none k e (ltb-false k slotsMax t) z)
 
-    as-clear : (n : ℕ) (b : Bool) → ltb n countersMax ≡ b → cabinetClear c n ≡ onTable c (clear (ledgerAt c 0) n)
-    as-clear n true t = rw t
-    as-clear n false t = rw t
-
     pick : (x : CabinetCall) → Lands c x (cabinetOutcome c x)
     pick (requestingAt slot km0 acl req) = at (requestingAt slot km0 acl req) slot refl (λ n h. refl) _ refl
     pick (loadingAt slot time) = at (loadingAt slot time) slot refl (λ n h. refl) _ refl
-    pick (clearingAll n) = rw (as-clear n _ refl) (to-all n)
+    pick (clearingAll n) = rw (clear-table c n) (to-all n)
     pick (narrowingAt slot km0 acl req new hints) = at (narrowingAt slot km0 acl req new hints) slot refl (λ n h. refl) _ refl
     pick (expandingAt slot km0 acl req new) = at (expandingAt slot km0 acl req new) slot refl (λ n h. refl) _ refl
 
@@ -92,6 +96,10 @@ clears-everywhere c counter k = pick (ltb counter countersMax) refl
         → (cabinetClear c counter .answer ≡ clear (ledgerAt c k) counter .answer) × (ledgerAt (cabinetClear c counter .cabinet) k ≡ clear (ledgerAt c k) counter .ledger)
     pick true e = rw e (refl, refl)
     pick false e = rw e (refl, refl)
+
+-- .. and leaves the slots
+pub clear-slots : (c : Cabinet) (counter : ℕ) → cabinetAfter c (clearingAll counter) .slots ≡ c .slots
+clear-slots c counter = ap (λ (r : CabinetOutcome). r .cabinet .slots) (clear-table c counter)
 
 -- "A request, load or replacement changes no other slot's counts or times"; a clear changes no slot's
 pub others-stand : (c : Cabinet) (x : CabinetCall) (other : ℕ) → isSlot other (slotIn x) ≡ false → slotAt (cabinetAfter c x) other ≡ slotAt c other
