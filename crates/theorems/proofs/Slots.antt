@@ -29,7 +29,7 @@ abbrev onTable : Cabinet → Outcome → CabinetOutcome
 onTable c o = record { answer = o .answer; cabinet = record { slots = c .slots; counters = o .ledger .counters } }
 
 -- What a call comes to, whichever kind it is: what the gate makes of it, in one of the eight slots; a refusal, where its slot is none of these; or, of a
--- clear, what the gate makes of it on the shared table. This is the one case over the kinds of call of the cabinet.
+-- clear, what the gate makes of it on the shared table. This is the case over the kinds of call of the cabinet that the theorems cite.
 pub data Lands (c : Cabinet) : CabinetCall → CabinetOutcome → Type 0 where
   to-slot : {x : CabinetCall} (k : ℕ) → slotIn x ≡ some k → k < slotsMax → Lands c x (asGate c k (gateOutcome (ledgerAt c k) x))
   to-none : {x : CabinetCall} (k : ℕ) → slotIn x ≡ some k → slotsMax ≤ k → ClearsNone (gateCall x) → Lands c x (cabinetRefused c noSlot)
