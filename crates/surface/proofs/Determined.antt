@@ -19,22 +19,27 @@ use Rattle.gate.proofs.Determined.{ledgerBack}
 use Rattle.rules.specs.Cabinet as cabinet
 use Rattle.cabinet.specs.declared.Cabinet.{Cabinet}
 use Rattle.cabinet.proofs.Determined.{cabinetBack, cabinet-back}
+use Rattle.surface.specs.declared.HostReply.{HostReply}
 use Rattle.surface.specs.declared.HostOutcome.{HostOutcome}
 use Rattle.surface.specs.declared.HostCabinetOutcome.{HostCabinetOutcome}
 use Rattle.surface.specs.declared.HostVerdict.{HostVerdict}
 use Rattle.surface.specs.declared.HostWritten.{HostWritten}
 use Rattle.surface.specs.declared.HostTrimmed.{HostTrimmed}
-use Rattle.surface.specs.Surface.{OutcomeInNumbers, hostOutcomeAs, answerCode, answerNumber, noGroup64, answerGroup, hostOutcomeFor, CabinetInNumbers, hostCabinetOutcomeAs, hostCabinetOutcomeFor, SubjectInNumbers, hostWrittenAs, hostWrittenFor, VerdictInNumbers, hostVerdictAs, hostVerdictFor, TrimInNumbers, hostTrimmedAs, hostTrimmedFor}
+use Rattle.surface.specs.Surface.{ReplyInNumbers, hostReplyAs, noGroup64, hostReplyFor, OutcomeInNumbers, hostOutcomeAs, hostOutcomeFor, CabinetInNumbers, hostCabinetOutcomeAs, hostCabinetOutcomeFor, SubjectInNumbers, hostWrittenAs, hostWrittenFor, VerdictInNumbers, hostVerdictAs, hostVerdictFor, TrimInNumbers, hostTrimmedAs, hostTrimmedFor}
 
 -- The structs.
+pub reply-determined : (r s : HostReply) → hostReplyAs r ≡ hostReplyAs s → r ≡ s
+reply-determined r s e = ap (λ (t : ReplyInNumbers). record { answer = t .answer; number = t .number; group = t .group }) e
+
 pub told-determined : (o p : HostOutcome) → hostOutcomeAs o ≡ hostOutcomeAs p → o ≡ p
-told-determined o p e = ap (λ (t : OutcomeInNumbers). record { ledger = ledgerBack (t .ledger); answer = t .answer; number = t .number; group = t .group }) e
+told-determined o p e =
+    ap (λ (t : OutcomeInNumbers). record { ledger = ledgerBack (t .ledger); answer = t .reply .answer; number = t .reply .number; group = t .reply .group }) e
 
 abbrev cabinetHost : Cabinet → ℕ → ℕ → ℕ → HostCabinetOutcome
 cabinetHost c answer number group = record { cabinet = c; answer = answer; number = number; group = group }
 
 abbrev cabinetHostBack : CabinetInNumbers → HostCabinetOutcome
-cabinetHostBack t = cabinetHost (cabinetBack (t .cabinet)) (t .answer) (t .number) (t .group)
+cabinetHostBack t = cabinetHost (cabinetBack (t .cabinet)) (t .reply .answer) (t .reply .number) (t .reply .group)
 
 cabinet-host-back : (o : HostCabinetOutcome) → cabinetHostBack (hostCabinetOutcomeAs o) ≡ o
 cabinet-host-back o = ap (λ (c : Cabinet). cabinetHost c (o .answer) (o .number) (o .group)) (cabinet-back (o .cabinet))
@@ -52,7 +57,7 @@ wrote-determined w v e = ap (λ (n : SubjectInNumbers). record { answer = n .ans
 pub trimmed-determined : (t u : HostTrimmed) → hostTrimmedAs t ≡ hostTrimmedAs u → t ≡ u
 trimmed-determined t u e = ap (λ (n : TrimInNumbers). record { answer = n .answer; number = n .number; hints = n .hints }) e
 
--- What the numbers stand for: an outcome. No group has the number that says that none is named: the gate names places in an ACL, and an ACL has far fewer groups.
+-- What the numbers stand for: an answer, and an outcome. No group has the number that says that none is named: the gate names places in an ACL, and an ACL has far fewer groups.
 abbrev pub Nameable : Answer → Type 0
 Nameable done = Unit {0}
 Nameable (permit place) = Unit {0}
@@ -62,17 +67,20 @@ Nameable (refuse n (some place)) = place ≢ noGroup64
 abbrev groupBack : ℕ → Option ℕ
 groupBack g = if eqb g noGroup64 then none else some g
 
-abbrev answerBack : ℕ → ℕ → ℕ → Answer
-answerBack code n g = if eqb code 0 then done else if eqb code 1 then permit n else refuse n (groupBack g)
+abbrev answerBack : ReplyInNumbers → Answer
+answerBack r = if eqb (r .answer) 0 then done else if eqb (r .answer) 1 then permit (r .number) else refuse (r .number) (groupBack (r .group))
 
-answer-back : (a : Answer) → Nameable a → answerBack (answerCode a) (answerNumber a) (answerGroup a) ≡ a
+answer-back : (a : Answer) → Nameable a → answerBack (hostReplyFor a) ≡ a
 answer-back done h = refl
 answer-back (permit place) h = refl
 answer-back (refuse n none) h = refl
 answer-back (refuse n (some place)) h = rw (ne-eqb place noGroup64 h)
 
+pub answer-told : (a b : Answer) → Nameable a → Nameable b → hostReplyFor a ≡ hostReplyFor b → a ≡ b
+answer-told a b h k e = sym (answer-back a h) ∙ ap answerBack e ∙ answer-back b k
+
 abbrev outcomeBack : OutcomeInNumbers → Outcome
-outcomeBack t = record { answer = answerBack (t .answer) (t .number) (t .group); ledger = t .ledger }
+outcomeBack t = record { answer = answerBack (t .reply); ledger = t .ledger }
 
 outcome-back : (o : Outcome) → Nameable (o .answer) → outcomeBack (hostOutcomeFor o) ≡ o
 outcome-back o h = ap (λ (a : Answer). record { answer = a; ledger = o .ledger }) (answer-back (o .answer) h)
@@ -82,7 +90,7 @@ outcome-told o p h k e = sym (outcome-back o h) ∙ ap outcomeBack e ∙ outcome
 
 -- .. of the cabinet ..
 abbrev cabinetOutcomeBack : CabinetInNumbers → cabinet.CabinetOutcome
-cabinetOutcomeBack t = record { answer = answerBack (t .answer) (t .number) (t .group); cabinet = t .cabinet }
+cabinetOutcomeBack t = record { answer = answerBack (t .reply); cabinet = t .cabinet }
 
 cabinet-outcome-back : (o : cabinet.CabinetOutcome) → Nameable (o .answer) → cabinetOutcomeBack (hostCabinetOutcomeFor o) ≡ o
 cabinet-outcome-back o h = ap (λ (a : Answer). record { answer = a; cabinet = o .cabinet }) (answer-back (o .answer) h)

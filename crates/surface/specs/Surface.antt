@@ -11,6 +11,7 @@ use Rattle.desk.specs.Replies.{DeskReply, accepting, failing, refusing}
 use Rattle.gate.specs.Outcomes.{ledgerAs}
 use Rattle.rules.specs.Cabinet as cabinet
 use Rattle.cabinet.specs.Kept.{cabinetAs}
+use Rattle.surface.specs.declared.HostReply.{HostReply}
 use Rattle.surface.specs.declared.HostOutcome.{HostOutcome}
 use Rattle.surface.specs.declared.HostCabinetOutcome.{HostCabinetOutcome}
 use Rattle.surface.specs.declared.HostVerdict.{HostVerdict}
@@ -19,17 +20,16 @@ use Rattle.surface.specs.declared.HostWritten.{HostWritten}
 use Rattle.surface.specs.declared.HostListing.{HostListing}
 use Rattle.surface.specs.declared.HostTrimmed.{HostTrimmed}
 
--- An outcome in numbers: the ledger; 0 for done, 1 for a permit, 2 for a refusal; the group that permits, or the refusal's number; the group that
--- permits, or that a refusal 6 or 7 carries.
-pub record OutcomeInNumbers : Type 0 where
-  pub ledger : rules.Ledger
+-- A reply in numbers: 0 for done, 1 for a permit, 2 for a refusal; the group that permits, or the refusal's number; the group that permits, or that a
+-- refusal 6 or 7 carries.
+pub record ReplyInNumbers : Type 0 where
   pub answer : ℕ
   pub number : ℕ
   pub group : ℕ
 
 -- as the code gives it
-abbrev pub hostOutcomeAs : HostOutcome → OutcomeInNumbers
-hostOutcomeAs o = record { ledger = ledgerAs (o .ledger); answer = o .answer; number = o .number; group = o .group }
+abbrev pub hostReplyAs : HostReply → ReplyInNumbers
+hostReplyAs r = record { answer = r .answer; number = r .number; group = r .group }
 
 -- what an answer is
 abbrev pub answerCode : Answer → ℕ
@@ -58,27 +58,34 @@ answerGroup (permit place) = place
 answerGroup (refuse n near) = orNoGroup near
 
 -- as the definitions do
-abbrev pub hostOutcomeFor : Outcome → OutcomeInNumbers
-hostOutcomeFor o = record { ledger = o .ledger; answer = answerCode (o .answer); number = answerNumber (o .answer); group = answerGroup (o .answer) }
+abbrev pub hostReplyFor : Answer → ReplyInNumbers
+hostReplyFor a = record { answer = answerCode a; number = answerNumber a; group = answerGroup a }
 
--- An outcome of the cabinet in numbers: the cabinet, and the answer as the ledger's.
+-- An outcome in numbers: the ledger, and the reply.
+pub record OutcomeInNumbers : Type 0 where
+  pub ledger : rules.Ledger
+  pub reply : ReplyInNumbers
+
+abbrev pub hostOutcomeAs : HostOutcome → OutcomeInNumbers
+hostOutcomeAs o = record { ledger = ledgerAs (o .ledger); reply = record { answer = o .answer; number = o .number; group = o .group } }
+
+-- .. of a ledger that stays where the host has it
+abbrev pub hostOutcomeIn : HostReply → rules.Ledger → OutcomeInNumbers
+hostOutcomeIn r l = record { ledger = l; reply = hostReplyAs r }
+
+abbrev pub hostOutcomeFor : Outcome → OutcomeInNumbers
+hostOutcomeFor o = record { ledger = o .ledger; reply = hostReplyFor (o .answer) }
+
+-- .. of a cabinet
 pub record CabinetInNumbers : Type 0 where
   pub cabinet : cabinet.Cabinet
-  pub answer : ℕ
-  pub number : ℕ
-  pub group : ℕ
+  pub reply : ReplyInNumbers
 
 abbrev pub hostCabinetOutcomeAs : HostCabinetOutcome → CabinetInNumbers
-hostCabinetOutcomeAs o = record { cabinet = cabinetAs (o .cabinet); answer = o .answer; number = o .number; group = o .group }
+hostCabinetOutcomeAs o = record { cabinet = cabinetAs (o .cabinet); reply = record { answer = o .answer; number = o .number; group = o .group } }
 
 abbrev pub hostCabinetOutcomeFor : cabinet.CabinetOutcome → CabinetInNumbers
-hostCabinetOutcomeFor o =
-    record {
-      cabinet = o .cabinet;
-      answer = answerCode (o .answer);
-      number = answerNumber (o .answer);
-      group = answerGroup (o .answer);
-    }
+hostCabinetOutcomeFor o = record { cabinet = o .cabinet; reply = hostReplyFor (o .answer) }
 
 -- A subject's reply in numbers: 1 and the length, or 2 and the refusal's number.
 pub record SubjectInNumbers : Type 0 where

@@ -8,7 +8,7 @@ ghost use Rattle.gate.specs.Outcomes.{outcomeAs};
 ghost use Rattle.cabinet.specs.Kept.{cabinetOutcomeAs};
 ghost use Rattle.subject.specs.Writing as writing;
 ghost use Rattle.trimming.specs.Trimming as tool;
-ghost use Rattle.surface.specs.Surface.{hostOutcomeAs, answerCode, answerNumber, orNoGroup, answerGroup, hostOutcomeFor, hostCabinetOutcomeAs, hostCabinetOutcomeFor, hostWrittenAs, hostWrittenFor, hostVerdictAs, hostVerdictFor, notAccepted, hostListingAs, listingNumbers, hostListingFor, hostTrimmedAs, trimNumbers, hostTrimmedFor};
+ghost use Rattle.surface.specs.Surface.{hostReplyAs, answerCode, answerNumber, orNoGroup, answerGroup, hostReplyFor, hostOutcomeAs, hostOutcomeFor, hostCabinetOutcomeAs, hostCabinetOutcomeFor, hostWrittenAs, hostWrittenFor, hostVerdictAs, hostVerdictFor, notAccepted, hostListingAs, listingNumbers, hostListingFor, hostTrimmedAs, trimNumbers, hostTrimmedFor};
 use cabinet::Cabinet;
 use cabinet::CabinetOutcome;
 use charging::Reply;
@@ -23,8 +23,16 @@ use trimming::TrimReply;
 // No group is named: all ones.
 const NO_GROUP: u64 = 18446744073709551615;
 
-// The ledger handed back, what the answer is (0 done, 1 permitted, 2 refused), its number: the group, or the refusal; and the group that permits, or that
-// came nearest, all ones where none is named.
+// What the answer is (0 done, 1 permitted, 2 refused), its number: the group, or the refusal; and the group that permits, or that came nearest, all ones
+// where none is named.
+#[repr(C)]
+pub struct HostReply {
+    pub answer: u64,
+    pub number: u64,
+    pub group: u64,
+}
+
+// The ledger handed back, and the reply's numbers.
 #[repr(C)]
 pub struct HostOutcome {
     pub ledger: Ledger,
@@ -33,7 +41,7 @@ pub struct HostOutcome {
     pub group: u64,
 }
 
-// The cabinet handed back, and the answer as the ledger's.
+// The cabinet handed back, and the reply's numbers.
 #[repr(C)]
 pub struct HostCabinetOutcome {
     pub cabinet: Cabinet,
@@ -122,17 +130,29 @@ fn answer_group(reply: Reply) -> u64
     }
 }
 
+// A reply as the host gets it.
+pub fn host_reply(reply: Reply) -> HostReply
+    ensures { λ r. ⌜ hostReplyAs r ≡ hostReplyFor (answerAs reply) ⌝ }
+{
+    HostReply {
+        answer: answer_code(reply),
+        number: answer_number(reply),
+        group: answer_group(reply),
+    }
+}
+
 // An outcome as the host gets it.
 pub fn host_outcome(o: Outcome) -> HostOutcome
     ensures { λ r. ⌜ hostOutcomeAs r ≡ hostOutcomeFor (outcomeAs o) ⌝ }
 {
-    let reply = o.reply;
     let ledger = o.ledger;
+    let reply = o.reply;
+    let told = host_reply(reply);
     HostOutcome {
         ledger,
-        answer: answer_code(reply),
-        number: answer_number(reply),
-        group: answer_group(reply),
+        answer: told.answer,
+        number: told.number,
+        group: told.group,
     }
 }
 
@@ -140,13 +160,14 @@ pub fn host_outcome(o: Outcome) -> HostOutcome
 pub fn host_cabinet_outcome(o: CabinetOutcome) -> HostCabinetOutcome
     ensures { λ r. ⌜ hostCabinetOutcomeAs r ≡ hostCabinetOutcomeFor (cabinetOutcomeAs o) ⌝ }
 {
-    let reply = o.reply;
     let cabinet = o.cabinet;
+    let reply = o.reply;
+    let told = host_reply(reply);
     HostCabinetOutcome {
         cabinet,
-        answer: answer_code(reply),
-        number: answer_number(reply),
-        group: answer_group(reply),
+        answer: told.answer,
+        number: told.number,
+        group: told.group,
     }
 }
 
