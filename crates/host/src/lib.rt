@@ -11,12 +11,13 @@ ghost use Rattle.rules.specs.Prepared.{prepare, preparedRun};
 ghost use Rattle.rules.specs.CabinetRuns.{cabinetRun, cabinetPreparedRun};
 ghost use Rattle.listings.specs.Listing.{writeListing, readListingInto};
 ghost use Rattle.desk.specs.Replies as replies;
+ghost use Rattle.judging.specs.Standings.{ledgerOfTables};
 ghost use Rattle.gate.specs.Outcomes.{ledgerAs};
 ghost use Rattle.cabinet.specs.Kept.{cabinetAs};
 ghost use Rattle.prepared.specs.Forms.{formAs, preparationFor};
 ghost use Rattle.row.specs.Rows.{rowAs};
 ghost use Rattle.host_runs.specs.Surface.{hostRunAs, hostRunFor, hostCabinetRunAs, hostCabinetRunFor, hostFormAs, hostFormFor};
-ghost use Rattle.surface.specs.Surface.{hostOutcomeAs, hostOutcomeFor, hostCabinetOutcomeAs, hostCabinetOutcomeFor, hostWrittenAs, hostWrittenFor, hostVerdictAs, hostVerdictFor, hostListingAs, hostListingFor, hostTrimmedAs, hostTrimmedFor};
+ghost use Rattle.surface.specs.Surface.{hostOutcomeAs, hostOutcomeIn, hostOutcomeFor, hostCabinetOutcomeAs, hostCabinetOutcomeFor, hostWrittenAs, hostWrittenFor, hostVerdictAs, hostVerdictFor, hostListingAs, hostListingFor, hostTrimmedAs, hostTrimmedFor};
 use cabinet::Cabinet;
 use gate::Ledger;
 use host_runs::HostCabinetRun;
@@ -27,6 +28,7 @@ use row::Certificate;
 use surface::HostCabinetOutcome;
 use surface::HostListing;
 use surface::HostOutcome;
+use surface::HostReply;
 use surface::HostTrimmed;
 use surface::HostVerdict;
 use surface::HostWritten;
@@ -95,6 +97,57 @@ pub extern "C" fn akubolinfe_expand(
     ensures { λ r. ⌜ hostOutcomeAs r ≡ hostOutcomeFor (expand (ledgerAs ledger) (now (km0 .entry)) (now (acl .entry)) (now (req .entry)) (now (new .entry))) ⌝ }
 {
     surface::host_outcome(ledger.expand(km0, acl, req, new))
+}
+
+// A request on a ledger that stays where the host has it: its tables and its last time are lent, and are charged there.
+#[no_mangle]
+pub extern "C" fn akubolinfe_request_in_place(
+    counts: &mut [u32; Ledger::GROUPS],
+    counters: &mut [u32; Ledger::COUNTERS],
+    loaded: u64,
+    last: &mut u64,
+    km0: &[u8],
+    acl: &[u8],
+    req: &[u8],
+) -> HostReply
+    ensures { λ r. ⌜ hostOutcomeIn r (ledgerOfTables (now (counts .exit)) (now (counters .exit)) loaded (now (last .exit))) ≡ hostOutcomeFor (request (ledgerOfTables (now (counts .entry)) (now (counters .entry)) loaded (now (last .entry))) (now (km0 .entry)) (now (acl .entry)) (now (req .entry))) ⌝ }
+{
+    surface::host_reply(in_place::request(counts, counters, loaded, last, km0, acl, req))
+}
+
+// A narrowing in place.
+#[no_mangle]
+pub extern "C" fn akubolinfe_narrow_in_place(
+    counts: &mut [u32; Ledger::GROUPS],
+    counters: &mut [u32; Ledger::COUNTERS],
+    loaded: u64,
+    last: &mut u64,
+    km0: &[u8],
+    acl: &[u8],
+    req: &[u8],
+    new: &[u8],
+    hints: &[u8],
+) -> HostReply
+    ensures { λ r. ⌜ hostOutcomeIn r (ledgerOfTables (now (counts .exit)) (now (counters .exit)) loaded (now (last .exit))) ≡ hostOutcomeFor (narrow (ledgerOfTables (now (counts .entry)) (now (counters .entry)) loaded (now (last .entry))) (now (km0 .entry)) (now (acl .entry)) (now (req .entry)) (now (new .entry)) (now (hints .entry))) ⌝ }
+{
+    surface::host_reply(in_place::narrow(counts, counters, loaded, last, km0, acl, req, new, hints))
+}
+
+// An expansion in place.
+#[no_mangle]
+pub extern "C" fn akubolinfe_expand_in_place(
+    counts: &mut [u32; Ledger::GROUPS],
+    counters: &mut [u32; Ledger::COUNTERS],
+    loaded: u64,
+    last: &mut u64,
+    km0: &[u8],
+    acl: &[u8],
+    req: &[u8],
+    new: &[u8],
+) -> HostReply
+    ensures { λ r. ⌜ hostOutcomeIn r (ledgerOfTables (now (counts .exit)) (now (counters .exit)) loaded (now (last .exit))) ≡ hostOutcomeFor (expand (ledgerOfTables (now (counts .entry)) (now (counters .entry)) loaded (now (last .entry))) (now (km0 .entry)) (now (acl .entry)) (now (req .entry)) (now (new .entry))) ⌝ }
+{
+    surface::host_reply(in_place::expand(counts, counters, loaded, last, km0, acl, req, new))
 }
 
 // The fresh cabinet.

@@ -1,8 +1,6 @@
 // The gate's steps on a ledger that stays where the host has it: its tables and its last time are lent, and are charged there, so that nothing is copied.
 // The reply, and what is left in the lent places, are those of the step that takes the ledger whole and hands it back.
 ghost use mathlib.Core.Path.{_≡_};
-ghost use lib.ListN.{length};
-ghost use Rattle.rules.specs.Sizes.{countersMax};
 ghost use Rattle.rules.specs.Acl.{aclOf};
 ghost use Rattle.rules.specs.Request.{requestOf};
 ghost use Rattle.rules.specs.Gate.{request, narrow, expand};
