@@ -1,5 +1,6 @@
 /* Prints an ACL as text and reads the text back, asks the gate for every request record of a day, one by one and in a run on the
- * prepared ACL, then serves two keys under that ACL from one cabinet, where they share its counters, and asks the desk for a verdict:
+ * prepared ACL, then serves two keys under that ACL from one cabinet, where they share its counters, at last in place, and asks the
+ * desk for a verdict:
  *     example KM0 ACL REQUESTS BUNDLE BUNDLE_ACL */
 #include <stdio.h>
 #include <stdlib.h>
@@ -121,6 +122,16 @@ static akubolinfe_cabinet print_use(akubolinfe_cabinet cabinet, size_t slot, con
     return o.cabinet;
 }
 
+/* .. charged where the cabinet stands. */
+static void print_use_in_place(akubolinfe_cabinet *cabinet, size_t slot, const file *km0, const file *acl, const uint8_t *request)
+{
+    akubolinfe_slot *s = &cabinet->slots[slot];
+    akubolinfe_reply r = akubolinfe_request_in_place(s->counts, cabinet->counters, s->loaded, &s->last, km0->bytes, km0->length,
+                                                     acl->bytes, acl->length, request, AKUBOLINFE_RECORD);
+    printf("key %zu in place: ", slot);
+    print_reply(r.answer, r.number, r.group);
+}
+
 /* Two keys under the same ACL, each asked for every request record in turn. The counts of the groups are each key's own; a counter
  * that the ACL names is used up by both. */
 static void print_keys(const file *km0, const file *acl, const file *requests)
@@ -136,7 +147,10 @@ static void print_keys(const file *km0, const file *acl, const file *requests)
         return;
     printf("counter 3 is cleared at %lu\n", (unsigned long)cabinet.counters[3]);
     cabinet = akubolinfe_cabinet_clear(cabinet, 3).cabinet;
-    print_use(cabinet, 1, km0, acl, requests->bytes + at - AKUBOLINFE_RECORD);
+    const uint8_t *request = requests->bytes + at - AKUBOLINFE_RECORD;
+    akubolinfe_cabinet handed_back = print_use(cabinet, 1, km0, acl, request);
+    print_use_in_place(&cabinet, 1, km0, acl, request);
+    printf("the cabinet is %s\n", memcmp(&cabinet, &handed_back, sizeof cabinet) == 0 ? "the same" : "another");
     print_use(cabinet, AKUBOLINFE_SLOTS, km0, acl, requests->bytes);
 }
 

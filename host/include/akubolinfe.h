@@ -2,21 +2,22 @@
  * tool, the subject writer, and ACLs as text. x86-64 Linux.
  *
  * Every function takes any bytes, of any length, and any numbers, and returns; what is wrong with them it answers with a number. A
- * refusal hands ledger or cabinet back as it was, and leaves every buffer as it was.
+ * refusal hands ledger or cabinet back as it was, and leaves every buffer and every lent table as it was.
  *
  * What the caller has to see to:
  *
  * - Bytes are lent as a pointer and a length. The pointer leads to that many bytes, and nothing else changes them before the
  *   call returns. Where the length is zero nothing is read or written, and the pointer may be NULL.
- * - What is only read (`const`) may overlap. A buffer that is written must not overlap anything else that is lent to the same call,
- *   nor the other buffer of a trimming.
- * - Bytes need no alignment. A row of certificates is an array of `akubolinfe_certificate`, aligned as C aligns that type (2 bytes),
- *   and its length counts certificates, not bytes.
+ * - What is only read (`const`) may overlap. A buffer, a table or a last time that is written must not overlap anything else that is
+ *   lent to the same call.
+ * - Bytes need no alignment. Tables and a last time are aligned as C aligns their numbers, and are never NULL. A row of certificates is
+ *   an array of `akubolinfe_certificate`, aligned as C aligns that type (2 bytes), and its length counts certificates, not bytes.
  * - Nothing is kept between calls, and there is no global state. Threads may call at the same time. The ledger or the cabinet goes in by
  *   value and comes back by value: hand the one that came back last to the next call, and let calls on one key, or on one cabinet,
- *   follow each other; of two calls that start from the same ledger one is forgotten.
- * - Structs by value are large: a ledger has 1,296 bytes, a cabinet 3,200, and each comes back within the result. Besides these a
- *   call needs some kilobytes of stack (`bench/measure stack` prints how many).
+ *   follow each other; of two calls that start from the same ledger one is forgotten. The calls in place (`.._in_place`) change the ledger
+ *   or the cabinet where it stands; while one runs nothing else reads or writes the places that it was lent.
+ * - Structs by value are large: a ledger has 1,296 bytes, a cabinet 3,200, and each comes back within the result. In place nothing is
+ *   copied. Besides these a call needs some kilobytes of stack (`bench/measure stack` prints how many).
  * - Lend the ACL that is in force, the KM0 hash of the module and the true time. No function looks at a clock, and none knows whether a
  *   presented certificate or a signature reported as good was checked.
  *
@@ -109,6 +110,37 @@ akubolinfe_outcome akubolinfe_narrow(akubolinfe_ledger ledger, const uint8_t *km
 akubolinfe_outcome akubolinfe_expand(akubolinfe_ledger ledger, const uint8_t *km0, size_t km0_length, const uint8_t *acl,
                                      size_t acl_length, const uint8_t *request, size_t request_length,
                                      const uint8_t *new_acl, size_t new_acl_length);
+
+/* A reply alone: what the answer is, its number and the group, as in an `akubolinfe_outcome`. */
+typedef struct {
+    uint64_t answer;
+    uint64_t number;
+    uint64_t group;
+} akubolinfe_reply;
+
+/* The same steps on a ledger that stays where it is: its tables and its last time are lent, and a permit charges them there. The
+ * load time is read alone. For a ledger `l` lend `l.counts, l.counters, l.loaded, &l.last`; for slot `s` of a cabinet `c` (below), `s` at
+ * most 7, lend `c.slots[s].counts, c.counters, c.slots[s].loaded, &c.slots[s].last`. Reply and lent places are then those of the
+ * outcome by value; a refusal leaves the places as they were. */
+
+/* A request in place. */
+akubolinfe_reply akubolinfe_request_in_place(uint32_t counts[AKUBOLINFE_GROUPS], uint32_t counters[AKUBOLINFE_COUNTERS],
+                                             uint64_t loaded, uint64_t *last, const uint8_t *km0, size_t km0_length,
+                                             const uint8_t *acl, size_t acl_length, const uint8_t *request,
+                                             size_t request_length);
+
+/* A narrowing in place. */
+akubolinfe_reply akubolinfe_narrow_in_place(uint32_t counts[AKUBOLINFE_GROUPS], uint32_t counters[AKUBOLINFE_COUNTERS],
+                                            uint64_t loaded, uint64_t *last, const uint8_t *km0, size_t km0_length,
+                                            const uint8_t *acl, size_t acl_length, const uint8_t *request,
+                                            size_t request_length, const uint8_t *new_acl, size_t new_acl_length,
+                                            const uint8_t *hints, size_t hints_length);
+
+/* An expansion in place. */
+akubolinfe_reply akubolinfe_expand_in_place(uint32_t counts[AKUBOLINFE_GROUPS], uint32_t counters[AKUBOLINFE_COUNTERS],
+                                            uint64_t loaded, uint64_t *last, const uint8_t *km0, size_t km0_length,
+                                            const uint8_t *acl, size_t acl_length, const uint8_t *request,
+                                            size_t request_length, const uint8_t *new_acl, size_t new_acl_length);
 
 /* A slot of a cabinet: what a ledger has beside its counters. */
 typedef struct {

@@ -112,6 +112,13 @@ struct RawTrimmed {
     hints: u64,
 }
 
+#[repr(C)]
+struct RawReply {
+    answer: u64,
+    number: u64,
+    group: u64,
+}
+
 /// A load or a clear is done, a group permits, or a refusal with its number and, where that is 6 or 7, the group that came nearest.
 #[derive(Clone, Copy, PartialEq, Eq, Debug)]
 pub enum Reply {
@@ -199,6 +206,18 @@ extern "C" {
         c: Cabinet, s: usize, k: *const u8, kn: usize, a: *const u8, an: usize, w: *const Certificate, wn: usize, f: Form,
         r: *const u8, rn: usize, b: *mut u8, bn: usize,
     ) -> RawCabinetRun;
+    fn akubolinfe_request_in_place(
+        g: &mut [u32; 64], c: &mut [u32; 256], l: u64, t: &mut u64, k: *const u8, kn: usize, a: *const u8, an: usize,
+        r: *const u8, rn: usize,
+    ) -> RawReply;
+    fn akubolinfe_narrow_in_place(
+        g: &mut [u32; 64], c: &mut [u32; 256], l: u64, t: &mut u64, k: *const u8, kn: usize, a: *const u8, an: usize,
+        r: *const u8, rn: usize, n: *const u8, nn: usize, h: *const u8, hn: usize,
+    ) -> RawReply;
+    fn akubolinfe_expand_in_place(
+        g: &mut [u32; 64], c: &mut [u32; 256], l: u64, t: &mut u64, k: *const u8, kn: usize, a: *const u8, an: usize,
+        r: *const u8, rn: usize, n: *const u8, nn: usize,
+    ) -> RawReply;
 }
 
 // A slice's pointer; NULL where it is empty, as C programs pass it.
@@ -435,4 +454,93 @@ impl Cabinet {
 pub fn prepare(acl: &[u8]) -> Result<Form, u64> {
     let p = unsafe { akubolinfe_prepare(ptr(acl), acl.len()) };
     if p.answer == 1 { Ok(p.form) } else { Err(p.number) }
+}
+
+// A ledger's tables and times, or a slot's with the shared counters, lent to be charged where they stand.
+struct Lent<'a> {
+    counts: &'a mut [u32; 64],
+    counters: &'a mut [u32; 256],
+    loaded: u64,
+    last: &'a mut u64,
+}
+
+fn replied(r: RawReply) -> Reply {
+    reply(r.answer, r.number, r.group)
+}
+
+impl Lent<'_> {
+    fn request(self, km0: &[u8], acl: &[u8], req: &[u8]) -> Reply {
+        replied(unsafe {
+            akubolinfe_request_in_place(
+                self.counts, self.counters, self.loaded, self.last, ptr(km0), km0.len(), ptr(acl), acl.len(), ptr(req),
+                req.len(),
+            )
+        })
+    }
+
+    fn narrow(self, km0: &[u8], acl: &[u8], req: &[u8], new: &[u8], hints: &[u8]) -> Reply {
+        replied(unsafe {
+            akubolinfe_narrow_in_place(
+                self.counts, self.counters, self.loaded, self.last, ptr(km0), km0.len(), ptr(acl), acl.len(), ptr(req),
+                req.len(), ptr(new), new.len(), ptr(hints), hints.len(),
+            )
+        })
+    }
+
+    fn expand(self, km0: &[u8], acl: &[u8], req: &[u8], new: &[u8]) -> Reply {
+        replied(unsafe {
+            akubolinfe_expand_in_place(
+                self.counts, self.counters, self.loaded, self.last, ptr(km0), km0.len(), ptr(acl), acl.len(), ptr(req),
+                req.len(), ptr(new), new.len(),
+            )
+        })
+    }
+}
+
+/// The same steps on a ledger that stays where it is: a permit charges it there, a refusal leaves it as it was.
+impl Ledger {
+    fn lent(&mut self) -> Lent<'_> {
+        Lent { counts: &mut self.counts, counters: &mut self.counters, loaded: self.loaded, last: &mut self.last }
+    }
+
+    /// A request in place.
+    pub fn request_in_place(&mut self, km0: &[u8], acl: &[u8], req: &[u8]) -> Reply {
+        self.lent().request(km0, acl, req)
+    }
+
+    /// A narrowing in place; if it is permitted the new ACL is in force.
+    pub fn narrow_in_place(&mut self, km0: &[u8], acl: &[u8], req: &[u8], new: &[u8], hints: &[u8]) -> Reply {
+        self.lent().narrow(km0, acl, req, new, hints)
+    }
+
+    /// An expansion in place; if it is permitted the new ACL is in force.
+    pub fn expand_in_place(&mut self, km0: &[u8], acl: &[u8], req: &[u8], new: &[u8]) -> Reply {
+        self.lent().expand(km0, acl, req, new)
+    }
+}
+
+// No slot has the number: the refusal of the calls by value.
+const NO_SLOT: Reply = Reply::Refuse(13, None);
+
+/// .. in a slot of a cabinet that stays where it is. A slot over 7 is refused with 13, and nothing is touched.
+impl Cabinet {
+    fn lent(&mut self, slot: usize) -> Option<Lent<'_>> {
+        let s = self.slots.get_mut(slot)?;
+        Some(Lent { counts: &mut s.counts, counters: &mut self.counters, loaded: s.loaded, last: &mut s.last })
+    }
+
+    /// A request to a slot in place.
+    pub fn request_in_place(&mut self, slot: usize, km0: &[u8], acl: &[u8], req: &[u8]) -> Reply {
+        self.lent(slot).map_or(NO_SLOT, |l| l.request(km0, acl, req))
+    }
+
+    /// A narrowing in a slot in place; if it is permitted the new ACL is in force there.
+    pub fn narrow_in_place(&mut self, slot: usize, km0: &[u8], acl: &[u8], req: &[u8], new: &[u8], hints: &[u8]) -> Reply {
+        self.lent(slot).map_or(NO_SLOT, |l| l.narrow(km0, acl, req, new, hints))
+    }
+
+    /// An expansion in a slot in place; if it is permitted the new ACL is in force there.
+    pub fn expand_in_place(&mut self, slot: usize, km0: &[u8], acl: &[u8], req: &[u8], new: &[u8]) -> Reply {
+        self.lent(slot).map_or(NO_SLOT, |l| l.expand(km0, acl, req, new))
+    }
 }

@@ -12,6 +12,7 @@ fn main() {
     println!("#include \"akubolinfe.h\"");
     laid_out!("akubolinfe_ledger", Ledger: counts counters loaded last);
     laid_out!("akubolinfe_outcome", RawOutcome: ledger answer number group);
+    laid_out!("akubolinfe_reply", RawReply: answer number group);
     laid_out!("akubolinfe_slot", Slot: counts loaded last);
     laid_out!("akubolinfe_cabinet", Cabinet: slots counters);
     laid_out!("akubolinfe_cabinet_outcome", RawCabinetOutcome: cabinet answer number group);

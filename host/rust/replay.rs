@@ -1,6 +1,6 @@
 // Answers a replay script (docs/REPLAY.md) through the C surface, so that the linked library can be compared with the second
-// program: `second/compare` takes it in the place of the replay program. A run is made in a slot of a cabinet as well, and this program
-// ends where that differs. With `--cfg ordinary` it answers through the ordinary Rust program of bench/ordinary instead, which has neither
+// program: `second/compare` takes it in the place of the replay program. A run is made in a slot of a cabinet as well, and a request, a
+// narrowing and an expansion in place as well; this program ends where that differs. With `--cfg ordinary` it answers through the ordinary Rust program of bench/ordinary instead, which has neither
 // cabinet nor listings nor trimming tool nor runs.
 #[cfg_attr(ordinary, path = "../../bench/ordinary/mod.rs")]
 mod akubolinfe;
@@ -198,6 +198,63 @@ fn batch(s: &mut Script, ledger: &mut Ledger, f: Option<Form>) -> Option<String>
     })
 }
 
+// A step made in place has to reply as the step by value, and to leave what that hands back.
+#[cfg(not(ordinary))]
+fn same_in_place<T: Copy + PartialEq>(before: T, (after, reply): (T, Reply), step: impl FnOnce(&mut T) -> Reply) {
+    let mut left = before;
+    assert!(step(&mut left) == reply && left == after, "in place");
+}
+
+// What a request, a narrowing and an expansion are lent: KM0, the ACL and the request; the new ACL and the hints, where they belong to the letter.
+struct Lent {
+    km0: Vec<u8>,
+    acl: Vec<u8>,
+    req: Vec<u8>,
+    new: Vec<u8>,
+    hints: Vec<u8>,
+}
+
+fn lent(letter: u8, s: &mut Script) -> Option<Lent> {
+    let (km0, acl, req) = (s.run()?, s.run()?, s.run()?);
+    let new = if matches!(letter, b'R' | b'r') { Vec::new() } else { s.run()? };
+    let hints = if matches!(letter, b'N' | b'n') { s.run()? } else { Vec::new() };
+    Some(Lent { km0, acl, req, new, hints })
+}
+
+// A request, a narrowing or an expansion, and the same in place.
+fn asked(letter: u8, s: &mut Script, ledger: Ledger) -> Option<(Ledger, Reply)> {
+    let Lent { km0, acl, req, new, hints } = &lent(letter, s)?;
+    let outcome = match letter {
+        b'R' => ledger.request(km0, acl, req),
+        b'N' => ledger.narrow(km0, acl, req, new, hints),
+        _ => ledger.expand(km0, acl, req, new),
+    };
+    #[cfg(not(ordinary))]
+    same_in_place(ledger, outcome, |l| match letter {
+        b'R' => l.request_in_place(km0, acl, req),
+        b'N' => l.narrow_in_place(km0, acl, req, new, hints),
+        _ => l.expand_in_place(km0, acl, req, new),
+    });
+    Some(outcome)
+}
+
+// .. in a slot.
+#[cfg(not(ordinary))]
+fn asked_in_slot(letter: u8, s: &mut Script, cabinet: Cabinet, slot: usize) -> Option<(Cabinet, Reply)> {
+    let Lent { km0, acl, req, new, hints } = &lent(letter, s)?;
+    let outcome = match letter {
+        b'r' => cabinet.request(slot, km0, acl, req),
+        b'n' => cabinet.narrow(slot, km0, acl, req, new, hints),
+        _ => cabinet.expand(slot, km0, acl, req, new),
+    };
+    same_in_place(cabinet, outcome, |c| match letter {
+        b'r' => c.request_in_place(slot, km0, acl, req),
+        b'n' => c.narrow_in_place(slot, km0, acl, req, new, hints),
+        _ => c.expand_in_place(slot, km0, acl, req, new),
+    });
+    Some(outcome)
+}
+
 // What is carried from call to call.
 struct State {
     ledger: Ledger,
@@ -214,9 +271,7 @@ fn cabinet_answer(letter: u8, s: &mut Script, cabinet: &mut Cabinet) -> Option<S
         b'f' => (Cabinet::fresh(), Reply::Done),
         b'l' => c.load(first, s.number()?),
         b'c' => c.clear(first),
-        b'r' => c.request(first, &s.run()?, &s.run()?, &s.run()?),
-        b'n' => c.narrow(first, &s.run()?, &s.run()?, &s.run()?, &s.run()?, &s.run()?),
-        _ => c.expand(first, &s.run()?, &s.run()?, &s.run()?, &s.run()?),
+        _ => asked_in_slot(letter, s, c, first)?,
     };
     *cabinet = after;
     let slot = after.slots.get(first).filter(|_| letter != b'f' && letter != b'c');
@@ -233,9 +288,7 @@ fn answer(letter: u8, s: &mut Script, state: &mut State) -> Option<String> {
         b'F' => (Ledger::fresh(), Reply::Done),
         b'L' => l.load(s.number()?),
         b'C' => l.clear(s.number()? as usize),
-        b'R' => l.request(&s.run()?, &s.run()?, &s.run()?),
-        b'N' => l.narrow(&s.run()?, &s.run()?, &s.run()?, &s.run()?, &s.run()?),
-        b'X' => l.expand(&s.run()?, &s.run()?, &s.run()?, &s.run()?),
+        b'R' | b'N' | b'X' => asked(letter, s, l)?,
         b'D' => return Some(verdict(assess(&s.run()?, &s.run()?))),
         b'S' => return subject(s),
         #[cfg(not(ordinary))]
