@@ -1,4 +1,4 @@
-//! Many keys and many requests, against the gate asked by itself: a request through the cabinet, a run of a hundred, a prepared run of a thousand.
+//! Many keys and many requests, against the gate asked by itself: a request through the cabinet, one in place, a run of a hundred, a prepared run of a thousand.
 //! Repeats one case so many times: `many CASE CALLS`. bench/measure counts its instructions.
 #[allow(dead_code)]
 mod inputs;
@@ -8,15 +8,19 @@ mod proved;
 mod row;
 
 use inputs::{full_request, granted_last, km0, small_acl, small_request, SIGN, SOME, TIME};
-use proved::{prepare, Cabinet, Ledger};
+use proved::{prepare, Cabinet, Ledger, Reply};
 use row::decoded;
 use std::hint::black_box;
 
-const CASES: [&str; 7] = [
+const CASES: [&str; 11] = [
     "gate: Sign, 1 group",
     "cabinet: Sign, 1 group",
+    "in place: Sign, 1 group",
+    "in place, in a slot: Sign, 1 group",
     "gate: Sign, 16 full groups",
     "cabinet: Sign, 16 full groups",
+    "in place: Sign, 16 full groups",
+    "in place, in a slot: Sign, 16 full groups",
     "run: 100 Signs, 1 group",
     "run: 100 Signs, 16 full groups",
     "prepared run: 1,000 Signs, 16 full groups",
@@ -34,6 +38,23 @@ fn cabinet(acl: &[u8], request: &[u8], calls: u32) -> String {
     let (mut cabinet, mut reply) = Cabinet::fresh().load(5, TIME);
     for _ in 0..calls {
         (cabinet, reply) = black_box(cabinet).request(5, &km0(), black_box(acl), black_box(request));
+    }
+    format!("{reply:?}")
+}
+
+fn in_place(acl: &[u8], request: &[u8], calls: u32) -> String {
+    let (mut ledger, mut reply) = (Ledger { loaded: TIME, last: TIME, ..Ledger::fresh() }, Reply::Done);
+    for _ in 0..calls {
+        reply = black_box(&mut ledger).request_in_place(&km0(), black_box(acl), black_box(request));
+    }
+    format!("{reply:?}")
+}
+
+fn in_slot(acl: &[u8], request: &[u8], calls: u32) -> String {
+    let (mut cabinet, mut reply) = (Cabinet::fresh(), Reply::Done);
+    (cabinet.slots[5].loaded, cabinet.slots[5].last) = (TIME, TIME);
+    for _ in 0..calls {
+        reply = black_box(&mut cabinet).request_in_place(5, &km0(), black_box(acl), black_box(request));
     }
     format!("{reply:?}")
 }
@@ -65,10 +86,14 @@ fn main() {
     let reply = match case {
         0 => gate(&small.0, &small.1, calls),
         1 => cabinet(&small.0, &small.1, calls),
-        2 => gate(&some.0, &some.1, calls),
-        3 => cabinet(&some.0, &some.1, calls),
-        4 => run(&small.0, &small.1, calls),
-        5 => run(&some.0, &some.1, calls),
+        2 => in_place(&small.0, &small.1, calls),
+        3 => in_slot(&small.0, &small.1, calls),
+        4 => gate(&some.0, &some.1, calls),
+        5 => cabinet(&some.0, &some.1, calls),
+        6 => in_place(&some.0, &some.1, calls),
+        7 => in_slot(&some.0, &some.1, calls),
+        8 => run(&small.0, &small.1, calls),
+        9 => run(&some.0, &some.1, calls),
         _ => prepared_run(&some.0, &some.1, calls),
     };
     println!("{}: {reply}", CASES[case]);
