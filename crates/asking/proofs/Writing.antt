@@ -1,5 +1,5 @@
 -- The turns of the loop over the requests of a run, and the bytes of an answer.
-use Prim.Native.Nat.{ℕ, _≤_, _<_, _+_, _-_, _/_, _%_}
+use Prim.Native.Nat.{ℕ, _≤_, _<_, _+_, _-_, _*_, _/_, _%_}
 use native.Mathlib.Omega.{arith}
 use native.Mathlib.Numerals.{add-one, add-two, add-three}
 use mathlib.Core.Path.{_≡_, sym, _∙_, ap, ap₂, subst}
@@ -23,15 +23,17 @@ use Rattle.choosing.specs.Deciding.{setJudge, askSets}
 use Rattle.asking.specs.Answers.{IsOutcome}
 
 -- The turns of a loop over the requests of a run.
-module _ (ask : Ledger → Bytes → Outcome) (requests : Bytes) (x : Running) (l : Ledger) (buf : Bytes) (out at : ℕ) (inv : writing ask l buf out (recordsFrom requests at) ≡ x) where
+module _ (ask : Ledger → Bytes → Outcome) (requests : Bytes) (x : Running) (l : Ledger) (buf : Bytes) (at : ℕ) (inv : writing ask l buf (at / 64 * 8) (recordsFrom requests at) ≡ x) where
   pub writing-next : (counts counters : List ℕ) (loaded n place last : ℕ) (after : Bytes) → 64 ≤ length requests - at → IsOutcome (ask l (lentRecord requests at)) counts counters loaded n place last
-      → after ≡ overAt out (answerWith n place) buf → writing ask (ledgerOfTables counts counters loaded last) after (out + 8) (recordsFrom requests (at + 64)) ≡ x
+      → after ≡ overAt (at / 64 * 8) (answerWith n place) buf → writing ask (ledgerOfTables counts counters loaded last) after ((at + 64) / 64 * 8) (recordsFrom requests (at + 64)) ≡ x
   unfolding writing
-  writing-next counts counters loaded n place last after h a d = rw (a .ledger, d, a .answer) (sym (ap (writing ask l buf out) (rows-lent requests at h)) ∙ inv)
+  writing-next counts counters loaded n place last after h a d =
+      let o : (at + 64) / 64 * 8 ≡ at / 64 * 8 + 8 = omega arith in
+      rw (a .ledger, d, a .answer, o) (sym (ap (writing ask l buf (at / 64 * 8)) (rows-lent requests at h)) ∙ inv)
 
   pub writing-done : length requests - at < 64 → record { ledger = l; buffer = buf } ≡ x
   unfolding writing
-  writing-done h = sym (ap (writing ask l buf out) (rows-end requests at h)) ∙ inv
+  writing-done h = sym (ap (writing ask l buf (at / 64 * 8)) (rows-end requests at h)) ∙ inv
 
 -- Bytes that are stored one by one, and two parts that stand together.
 pub stored-four : (buf : Bytes) (at n : ℕ) → at + 4 ≤ length buf

@@ -225,7 +225,6 @@ fn ask_records(
 {
     let mut last = before;
     let mut at = 0;
-    let mut out = 0;
     while sizes::RECORD <= requests.len() - at {
         let a = answer_one(
             counts,
@@ -240,10 +239,9 @@ fn ask_records(
             unspent,
             &requests[at..at + sizes::RECORD],
         );
-        put_answer(buf, out, a.number, a.group);
+        put_answer(buf, at / sizes::RECORD * sizes::ANSWER, a.number, a.group);
         last = a.last;
         at += sizes::RECORD;
-        out += sizes::ANSWER;
     }
     last
 }

@@ -1,4 +1,4 @@
-use Prim.Native.Nat.{_≤_, _+_, _-_, _*_, _/_}
+use Prim.Native.Nat.{_≤_, _-_, _*_, _/_}
 use mathlib.Core.Path.{_≡_, refl}
 use lib.ListN.{length}
 use Rattle.rules.specs.Basics.{records}
@@ -16,16 +16,16 @@ use Rattle.asking.proofs.ask_records.Statement.{statement}
 use Rattle.asking.proofs.ask_records.Tie as tie
 
 abbrev Inv-loop : tie.InvT-loop
-Inv-loop counts₀ counters₀ loaded before km0 acl bodies uses sets unspent requests buf₀ last₀ at₀ out₀ counts counters buf last at out =
-    (at ≤ length requests) × (out + (length requests - at) / 64 * 8 ≤ length buf₀) × (out ≤ at) × (length buf ≡ length buf₀) × (length counts ≡ groupsMax) × (length counters ≡ countersMax) × OpenFrom counts counters (last - loaded) acl bodies (sets .certified) unspent × (writing (askSets km0 (aclOf acl) (sets .certified)) (ledgerOfTables counts counters loaded last) buf out (recordsFrom requests at) ≡ writing (askSets km0 (aclOf acl) (sets .certified)) (ledgerOfTables counts₀ counters₀ loaded before) buf₀ 0 (records requests))
+Inv-loop counts₀ counters₀ loaded before km0 acl bodies uses sets unspent requests buf₀ last₀ at₀ counts counters buf last at =
+    (at ≤ length requests) × (length buf ≡ length buf₀) × (length counts ≡ groupsMax) × (length counters ≡ countersMax) × OpenFrom counts counters (last - loaded) acl bodies (sets .certified) unspent × (writing (askSets km0 (aclOf acl) (sets .certified)) (ledgerOfTables counts counters loaded last) buf (at / 64 * 8) (recordsFrom requests at) ≡ writing (askSets km0 (aclOf acl) (sets .certified)) (ledgerOfTables counts₀ counters₀ loaded before) buf₀ 0 (records requests))
 
 abbrev μ-loop : tie.MeasureT-loop
-μ-loop counts₀ counters₀ loaded before km0 acl bodies uses sets unspent requests buf₀ last₀ at₀ out₀ counts counters buf last at out =
+μ-loop counts₀ counters₀ loaded before km0 acl bodies uses sets unspent requests buf₀ last₀ at₀ counts counters buf last at =
     length requests - at
 
 loop-holds : tie.Need-loop-holds Inv-loop μ-loop
 unfolding recordsFrom
-loop-holds c = (search needs, search needs, search needs, search needs, search needs, search needs, search needs, refl)
+loop-holds c = (search needs, search needs, search needs, search needs, search needs, refl)
 
 sub-loop : tie.Need-sub-loop Inv-loop μ-loop
 sub-loop c = search needs
@@ -45,20 +45,20 @@ part-answer-one-end c = search needs
 answer-one-requires : tie.Need-answer-one-requires Inv-loop μ-loop
 answer-one-requires c κs = (search needs, search needs, search needs, search needs, search needs)
 
+mul-put-answer : tie.Need-mul-put-answer Inv-loop μ-loop
+mul-put-answer c = search needs
+
 put-answer-requires : tie.Need-put-answer-requires Inv-loop μ-loop
 put-answer-requires c κs = search needs
 
 add-at : tie.Need-add-at Inv-loop μ-loop
 add-at c = search needs
 
-add-out : tie.Need-add-out Inv-loop μ-loop
-add-out c = search needs
-
 loop-less : tie.Need-loop-less Inv-loop μ-loop
 loop-less c = search needs
 
 loop-again : tie.Need-loop-again Inv-loop μ-loop
-loop-again c = (search needs, search needs, search needs, search (needs, answer-sized, same-lengths), search (needs, counts-sized), search (needs, counters-sized), search (needs, open-next), search (needs, writing-next))
+loop-again c = (search needs, search (needs, answer-sized, same-lengths), search (needs, counts-sized), search (needs, counters-sized), search (needs, open-next), search (needs, writing-next _ _ _ _ _ _ (c .before .before .before .before .before .before .before .before .before .loop .inv .5)))
 
 same-length : tie.Need-same-length Inv-loop μ-loop
 same-length c = search needs
@@ -79,9 +79,9 @@ ask-records-spec =
     part-answer-one-start
     part-answer-one-end
     answer-one-requires
+    mul-put-answer
     put-answer-requires
     add-at
-    add-out
     loop-less
     loop-again
     same-length
