@@ -24,6 +24,7 @@ use Rattle.rules.specs.Runs.{requestWith, groupOr, bytesOfAnswer}
 use Rattle.rules.proofs.Laws.{never, and-left, and-right}
 use Rattle.rules.proofs.GroupSets.{holdsAt, firstIn, placed, placedAt, judgedBySets, unspentAt}
 use Rattle.theorems.specs.Sizes.{GroupFits}
+use Rattle.theorems.proofs.Lists.{there-below}
 use Rattle.theorems.proofs.AclSizes.{acl-fits}
 use Rattle.refusals.specs.Refusals.{denialNumber, denialGroup}
 use Rattle.charging.specs.Charges.{Chargeable}
@@ -33,7 +34,7 @@ use Rattle.judging.specs.declared.Judged.the-variants.{Granted, Denied}
 use Rattle.refusals.specs.declared.Denial.the-variants.{Early}
 use Rattle.judging.specs.Standings.{denialFor, judgedFor, ledgerOfTables}
 use Rattle.choosing.specs.Deciding.{Ready, admittingSet, setJudge, askSets}
-use Rattle.choosing.proofs.Deciding.{there-below, place-group, ready-few}
+use Rattle.choosing.proofs.Deciding.{place-group, ready-few}
 use Rattle.asking.specs.Answers.{grantedPlace, judgedNumber, placeOr, deniedGroup, shownGroup, IsOutcome}
 
 -- what a walk finds passes

@@ -25,6 +25,7 @@ use Rattle.rules.proofs.Laws.{and-left, and-right}
 use Rattle.rules.proofs.Sets.{set-rest, set-alike, set-bits}
 use Rattle.rules.proofs.GroupSets.{digit-odd, digit-bit, firstIn, first-done, judgedBySets, unspentAt}
 use Rattle.rules.proofs.Forms.{form-use, any-part, working-part, recovery-part}
+use Rattle.theorems.proofs.Lists.{there-below}
 use Rattle.theorems.proofs.AclSizes.{acl-fits}
 use Rattle.prepared.specs.Places.{Inside, Bodies}
 use Rattle.judging.specs.declared.Judged.{Judged}
@@ -35,20 +36,6 @@ use Rattle.choosing.specs.Members.{leftAt, admitsAt, membersIn}
 use Rattle.choosing.specs.Deciding.{Ready, admittingSet, candidates, setJudge}
 
 ruleset conj = (and-left, and-right)
-
--- an element that there is
-pub there-below : {A : Type 0} (xs : List A) (k : ℕ) (x : A) → getElem? xs k ≡ some x → k < length xs
-there-below {A = A} [] zero x e = absurd (none-some e)
-  where
-    none-some : _≡_ {A = Option A} none (some x) → ⊥
-    none-some q = let z : _≡_ {A = ℕ} 0 1 = ap (tag) q in omega arith
-      where
-        tag : Option A → ℕ
-        tag none = 0
-        tag (some y) = 1
-there-below [] (suc k) x e = let i = there-below [] k x e in absurd (omega arith)
-there-below (y ∷ ys) zero x e = omega arith
-there-below (y ∷ ys) (suc k) x e = let i = there-below ys k x e in omega arith
 
 -- The group at a place, by the table.
 module _ (acl : Bytes) (bodies : List ℕ) (b : Bodies acl bodies) where

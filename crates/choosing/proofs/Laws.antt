@@ -20,7 +20,7 @@ use Rattle.rules.specs.Request.{blobFileNext, wantedOf}
 use Rattle.rules.specs.Grant.{admits, unspentWith}
 use Rattle.rules.specs.Gate.{notFound}
 use Rattle.rules.proofs.Rows.{lentRest, lent-rest, no-rows}
-use Rattle.rules.proofs.GroupSets.{firstIn, first-stop, first-next, first-done, lowest-out, member-below, first-below, placed, placed-there, placed-past, judgedBySets}
+use Rattle.rules.proofs.GroupSets.{two, halved, still-even, firstIn, first-stop, first-next, first-done, lowest-out, member-below, first-below, placed, placed-there, placed-past, judgedBySets}
 use Rattle.prepared.specs.Places.{Inside}
 use Rattle.judging.specs.declared.Judged.the-variants.{Granted, Denied}
 use Rattle.refusals.specs.declared.Denial.the-variants.{Unadmitted, Uncertified, Exhausted}
@@ -53,13 +53,6 @@ pub walk-done : (test : ℕ → Bool) (set left : ℕ) → firstIn test 64 left 
 walk-done test set left inv z = let e : left ≡ 0 = omega arith in sym (first-done test 64) ∙ ap (firstIn test 64) (sym e) ∙ inv
 
 -- The members that pass: the lowest, and the others.
-pub two : (n : ℕ) → (n % 2 ≡ 0) ⊎ (n % 2 ≡ 1)
-two n = pick (n % 2) refl
-  where
-    pick : (r : ℕ) → n % 2 ≡ r → (n % 2 ≡ 0) ⊎ (n % 2 ≡ 1)
-    pick zero e = inl e
-    pick (suc r) e = inr (omega arith)
-
 low-le : (w n : ℕ) → 0 < n → n < 2 ^ w → 2 ^ trailingZeros w n ≤ n
 unfolding trailingZeros
 low-le zero n p h = absurd (omega arith)
@@ -80,12 +73,6 @@ members-out test (suc w) n p h = pick (two n) (members-out (λ k. test (suc k)) 
     rest : ℕ → ℕ
     rest m = membersIn (λ k. test (suc k)) w m
 
-    halved : n % 2 ≡ 0 → (n - 2 ^ suc z) / 2 ≡ n / 2 - 2 ^ z
-    halved e = omega (arith, pow-suc 2 z)
-
-    even : n % 2 ≡ 0 → (n - 2 ^ suc z) % 2 ≡ 0
-    even e = omega (arith, pow-suc 2 z)
-
     twice : (b : Bool) → rest (n / 2) ≡ (if b then 2 ^ z else 0) + rest (n / 2 - 2 ^ z) → 0 + 2 * rest (n / 2) ≡ (if b then 2 ^ suc z else 0) + (0 + 2 * rest (n / 2 - 2 ^ z))
     twice true e = omega (arith, pow-suc 2 z)
     twice false e = omega arith
@@ -96,7 +83,7 @@ members-out test (suc w) n p h = pick (two n) (members-out (λ k. test (suc k)) 
 
     pick : (n % 2 ≡ 0) ⊎ (n % 2 ≡ 1) → (0 < n / 2 → n / 2 < 2 ^ w → rest (n / 2) ≡ (if test (suc z) then 2 ^ z else 0) + rest (n / 2 - 2 ^ z))
         → membersIn test (suc w) n ≡ (if test (trailingZeros (suc w) n) then 2 ^ trailingZeros (suc w) n else 0) + membersIn test (suc w) (n - 2 ^ trailingZeros (suc w) n)
-    pick (inl e) f = rw (e, even e, halved e) (twice (test (suc z)) (f (omega arith) (omega (arith, pow-suc 2 w))))
+    pick (inl e) f = rw (e, still-even n z e, halved n z e) (twice (test (suc z)) (f (omega arith) (omega (arith, pow-suc 2 w))))
     pick (inr e) f =
         let a : (n - 1) % 2 ≡ 0 = omega arith in
         let b : (n - 1) / 2 ≡ n / 2 = omega arith in

@@ -130,7 +130,7 @@ unfolding allZero
 zero-append [] ys = refl
 zero-append (x ∷ xs) ys = ap (λ (t : Bool). eqb x 0 && t) (zero-append xs ys) ∙ sym (and-assoc (eqb x 0) (allZero xs) (allZero ys))
 
-same-append : (vs ws xs ys : Bytes) → length vs ≡ length ws → same (vs ++ xs) (ws ++ ys) ≡ (same vs ws && same xs ys)
+pub same-append : (vs ws xs ys : Bytes) → length vs ≡ length ws → same (vs ++ xs) (ws ++ ys) ≡ (same vs ws && same xs ys)
 unfolding same
 same-append [] [] xs ys l = refl
 same-append [] (w ∷ ws) xs ys l = absurd (omega arith)

@@ -16,7 +16,7 @@ use Rattle.rules.specs.Trim.{isChecked, stays, keptPlaces, hintsFrom, trimHints
 use Rattle.rules.specs.Written.{hintBytes}
 use Rattle.rules.proofs.Laws.{orNext-first, orNext-next}
 use Rattle.rules.proofs.Rows.{recordsFrom, rows-lent, lentRecord, lent-record, lent-rest, kind-at}
-use Rattle.rules.proofs.Places.{aclFrom, record-has-room}
+use Rattle.rules.proofs.Places.{aclFrom, record-has-room, same-count}
 use Rattle.rules.proofs.Written.{hint-whole}
 use Rattle.rules.proofs.Trim.{fresh-group, group-places, places-group, places-limit, places-file, places-stays, places-goes, places-end, hints-group, hints-other, hints-end}
 use Rattle.keeping.specs.declared.Fate.{Fate}
@@ -47,19 +47,10 @@ module _ (acl : Bytes) (at : ℕ) (s : AclPlace) (sound : aclFrom s (recordsFrom
   unfolding scan
   sound-rest = orNext-next (aclRecordFault s (lentRecord acl at)) _ (sym (ap (aclFrom s) (rows-lent acl at h)) ∙ sound)
 
--- Groups begun, after a record.
+-- A group's record begins one.
 group-more : (s : AclPlace) (r : Bytes) → eqb (kind r) 1 ≡ true → afterRecord s r .groups ≡ s .groups + 1
 unfolding afterRecord
 group-more s r e = rw e
-
-group-same : (s : AclPlace) (r : Bytes) → eqb (kind r) 1 ≡ false → afterRecord s r .groups ≡ s .groups
-unfolding afterRecord
-group-same s r e = pick (eqb (kind r) 2) refl (eqb (kind r) 15) refl
-  where
-    pick : (x : Bool) → eqb (kind r) 2 ≡ x → (y : Bool) → eqb (kind r) 15 ≡ y → afterRecord s r .groups ≡ s .groups
-    pick true p y q = rw (e, p)
-    pick false p true q = rw (e, p, q)
-    pick false p false q = rw (e, p, q)
 
 module _ (acl : Bytes) (at groups : ℕ) (s : SoundFrom acl at groups) (h : recordBytes ≤ length acl - at) where
   pub sound-group : getD acl at 0 ≡ 1 → SoundFrom acl (at + recordBytes) (groups + 1)
@@ -77,7 +68,7 @@ module _ (acl : Bytes) (at groups : ℕ) (s : SoundFrom acl at groups) (h : reco
       record {
         place = afterRecord (s .place) (lentRecord acl at);
         sound = sound-rest acl at (s .place) (s .sound) h;
-        begun = group-same (s .place) (lentRecord acl at) (no-group acl at n) ∙ s .begun;
+        begun = same-count (s .place) (lentRecord acl at) (no-group acl at n) ∙ s .begun;
       }
 
   -- there is room for one more group

@@ -4,7 +4,7 @@ use Prim.Native.Nat.{ℕ, zero, suc, _+_, _-_, _*_, _/_, _%_, _^_, _<_, _≤_}
 use native.Mathlib.Omega.{arith}
 use native.Mathlib.Nat.{zero-mod}
 use mathlib.Core.Path.{_≡_, refl, sym, _∙_, ap, ap₂}
-use mathlib.Core.List.{List, [], _∷_, _++_}
+use mathlib.Core.List.{List, [], _∷_}
 use mathlib.Core.Bool.{Bool, true, false, not, _&&_, _||_}
 use borrow.Author.Tests.{eq-eqb, ne-eqb, not-true, not-false}
 use lib.ListN.{length, take, drop, getD, length-drop, take-append-drop}
@@ -16,7 +16,7 @@ use Rattle.rules.specs.Request as rules
 use Rattle.rules.specs.Chain.{serves}
 use lib.Pow.{mod-pow-add}
 use lib.Seq.{take-all, length-take-le}
-use Rattle.fields.proofs.Laws.{and-assoc}
+use Rattle.fields.proofs.Words.{same-append}
 use Rattle.rules.proofs.GroupSets.{digit-odd}
 use Rattle.rules.proofs.Sets.{set-rest}
 use Rattle.rules.proofs.Rows.{recordsFrom, rows-end, rows-lent, lentRecord, lent-record, kind-at}
@@ -30,13 +30,6 @@ pub matched-same : (wanted n : ℕ) (used : Bool) → not used ≡ false → eqb
 matched-same wanted n used e = sym (rw (not-false used e))
 
 -- two hashes, by their first sixteen bytes and their last four
-same-append : (vs ws xs ys : Bytes) → length vs ≡ length ws → same (vs ++ xs) (ws ++ ys) ≡ (same vs ws && same xs ys)
-unfolding same
-same-append [] [] xs ys l = refl
-same-append [] (w ∷ ws) xs ys l = absurd (omega arith)
-same-append (v ∷ vs) [] xs ys l = absurd (omega arith)
-same-append (v ∷ vs) (w ∷ ws) xs ys l = ap (λ (t : Bool). eqb v w && t) (same-append vs ws xs ys (omega arith)) ∙ sym (and-assoc (eqb v w) (same vs ws) (same xs ys))
-
 hash-rest : (x : Bytes) → length x ≡ hashBytes → take (20 - 16) (drop 16 x) ≡ drop 16 x
 hash-rest x h = take-all 4 (drop 16 x) (omega (arith, length-drop 16 x))
 

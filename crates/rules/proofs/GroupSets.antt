@@ -79,12 +79,20 @@ unfoldable pub firstIn : (ℕ → Bool) → ℕ → ℕ → ℕ
 firstIn test zero n = 0
 firstIn test (suc w) n = if eqb (n % 2) 1 && test 0 then 0 else suc (firstIn (λ k. test (suc k)) w (n / 2))
 
-two : (n : ℕ) → (n % 2 ≡ 0) ⊎ (n % 2 ≡ 1)
+-- a number is even or odd
+pub two : (n : ℕ) → (n % 2 ≡ 0) ⊎ (n % 2 ≡ 1)
 two n = pick (n % 2) refl
   where
     pick : (r : ℕ) → n % 2 ≡ r → (n % 2 ≡ 0) ⊎ (n % 2 ≡ 1)
     pick zero e = inl e
     pick (suc r) e = inr (omega arith)
+
+-- an even number without the power of two at a place past the first: its half, and that it is even
+pub halved : (n z : ℕ) → n % 2 ≡ 0 → (n - 2 ^ suc z) / 2 ≡ n / 2 - 2 ^ z
+halved n z e = omega (arith, pow-suc 2 z)
+
+pub still-even : (n z : ℕ) → n % 2 ≡ 0 → (n - 2 ^ suc z) % 2 ≡ 0
+still-even n z e = omega (arith, pow-suc 2 z)
 
 -- nothing is left
 pub first-done : (test : ℕ → Bool) (w : ℕ) → firstIn test w 0 ≡ w
@@ -112,15 +120,9 @@ first-next test (suc w) n p h t = pick (two n) (first-next (λ k. test (suc k)) 
     z : ℕ
     z = trailingZeros w (n / 2)
 
-    halved : n % 2 ≡ 0 → (n - 2 ^ suc z) / 2 ≡ n / 2 - 2 ^ z
-    halved e = omega (arith, pow-suc 2 z)
-
-    even : n % 2 ≡ 0 → (n - 2 ^ suc z) % 2 ≡ 0
-    even e = omega (arith, pow-suc 2 z)
-
     pick : (n % 2 ≡ 0) ⊎ (n % 2 ≡ 1) → (0 < n / 2 → n / 2 < 2 ^ w → test (suc z) ≡ false → firstIn (λ k. test (suc k)) w (n / 2 - 2 ^ z) ≡ firstIn (λ k. test (suc k)) w (n / 2))
         → firstIn test (suc w) (n - 2 ^ trailingZeros (suc w) n) ≡ firstIn test (suc w) n
-    pick (inl e) f = rw (e, even e, halved e) (ap suc (f (omega arith) (omega (arith, pow-suc 2 w)) (rw e at t)))
+    pick (inl e) f = rw (e, still-even n z e, halved n z e) (ap suc (f (omega arith) (omega (arith, pow-suc 2 w)) (rw e at t)))
     pick (inr e) f =
         let u : test 0 ≡ false = rw e at t in
         let a : (n - 1) % 2 ≡ 0 = omega arith in

@@ -76,3 +76,13 @@ due-here s r n e = pick (s .fileDue) refl
         let k = eqb-true (kind r) 15 n in
         let f : (false && actionInPlace s) ≡ true = rw k at (placed s r d e) in
         absurd (false≢true f)
+
+-- a record that is no group's begins none
+pub same-count : (s : AclPlace) (r : Bytes) → eqb (kind r) 1 ≡ false → afterRecord s r .groups ≡ s .groups
+unfolding afterRecord
+same-count s r q = pick (eqb (kind r) 2) refl (eqb (kind r) 15) refl
+  where
+    pick : (b : Bool) → eqb (kind r) 2 ≡ b → (c : Bool) → eqb (kind r) 15 ≡ c → afterRecord s r .groups ≡ s .groups
+    pick true d c t = rw (q, d)
+    pick false d true t = rw (q, d, t)
+    pick false d false t = rw (q, d, t)

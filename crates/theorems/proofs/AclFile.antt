@@ -14,7 +14,7 @@ use Rattle.rules.specs.Sizes.{hashBytes, groupsMax}
 use Rattle.rules.specs.Basics.{Bytes, Every, part, number, kind, flag, optional, scan}
 use Rattle.rules.specs.Layout.{groupLaidOut}
 use Rattle.rules.specs.Acl.{FileRule, Action, Group, actionOf, fileRuleNext, actionsOf, groupsOf, AclPlace, aclStart, actionLaidOut, actionInPlace, placedUnder, inPlace, hasRoomUnder, afterRecord, aclRecordFault, aclFaultUnder, aclFault}
-use Rattle.rules.proofs.Places.{aclFrom, record-in-place, record-has-room, not-due}
+use Rattle.rules.proofs.Places.{aclFrom, record-in-place, record-has-room, not-due, same-count}
 use Rattle.rules.proofs.Laws.{and-left, orNext-first, orNext-next}
 
 module _ (P : Bytes → Type 0) where
@@ -64,16 +64,6 @@ module _ (P : Bytes → Type 0) where
   pub acl-read : (rs : List Bytes) → aclFault rs ≡ none → Every P rs → Every GroupRead (groupsOf rs)
   unfolding aclFaultUnder
   acl-read rs e h = groups-read aclStart rs e h
-
--- A record that is no group's begins none.
-pub same-count : (s : AclPlace) (r : Bytes) → eqb (kind r) 1 ≡ false → afterRecord s r .groups ≡ s .groups
-unfolding afterRecord
-same-count s r q = pick (eqb (kind r) 2) refl (eqb (kind r) 15) refl
-  where
-    pick : (b : Bool) → eqb (kind r) 2 ≡ b → (c : Bool) → eqb (kind r) 15 ≡ c → afterRecord s r .groups ≡ s .groups
-    pick true d c t = rw (q, d)
-    pick false d true t = rw (q, d, t)
-    pick false d false t = rw (q, d, t)
 
 -- Of a file without fault there are at most as many groups as the table has.
 groups-bound : (s : AclPlace) (rs : List Bytes) → aclFrom s rs ≡ none → s .groups ≤ groupsMax → s .groups + length (groupsOf rs) ≤ groupsMax

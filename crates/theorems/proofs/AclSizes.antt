@@ -19,9 +19,8 @@ use Rattle.rules.specs.Layout.{counterUnder, counterOfSort, limitUnder, limitLa
 use Rattle.rules.specs.Acl.{Limit, limitOf, limitsOf, actionsOf, groupOf, groupsOf, aclOf, AclPlace, limitKey, among, limitInPlace, inPlace, hasRoomUnder, hasRoom, afterRecord, recordFaultUnder, aclRecordFault, aclEnd, aclStart, aclFaultUnder, aclFault}
 use Rattle.rules.proofs.Laws.{never, and-left, and-right, and-both, not-both, or-right, every-at, unless-passed, orNext-first, orNext-next, fault-none-every}
 use Rattle.rules.proofs.Rows.{records-sized}
-use Rattle.rules.proofs.Places.{limit-placed}
+use Rattle.rules.proofs.Places.{limit-placed, same-count}
 use Rattle.theorems.specs.Sizes.{LimitFits, Apart, GroupFits, AclFits}
-use Rattle.theorems.proofs.AclFile.{same-count}
 
 ruleset conj = (and-left, and-right, and-both)
 

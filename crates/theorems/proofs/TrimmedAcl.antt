@@ -24,9 +24,8 @@ use Rattle.rules.proofs.Laws.{and-left, and-right, and-both, every-map, orNext-
 use Rattle.rules.proofs.Joined.{Whole}
 use Rattle.rules.proofs.Written.{octets-append, take-octets, drop-octets, bigEndian-octets, hint-whole, hint-read, hint-laid-out, hint-octets}
 use Rattle.rules.proofs.Bits.{kept-below}
-use Rattle.rules.proofs.Places.{limit-placed, aclFrom, record-in-place, record-has-room, record-keyed, no-record-fault, not-due, due-here}
+use Rattle.rules.proofs.Places.{limit-placed, aclFrom, record-in-place, record-has-room, record-keyed, no-record-fault, not-due, due-here, same-count}
 use Rattle.rules.proofs.Trim.{fresh-group, group-places, places-below}
-use Rattle.theorems.proofs.AclFile.{same-count}
 use Rattle.theorems.proofs.TrimmedRecord.{same-failure, stays-as, goes-as}
 
 ruleset conj = (and-left, and-right, and-both)
