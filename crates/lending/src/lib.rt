@@ -1,8 +1,11 @@
 // A row of certificates that is given as bytes, decoded and lent to a run as a host lends its own. The functions that lend it are proved by hand: each is
 // one call.
 ghost use mathlib.Core.Path.{_≡_};
-ghost use Prim.Native.Nat.{_≤_};
+ghost use Prim.Native.Nat.{_+_, _≤_};
+ghost use mathlib.Core.List.{List};
 ghost use lib.ListN.{length, take};
+ghost use Rattle.rules.specs.Sizes.{certificatesMax};
+ghost use Rattle.rules.specs.Request as rules;
 ghost use Rattle.rules.specs.Runs.{run};
 ghost use Rattle.rules.specs.Prepared.{preparedRun};
 ghost use Rattle.gate.specs.Outcomes.{ledgerAs};
@@ -19,7 +22,7 @@ const CERTIFICATE: usize = sizes::HASH + 2;
 
 // How many certificates of a row are lent at most: one more than a run takes. A run with more than it takes is refused by the lengths of its files (1) or
 // else by the number of its certificates (3), before a mechanism, the ACL's records, the room or the form is looked at. So the first 33 of a longer row
-// get the answer of the whole row.
+// get the answer of the whole row: the theorems `run-long-row` and `prepared-run-long-row`, which the contracts of the functions that lend rest on.
 const LENT: usize = sizes::CERTIFICATES + 1;
 
 fn hash_of(bytes: &[u8]) -> [u8; sizes::HASH]
@@ -74,7 +77,7 @@ fn lent(bytes: &[u8]) -> usize
     n
 }
 
-// A run with the first certificates of a row.
+// A run with the first certificates of a row: the answer of every row that has these as its first 33, or as all there are.
 fn run_lent(
     ledger: Ledger,
     km0: &[u8],
@@ -85,7 +88,7 @@ fn run_lent(
     answers: &mut [u8],
 ) -> RunOutcome
     requires { ⌜ n ≤ 33 ⌝ }
-    ensures { λ r. ⌜ runOutcomeAs r (now (answers .exit)) ≡ run (ledgerAs ledger) (now (km0 .entry)) (now (acl .entry)) (rowAs (take n row)) (now (requests .entry)) (now (answers .entry)) ⌝ }
+    ensures { λ r. ⌜ ((whole : List rules.Certificate) → take (certificatesMax + 1) whole ≡ rowAs (take n row) → runOutcomeAs r (now (answers .exit)) ≡ run (ledgerAs ledger) (now (km0 .entry)) (now (acl .entry)) whole (now (requests .entry)) (now (answers .entry))) ⌝ }
 {
     runs::run(ledger, km0, acl, &row[..n], requests, answers)
 }
@@ -102,7 +105,7 @@ fn prepared_run_lent(
     answers: &mut [u8],
 ) -> RunOutcome
     requires { ⌜ n ≤ 33 ⌝ }
-    ensures { λ r. ⌜ runOutcomeAs r (now (answers .exit)) ≡ preparedRun (ledgerAs ledger) (now (km0 .entry)) (now (acl .entry)) (rowAs (take n row)) (formAs form) (now (requests .entry)) (now (answers .entry)) ⌝ }
+    ensures { λ r. ⌜ ((whole : List rules.Certificate) → take (certificatesMax + 1) whole ≡ rowAs (take n row) → runOutcomeAs r (now (answers .exit)) ≡ preparedRun (ledgerAs ledger) (now (km0 .entry)) (now (acl .entry)) whole (formAs form) (now (requests .entry)) (now (answers .entry))) ⌝ }
 {
     runs::prepared_run(ledger, km0, acl, &row[..n], form, requests, answers)
 }

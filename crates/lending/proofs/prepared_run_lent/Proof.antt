@@ -46,6 +46,7 @@ use Rattle.row.specs.declared.Certificate.{Certificate}
 use Rattle.row.specs.Rows.{rowAs}
 use Rattle.runs.specs.Judged.{runOutcomeAs}
 use Rattle.row.proofs.Lent.{slice, lent}
+use Rattle.lending.proofs.Whole.{prepared-run-of-whole}
 use Rattle.lending.proofs.Lends.{Rows, rows-vals, rows-tells, rows-makes, rows-typed, count, room, elements, apart, lends, takes-back}
 use Rattle.prepared.specs.declared.Prepared.{Prepared}
 use Rattle.prepared.proofs.Prepared as Prepared-type
@@ -91,7 +92,7 @@ module _ {M : Type 1} (𝓤 : URA M) (H : Heap 𝓤) (A : Atoms 𝓤) (W : Given
 
   exits : (r : RunOutcome) (v : Val) (zs : List ℕ) → runOutcomeAs r zs ≡ rules.preparedRun (ledgerAs ledger) (now km0) (now acl) (rowAs (take n row)) (formAs form) (now requests) (now answers) → length zs ≡ length (now answers) → ent 𝓤 (⋆ 𝓤 H A (Had r v zs)) (Post v)
   exits r v zs e l =
-      qed W (Had r v zs) ∵ suffices ! _ (ends-at 𝓤 H A this.ended stayed (this.clauses 𝓤 H A mem run) W (((κ₀, (κ₁, (κ₂, (κ₃, tt)))), (q₀, (q₁, (q₂, (q₃, tt)))), tt, x, at), tt) v r (tt, (tt, (tt, (tt, (tt, (tt, (tt, (zs, tt)))))))) (tt, (tt, (tt, (tt, (tt, (tt, (tt, (l, tt))))))))) $ says ! e $
+      qed W (Had r v zs) ∵ suffices ! _ (ends-at 𝓤 H A this.ended stayed (this.clauses 𝓤 H A mem run) W (((κ₀, (κ₁, (κ₂, (κ₃, tt)))), (q₀, (q₁, (q₂, (q₃, tt)))), tt, x, at), tt) v r (tt, (tt, (tt, (tt, (tt, (tt, (tt, (zs, tt)))))))) (tt, (tt, (tt, (tt, (tt, (tt, (tt, (l, tt))))))))) $ says ! (prepared-run-of-whole (ledgerAs ledger) (now km0) (now acl) (rowAs (take n row)) (formAs form) (now requests) (now answers) (runOutcomeAs r zs) e) $
       nothing ! $ move ! (4 ∷ 0 ∷ []) $ join ! $ move ! (3 ∷ 0 ∷ []) $ join ! $ move ! (2 ∷ 0 ∷ []) $ join ! $ move ! (1 ∷ 0 ∷ []) $ join ! $ nothing ! $ move ! (5 ∷ 0 ∷ []) $ fjoin ! $ move ! (4 ∷ 0 ∷ []) $ fjoin ! $ owned ! Prepared-type.the-row (Is Prepared-type.the-row) (LL.makes Prepared-type.the-type Prepared-type-laws.the-plain 𝓤 H A) form (LL.val Prepared-type.the-type Prepared-type-laws.the-laws form ∷ []) form-is $ fjoin ! $ owned ! usize (Is usize) (uint-makes 𝓤 H A W w64) n (vint w64 n ∷ []) (refl, n-fits) $ fjoin ! $ owned ! Rows (Is Rows) (rows-makes 𝓤 H A W) row (rows-vals row) row-is $ fjoin ! $ move ! (3 ∷ 0 ∷ []) $ fjoin ! $ move ! (2 ∷ 0 ∷ []) $ fjoin ! $ owned ! Ledger-type.the-row (Is Ledger-type.the-row) (LL.makes Ledger-type.the-type Ledger-type-laws.the-plain 𝓤 H A) ledger (LL.val Ledger-type.the-type Ledger-type-laws.the-laws ledger ∷ []) ledger-is $ fjoin ! $ move ! (1 ∷ 0 ∷ []) $ frame ! $ frame ! $ done !
 
   abbrev to-prepared : (α : ℕ) → (part : RefT (List Certificate)) → Bound 𝓤 H A prepared.signature

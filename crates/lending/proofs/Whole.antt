@@ -1,0 +1,22 @@
+-- The answer to the certificates that are lent is the answer to every row that has these as its first 33.
+use Prim.Native.Nat.{_+_}
+use mathlib.Core.Path.{_≡_, sym, _∙_, ap}
+use mathlib.Core.List.{List}
+use lib.ListN.{take}
+use Rattle.rules.specs.Sizes.{certificatesMax}
+use Rattle.rules.specs.Basics.{Bytes}
+use Rattle.rules.specs.Request.{Certificate}
+use Rattle.rules.specs.Ledger.{Ledger}
+use Rattle.rules.specs.Runs.{RunOutcome, run}
+use Rattle.rules.specs.Prepared.{Form, preparedRun}
+use Rattle.theorems.proofs.LongRows.{run-long-row, prepared-run-long-row}
+
+pub run-of-whole : (l : Ledger) (km0 acl : Bytes) (lent : List Certificate) (requests buffer : Bytes) (o : RunOutcome) → o ≡ run l km0 acl lent requests buffer
+    → (whole : List Certificate) → take (certificatesMax + 1) whole ≡ lent → o ≡ run l km0 acl whole requests buffer
+run-of-whole l km0 acl lent requests buffer o e whole h =
+    e ∙ ap (λ (row : List Certificate). run l km0 acl row requests buffer) (sym h) ∙ run-long-row l km0 acl whole requests buffer
+
+pub prepared-run-of-whole : (l : Ledger) (km0 acl : Bytes) (lent : List Certificate) (f : Form) (requests buffer : Bytes) (o : RunOutcome) → o ≡ preparedRun l km0 acl lent f requests buffer
+    → (whole : List Certificate) → take (certificatesMax + 1) whole ≡ lent → o ≡ preparedRun l km0 acl whole f requests buffer
+prepared-run-of-whole l km0 acl lent f requests buffer o e whole h =
+    e ∙ ap (λ (row : List Certificate). preparedRun l km0 acl row f requests buffer) (sym h) ∙ prepared-run-long-row l km0 acl whole f requests buffer
