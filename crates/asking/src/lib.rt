@@ -133,7 +133,8 @@ fn permit(k: usize, time: u64) -> Answered
     }
 }
 
-// Whether a record is a well-formed request that announces no record of kind 15. Most are uses, and are tested here: the test of all kinds is a call.
+// Whether a record is a well-formed request that announces no record of kind 15. It says what `request::stands_alone` says, which tests all kinds and is a
+// call for each record: most records of a run are uses, and these are tested here, in the loop itself.
 fn stands_alone(rec: &[u8]) -> bool
     requires { ⌜ length (now rec) ≡ recordBytes ⌝ }
     ensures { λ r. ⌜ r ≡ standsAlone (now (rec .entry)) ⌝ }
