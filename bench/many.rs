@@ -1,4 +1,5 @@
-//! Many keys and many requests, against the gate asked by itself: a request through the cabinet, one in place, a run of a hundred, a prepared run of a thousand.
+//! Many keys and many requests: a request on a ledger and in a slot of a cabinet, by the C functions that take it by value, by a method that owns it, and in place;
+//! a run of a hundred, a prepared run of a thousand.
 //! Repeats one case so many times: `many CASE CALLS`. bench/measure counts its instructions.
 #[allow(dead_code)]
 mod inputs;
@@ -8,36 +9,43 @@ mod proved;
 mod row;
 
 use inputs::{full_request, granted_last, km0, small_acl, small_request, SIGN, SOME, TIME};
-use proved::{prepare, Cabinet, Ledger, Reply};
+use proved::{by_value, prepare, Cabinet, Ledger, Reply};
 use row::decoded;
 use std::hint::black_box;
 
-const CASES: [&str; 11] = [
-    "gate: Sign, 1 group",
-    "cabinet: Sign, 1 group",
-    "in place: Sign, 1 group",
-    "in place, in a slot: Sign, 1 group",
-    "gate: Sign, 16 full groups",
-    "cabinet: Sign, 16 full groups",
-    "in place: Sign, 16 full groups",
-    "in place, in a slot: Sign, 16 full groups",
+const CASES: [&str; 15] = [
+    "ledger, C by value: Sign, 1 group",
+    "slot, C by value: Sign, 1 group",
+    "ledger, a method's own: Sign, 1 group",
+    "slot, a method's own: Sign, 1 group",
+    "ledger in place: Sign, 1 group",
+    "slot in place: Sign, 1 group",
+    "ledger, C by value: Sign, 16 full groups",
+    "slot, C by value: Sign, 16 full groups",
+    "ledger, a method's own: Sign, 16 full groups",
+    "slot, a method's own: Sign, 16 full groups",
+    "ledger in place: Sign, 16 full groups",
+    "slot in place: Sign, 16 full groups",
     "run: 100 Signs, 1 group",
     "run: 100 Signs, 16 full groups",
     "prepared run: 1,000 Signs, 16 full groups",
 ];
 
-fn gate(acl: &[u8], request: &[u8], calls: u32) -> String {
+// Each request takes the ledger that the one before handed back.
+fn ledgers(acl: &[u8], request: &[u8], calls: u32, step: impl Fn(Ledger, &[u8], &[u8], &[u8]) -> (Ledger, Reply)) -> String {
     let (mut ledger, mut reply) = Ledger::fresh().load(TIME);
     for _ in 0..calls {
-        (ledger, reply) = black_box(ledger).request(&km0(), black_box(acl), black_box(request));
+        (ledger, reply) = step(black_box(ledger), &km0(), black_box(acl), black_box(request));
     }
     format!("{reply:?}")
 }
 
-fn cabinet(acl: &[u8], request: &[u8], calls: u32) -> String {
+fn cabinets(
+    acl: &[u8], request: &[u8], calls: u32, step: impl Fn(Cabinet, usize, &[u8], &[u8], &[u8]) -> (Cabinet, Reply),
+) -> String {
     let (mut cabinet, mut reply) = Cabinet::fresh().load(5, TIME);
     for _ in 0..calls {
-        (cabinet, reply) = black_box(cabinet).request(5, &km0(), black_box(acl), black_box(request));
+        (cabinet, reply) = step(black_box(cabinet), 5, &km0(), black_box(acl), black_box(request));
     }
     format!("{reply:?}")
 }
@@ -83,18 +91,16 @@ fn main() {
     let [case, calls] = words.as_slice() else { panic!("CASE and CALLS are due") };
     let (case, calls): (usize, u32) = (case.parse().expect("a case's place"), calls.parse().expect("a number of calls"));
     let (small, some) = ((small_acl(), small_request(SIGN)), (granted_last(SOME), full_request(SIGN)));
+    let (acl, request) = if (6..12).contains(&case) || case > 12 { &some } else { &small };
     let reply = match case {
-        0 => gate(&small.0, &small.1, calls),
-        1 => cabinet(&small.0, &small.1, calls),
-        2 => in_place(&small.0, &small.1, calls),
-        3 => in_slot(&small.0, &small.1, calls),
-        4 => gate(&some.0, &some.1, calls),
-        5 => cabinet(&some.0, &some.1, calls),
-        6 => in_place(&some.0, &some.1, calls),
-        7 => in_slot(&some.0, &some.1, calls),
-        8 => run(&small.0, &small.1, calls),
-        9 => run(&some.0, &some.1, calls),
-        _ => prepared_run(&some.0, &some.1, calls),
+        0 | 6 => ledgers(acl, request, calls, by_value::request),
+        1 | 7 => cabinets(acl, request, calls, by_value::cabinet_request),
+        2 | 8 => ledgers(acl, request, calls, Ledger::request),
+        3 | 9 => cabinets(acl, request, calls, Cabinet::request),
+        4 | 10 => in_place(acl, request, calls),
+        5 | 11 => in_slot(acl, request, calls),
+        12 | 13 => run(acl, request, calls),
+        _ => prepared_run(acl, request, calls),
     };
     println!("{}: {reply}", CASES[case]);
 }

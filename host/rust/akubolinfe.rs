@@ -268,25 +268,21 @@ impl Ledger {
     /// A request for a use or a blob: `req` is the request record; directly after it, if it asks for a blob that is stored (flag 6),
     /// a record of kind 15 with the one device and, if used, the hash of the ACL template; then up to 32 certificates (kind 9), then up
     /// to 16 delegations (kind 14), at most 50 records.
-    pub fn request(self, km0: &[u8], acl: &[u8], req: &[u8]) -> (Ledger, Reply) {
-        told(unsafe { akubolinfe_request(self, ptr(km0), km0.len(), ptr(acl), acl.len(), ptr(req), req.len()) })
+    pub fn request(mut self, km0: &[u8], acl: &[u8], req: &[u8]) -> (Ledger, Reply) {
+        let reply = self.request_in_place(km0, acl, req);
+        (self, reply)
     }
 
     /// A narrowing; if it is permitted the new ACL is in force.
-    pub fn narrow(self, km0: &[u8], acl: &[u8], req: &[u8], new: &[u8], hints: &[u8]) -> (Ledger, Reply) {
-        told(unsafe {
-            akubolinfe_narrow(
-                self, ptr(km0), km0.len(), ptr(acl), acl.len(), ptr(req), req.len(), ptr(new), new.len(), ptr(hints),
-                hints.len(),
-            )
-        })
+    pub fn narrow(mut self, km0: &[u8], acl: &[u8], req: &[u8], new: &[u8], hints: &[u8]) -> (Ledger, Reply) {
+        let reply = self.narrow_in_place(km0, acl, req, new, hints);
+        (self, reply)
     }
 
     /// An expansion; if it is permitted the new ACL is in force.
-    pub fn expand(self, km0: &[u8], acl: &[u8], req: &[u8], new: &[u8]) -> (Ledger, Reply) {
-        told(unsafe {
-            akubolinfe_expand(self, ptr(km0), km0.len(), ptr(acl), acl.len(), ptr(req), req.len(), ptr(new), new.len())
-        })
+    pub fn expand(mut self, km0: &[u8], acl: &[u8], req: &[u8], new: &[u8]) -> (Ledger, Reply) {
+        let reply = self.expand_in_place(km0, acl, req, new);
+        (self, reply)
     }
 }
 
@@ -309,29 +305,21 @@ impl Cabinet {
     }
 
     /// A request to a slot.
-    pub fn request(self, slot: usize, km0: &[u8], acl: &[u8], req: &[u8]) -> (Cabinet, Reply) {
-        kept(unsafe {
-            akubolinfe_cabinet_request(self, slot, ptr(km0), km0.len(), ptr(acl), acl.len(), ptr(req), req.len())
-        })
+    pub fn request(mut self, slot: usize, km0: &[u8], acl: &[u8], req: &[u8]) -> (Cabinet, Reply) {
+        let reply = self.request_in_place(slot, km0, acl, req);
+        (self, reply)
     }
 
     /// A narrowing in a slot; if it is permitted the new ACL is in force there.
-    pub fn narrow(self, slot: usize, km0: &[u8], acl: &[u8], req: &[u8], new: &[u8], hints: &[u8]) -> (Cabinet, Reply) {
-        kept(unsafe {
-            akubolinfe_cabinet_narrow(
-                self, slot, ptr(km0), km0.len(), ptr(acl), acl.len(), ptr(req), req.len(), ptr(new), new.len(), ptr(hints),
-                hints.len(),
-            )
-        })
+    pub fn narrow(mut self, slot: usize, km0: &[u8], acl: &[u8], req: &[u8], new: &[u8], hints: &[u8]) -> (Cabinet, Reply) {
+        let reply = self.narrow_in_place(slot, km0, acl, req, new, hints);
+        (self, reply)
     }
 
     /// An expansion in a slot; if it is permitted the new ACL is in force there.
-    pub fn expand(self, slot: usize, km0: &[u8], acl: &[u8], req: &[u8], new: &[u8]) -> (Cabinet, Reply) {
-        kept(unsafe {
-            akubolinfe_cabinet_expand(
-                self, slot, ptr(km0), km0.len(), ptr(acl), acl.len(), ptr(req), req.len(), ptr(new), new.len(),
-            )
-        })
+    pub fn expand(mut self, slot: usize, km0: &[u8], acl: &[u8], req: &[u8], new: &[u8]) -> (Cabinet, Reply) {
+        let reply = self.expand_in_place(slot, km0, acl, req, new);
+        (self, reply)
     }
 }
 
@@ -542,5 +530,57 @@ impl Cabinet {
     /// An expansion in a slot in place; if it is permitted the new ACL is in force there.
     pub fn expand_in_place(&mut self, slot: usize, km0: &[u8], acl: &[u8], req: &[u8], new: &[u8]) -> Reply {
         self.lent(slot).map_or(NO_SLOT, |l| l.expand(km0, acl, req, new))
+    }
+}
+
+/// The same steps by the functions that C programs call, which take ledger or cabinet whole and hand it back. The methods reply the same and leave
+/// the same: a value that a method was given is the method's own, to be charged where it stands, and is copied less.
+pub mod by_value {
+    use super::*;
+
+    pub fn request(ledger: Ledger, km0: &[u8], acl: &[u8], req: &[u8]) -> (Ledger, Reply) {
+        told(unsafe { akubolinfe_request(ledger, ptr(km0), km0.len(), ptr(acl), acl.len(), ptr(req), req.len()) })
+    }
+
+    pub fn narrow(ledger: Ledger, km0: &[u8], acl: &[u8], req: &[u8], new: &[u8], hints: &[u8]) -> (Ledger, Reply) {
+        told(unsafe {
+            akubolinfe_narrow(
+                ledger, ptr(km0), km0.len(), ptr(acl), acl.len(), ptr(req), req.len(), ptr(new), new.len(), ptr(hints),
+                hints.len(),
+            )
+        })
+    }
+
+    pub fn expand(ledger: Ledger, km0: &[u8], acl: &[u8], req: &[u8], new: &[u8]) -> (Ledger, Reply) {
+        told(unsafe {
+            akubolinfe_expand(ledger, ptr(km0), km0.len(), ptr(acl), acl.len(), ptr(req), req.len(), ptr(new), new.len())
+        })
+    }
+
+    pub fn cabinet_request(cabinet: Cabinet, slot: usize, km0: &[u8], acl: &[u8], req: &[u8]) -> (Cabinet, Reply) {
+        kept(unsafe {
+            akubolinfe_cabinet_request(cabinet, slot, ptr(km0), km0.len(), ptr(acl), acl.len(), ptr(req), req.len())
+        })
+    }
+
+    pub fn cabinet_narrow(
+        cabinet: Cabinet, slot: usize, km0: &[u8], acl: &[u8], req: &[u8], new: &[u8], hints: &[u8],
+    ) -> (Cabinet, Reply) {
+        kept(unsafe {
+            akubolinfe_cabinet_narrow(
+                cabinet, slot, ptr(km0), km0.len(), ptr(acl), acl.len(), ptr(req), req.len(), ptr(new), new.len(),
+                ptr(hints), hints.len(),
+            )
+        })
+    }
+
+    pub fn cabinet_expand(
+        cabinet: Cabinet, slot: usize, km0: &[u8], acl: &[u8], req: &[u8], new: &[u8],
+    ) -> (Cabinet, Reply) {
+        kept(unsafe {
+            akubolinfe_cabinet_expand(
+                cabinet, slot, ptr(km0), km0.len(), ptr(acl), acl.len(), ptr(req), req.len(), ptr(new), new.len(),
+            )
+        })
     }
 }

@@ -1,13 +1,13 @@
 // Answers a replay script (docs/REPLAY.md) through the C surface, so that the linked library can be compared with the second
-// program: `second/compare` takes it in the place of the replay program. A run is made in a slot of a cabinet as well, and a request, a
-// narrowing and an expansion in place as well; this program ends where that differs. With `--cfg ordinary` it answers through the ordinary Rust program of bench/ordinary instead, which has neither
-// cabinet nor listings nor trimming tool nor runs.
+// program: `second/compare` takes it in the place of the replay program. A request, a narrowing and an expansion are made in place and
+// by value, a run on a ledger and in a slot of a cabinet, and this program ends where the two differ. With `--cfg ordinary` it answers
+// through the ordinary Rust program of bench/ordinary instead, which has neither cabinet nor listings nor trimming tool nor runs.
 #[cfg_attr(ordinary, path = "../../bench/ordinary/mod.rs")]
 mod akubolinfe;
 
 use akubolinfe::{assess, write_subject, Ledger, Reply, Verdict};
 #[cfg(not(ordinary))]
-use akubolinfe::{prepare, read_listing, trim, write_listing, Cabinet, Certificate, Form, NotListed, NotTrimmed, Slot};
+use akubolinfe::{by_value, prepare, read_listing, trim, write_listing, Cabinet, Certificate, Form, NotListed, NotTrimmed, Slot};
 use std::io::{Read, Write};
 
 // The rest of a script.
@@ -198,13 +198,6 @@ fn batch(s: &mut Script, ledger: &mut Ledger, f: Option<Form>) -> Option<String>
     })
 }
 
-// A step made in place has to reply as the step by value, and to leave what that hands back.
-#[cfg(not(ordinary))]
-fn same_in_place<T: Copy + PartialEq>(before: T, (after, reply): (T, Reply), step: impl FnOnce(&mut T) -> Reply) {
-    let mut left = before;
-    assert!(step(&mut left) == reply && left == after, "in place");
-}
-
 // What a request, a narrowing and an expansion are lent: KM0, the ACL and the request; the new ACL and the hints, where they belong to the letter.
 struct Lent {
     km0: Vec<u8>,
@@ -221,7 +214,7 @@ fn lent(letter: u8, s: &mut Script) -> Option<Lent> {
     Some(Lent { km0, acl, req, new, hints })
 }
 
-// A request, a narrowing or an expansion, and the same in place.
+// A request, a narrowing or an expansion, which is made in place; by value it has to reply the same and to hand the same back.
 fn asked(letter: u8, s: &mut Script, ledger: Ledger) -> Option<(Ledger, Reply)> {
     let Lent { km0, acl, req, new, hints } = &lent(letter, s)?;
     let outcome = match letter {
@@ -230,11 +223,13 @@ fn asked(letter: u8, s: &mut Script, ledger: Ledger) -> Option<(Ledger, Reply)> 
         _ => ledger.expand(km0, acl, req, new),
     };
     #[cfg(not(ordinary))]
-    same_in_place(ledger, outcome, |l| match letter {
-        b'R' => l.request_in_place(km0, acl, req),
-        b'N' => l.narrow_in_place(km0, acl, req, new, hints),
-        _ => l.expand_in_place(km0, acl, req, new),
-    });
+    let whole = match letter {
+        b'R' => by_value::request(ledger, km0, acl, req),
+        b'N' => by_value::narrow(ledger, km0, acl, req, new, hints),
+        _ => by_value::expand(ledger, km0, acl, req, new),
+    };
+    #[cfg(not(ordinary))]
+    assert!(outcome == whole, "by value");
     Some(outcome)
 }
 
@@ -247,11 +242,12 @@ fn asked_in_slot(letter: u8, s: &mut Script, cabinet: Cabinet, slot: usize) -> O
         b'n' => cabinet.narrow(slot, km0, acl, req, new, hints),
         _ => cabinet.expand(slot, km0, acl, req, new),
     };
-    same_in_place(cabinet, outcome, |c| match letter {
-        b'r' => c.request_in_place(slot, km0, acl, req),
-        b'n' => c.narrow_in_place(slot, km0, acl, req, new, hints),
-        _ => c.expand_in_place(slot, km0, acl, req, new),
-    });
+    let whole = match letter {
+        b'r' => by_value::cabinet_request(cabinet, slot, km0, acl, req),
+        b'n' => by_value::cabinet_narrow(cabinet, slot, km0, acl, req, new, hints),
+        _ => by_value::cabinet_expand(cabinet, slot, km0, acl, req, new),
+    };
+    assert!(outcome == whole, "by value");
     Some(outcome)
 }
 
