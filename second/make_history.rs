@@ -47,7 +47,7 @@ impl Maker {
                     course.history.events.push(Event::Clear { counter });
                 }
                 _ => {
-                    let time = course.ledger.last_time + self.random.below(5);
+                    let time = course.ledger.last_time.wrapping_add(self.random.below(5));
                     course.ledger = course.ledger.loaded(time);
                     course.history.events.push(Event::Load { time });
                 }
