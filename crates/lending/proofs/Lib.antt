@@ -1,2 +1,3 @@
 pub mod Lends
 pub mod Whole
+pub mod Decoding

@@ -4,14 +4,15 @@ ghost use mathlib.Core.Path.{_≡_};
 ghost use Prim.Native.Nat.{_+_, _≤_};
 ghost use mathlib.Core.List.{List};
 ghost use lib.ListN.{length, take};
-ghost use Rattle.rules.specs.Sizes.{certificatesMax};
+ghost use Rattle.rules.specs.Sizes.{hashBytes, certificatesMax};
 ghost use Rattle.rules.specs.Request as rules;
 ghost use Rattle.rules.specs.Runs.{run};
 ghost use Rattle.rules.specs.Prepared.{preparedRun};
 ghost use Rattle.gate.specs.Outcomes.{ledgerAs};
 ghost use Rattle.prepared.specs.Forms.{formAs};
-ghost use Rattle.row.specs.Rows.{rowAs};
+ghost use Rattle.row.specs.Rows.{certificateAs, rowAs};
 ghost use Rattle.runs.specs.Judged.{runOutcomeAs};
+ghost use Rattle.lending.specs.Given.{givenAt, rowGiven, lentOf};
 use gate::Ledger;
 use prepared::Prepared;
 use row::Certificate;
@@ -25,8 +26,10 @@ const CERTIFICATE: usize = sizes::HASH + 2;
 // get the answer of the whole row: the theorems `run-long-row` and `prepared-run-long-row`, which the contracts of the functions that lend rest on.
 const LENT: usize = sizes::CERTIFICATES + 1;
 
+// The hash at the front of some bytes.
 fn hash_of(bytes: &[u8]) -> [u8; sizes::HASH]
     requires { ⌜ 20 ≤ length (now bytes) ⌝ }
+    ensures { λ r. ⌜ r ≡ take hashBytes (now (bytes .entry)) ⌝ }
 {
     let mut hash = [0u8; sizes::HASH];
     let mut i = 0;
@@ -40,6 +43,7 @@ fn hash_of(bytes: &[u8]) -> [u8; sizes::HASH]
 // The certificate at the front of some bytes.
 fn certificate_of(bytes: &[u8]) -> Certificate
     requires { ⌜ 22 ≤ length (now bytes) ⌝ }
+    ensures { λ r. ⌜ certificateAs r ≡ givenAt (now (bytes .entry)) 0 ⌝ }
 {
     let hash = hash_of(bytes);
     Certificate {
@@ -49,7 +53,9 @@ fn certificate_of(bytes: &[u8]) -> Certificate
 }
 
 // The certificates of a row that are lent, blank ones behind them.
-fn decoded(bytes: &[u8]) -> [Certificate; LENT] {
+fn decoded(bytes: &[u8]) -> [Certificate; LENT]
+    ensures { λ r. ⌜ rowAs (take (length (lentOf (now (bytes .entry)))) r) ≡ lentOf (now (bytes .entry)) ⌝ }
+{
     let blank = Certificate {
         hash: [0u8; sizes::HASH],
         mechanism: 0,
@@ -68,7 +74,7 @@ fn decoded(bytes: &[u8]) -> [Certificate; LENT] {
 
 // How many of a row are lent.
 fn lent(bytes: &[u8]) -> usize
-    ensures { λ r. ⌜ r ≤ 33 ⌝ }
+    ensures { λ r. ⌜ (r ≡ length (lentOf (now (bytes .entry)))) × (r ≤ 33) ⌝ }
 {
     let n = bytes.len() / CERTIFICATE;
     if LENT < n {
@@ -118,7 +124,9 @@ pub fn run(
     row: &[u8],
     requests: &[u8],
     answers: &mut [u8],
-) -> RunOutcome {
+) -> RunOutcome
+    ensures { λ r. ⌜ runOutcomeAs r (now (answers .exit)) ≡ run (ledgerAs ledger) (now (km0 .entry)) (now (acl .entry)) (rowGiven (now (row .entry))) (now (requests .entry)) (now (answers .entry)) ⌝ }
+{
     run_lent(ledger, km0, acl, decoded(row), lent(row), requests, answers)
 }
 
@@ -131,7 +139,9 @@ pub fn prepared_run(
     form: Prepared,
     requests: &[u8],
     answers: &mut [u8],
-) -> RunOutcome {
+) -> RunOutcome
+    ensures { λ r. ⌜ runOutcomeAs r (now (answers .exit)) ≡ preparedRun (ledgerAs ledger) (now (km0 .entry)) (now (acl .entry)) (rowGiven (now (row .entry))) (formAs form) (now (requests .entry)) (now (answers .entry)) ⌝ }
+{
     prepared_run_lent(
         ledger,
         km0,

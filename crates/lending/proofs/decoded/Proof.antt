@@ -1,18 +1,22 @@
-use Prim.Native.Nat.{_-_, _≤_}
-use mathlib.Core.Path.{_≡_}
-use lib.ListN.{length}
+use Prim.Native.Nat.{_-_, _/_, _≤_}
+use mathlib.Core.Path.{_≡_, refl}
+use lib.ListN.{length, take}
+use Rattle.row.specs.Rows.{rowAs}
+use Rattle.lending.specs.Given.{firstGiven}
 use borrow.Author.Needs.{needs}
+use Rattle.lending.proofs.Decoding.{given-next, given-all, given-most}
 use Rattle.lending.proofs.decoded.Statement.{statement}
 use Rattle.lending.proofs.decoded.Tie as tie
 
 abbrev Inv-loop : tie.InvT-loop
-Inv-loop bytes row₀ i₀ row i = (length row ≡ 33) × (i ≤ 33)
+Inv-loop bytes row₀ i₀ row i = (length row ≡ 33) × (i ≤ 33) × (i ≤ length bytes / 22) × (rowAs (take i row) ≡ firstGiven bytes i)
 
 abbrev μ-loop : tie.MeasureT-loop
 μ-loop bytes row₀ i₀ row i = 33 - i
 
 loop-holds : tie.Need-loop-holds Inv-loop μ-loop
-loop-holds c = search needs
+unfolding firstGiven
+loop-holds c = (search needs, search needs, search needs, refl)
 
 mul-if1 : tie.Need-mul-if1 Inv-loop μ-loop
 mul-if1 c = search needs
@@ -21,7 +25,7 @@ add-if1 : tie.Need-add-if1 Inv-loop μ-loop
 add-if1 c = search needs
 
 returns : tie.Need-returns Inv-loop μ-loop
-returns c = search needs
+returns c = search (needs, given-all)
 
 mul-certificate-of : tie.Need-mul-certificate-of Inv-loop μ-loop
 mul-certificate-of c = search needs
@@ -51,10 +55,10 @@ loop-less : tie.Need-loop-less Inv-loop μ-loop
 loop-less c = search needs
 
 loop-again : tie.Need-loop-again Inv-loop μ-loop
-loop-again c = search needs
+loop-again c = (search needs, search needs, search needs, search (needs, given-next))
 
 returns-2 : tie.Need-returns-2 Inv-loop μ-loop
-returns-2 c = search needs
+returns-2 c = search (needs, given-most)
 
 pub decoded-spec : {M : Type 1} → statement M
 decoded-spec =

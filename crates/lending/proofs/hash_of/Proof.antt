@@ -1,18 +1,19 @@
 use Prim.Native.Nat.{_-_, _≤_}
-use mathlib.Core.Path.{_≡_}
-use lib.ListN.{length}
+use mathlib.Core.Path.{_≡_, refl}
+use lib.ListN.{length, take}
 use borrow.Author.Needs.{needs}
+use Rattle.lending.proofs.Decoding.{hash-next, hash-done}
 use Rattle.lending.proofs.hash_of.Statement.{statement}
 use Rattle.lending.proofs.hash_of.Tie as tie
 
 abbrev Inv-loop : tie.InvT-loop
-Inv-loop bytes hash₀ i₀ hash i = (length hash ≡ 20) × (i ≤ 20)
+Inv-loop bytes hash₀ i₀ hash i = (length hash ≡ 20) × (i ≤ 20) × (take i hash ≡ take i bytes)
 
 abbrev μ-loop : tie.MeasureT-loop
 μ-loop bytes hash₀ i₀ hash i = 20 - i
 
 loop-holds : tie.Need-loop-holds Inv-loop μ-loop
-loop-holds c = search needs
+loop-holds c = (search needs, search needs, refl)
 
 shared-slice-read-hash : tie.Need-shared-slice-read-hash Inv-loop μ-loop
 shared-slice-read-hash c = search needs
@@ -27,10 +28,10 @@ loop-less : tie.Need-loop-less Inv-loop μ-loop
 loop-less c = search needs
 
 loop-again : tie.Need-loop-again Inv-loop μ-loop
-loop-again c = search needs
+loop-again c = (search needs, search needs, search (needs, hash-next))
 
 returns : tie.Need-returns Inv-loop μ-loop
-returns c = search needs
+returns c = search (needs, hash-done)
 
 pub hash-of-spec : {M : Type 1} → statement M
 hash-of-spec =
