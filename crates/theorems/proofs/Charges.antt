@@ -113,7 +113,7 @@ request-charges l km0 acl req place s e =
     (g, t, rw (permit-comes l km0 acl req place g (r .1)) c)
 
 -- The counts that a narrowing carries: at a hint's place its source's, past the last hint zero.
-carried-at : (counts : List ℕ) (n : ℕ) (hints : List Hint) (i : ℕ) (h : Hint) → getElem? hints i ≡ some h → getD (map (λ (x : Hint). getD counts (x .source) 0) hints ++ replicate n 0) i 0 ≡ getD counts (h .source) 0
+pub carried-at : (counts : List ℕ) (n : ℕ) (hints : List Hint) (i : ℕ) (h : Hint) → getElem? hints i ≡ some h → getD (map (λ (x : Hint). getD counts (x .source) 0) hints ++ replicate n 0) i 0 ≡ getD counts (h .source) 0
 carried-at counts n [] i h e = absurd (never (cc))
 carried-at counts n (x ∷ xs) zero h e = let q : x ≡ h = cc in rw q
 carried-at counts n (x ∷ xs) (suc i) h e = carried-at counts n xs i h e

@@ -4,7 +4,7 @@ use Prim.Native.Nat.{ℕ, zero, suc, _+_, _-_, _≤_, _<_}
 use native.Mathlib.Omega.{arith}
 use mathlib.Core.Path.{_≡_, refl, sym, _∙_, ap}
 use mathlib.Core.Logic.{_≢_}
-use mathlib.Core.List.{List, [], _∷_, _++_, map}
+use mathlib.Core.List.{List, [], _∷_, map}
 use mathlib.Core.Option.{Option, none, some}
 use mathlib.Core.Bool.{Bool, true, false, false≢true}
 use lib.ListN.{length, getD, getElem?, set, replicate, length-set, length-replicate, length-append, length-map, List·getD-eq-default}
@@ -28,6 +28,7 @@ use Rattle.theorems.proofs.AclFile.{acl-bound}
 use Rattle.theorems.proofs.Hints.{limit-self}
 use Rattle.theorems.proofs.Calls.{Way, uses, reduces, expands, Permits, Comes, refuses, loads, zeroes, permits, comes}
 use Rattle.theorems.proofs.Counters.{raisedBy-length, reading, raisedBy-at}
+use Rattle.theorems.proofs.Charges.{carried-at}
 use Rattle.theorems.proofs.Narrowing.{all-every, limit-left, admits-source, certified-source, left-source, names-source}
 
 ruleset conj = (and-left, and-right, and-both)
@@ -178,7 +179,7 @@ sources-rise old low (n ∷ ns) (h ∷ hs) zero (suc j) x y e l p q =
 sources-rise old low (n ∷ ns) (h ∷ hs) (suc i) zero x y e l p q = absurd (omega arith)
 sources-rise old low (n ∷ ns) (h ∷ hs) (suc i) (suc j) x y e l p q = sources-rise old (suc (h .source)) ns hs i j x y (search conj) (omega arith) p q
 
--- an element of a mapped list, and of the carried counts
+-- an element of a mapped list, and what a list reads where an element stands
 mapped-at : {A B : Type 0} (f : A → B) (xs : List A) (i : ℕ) (y : B) → getElem? (map f xs) i ≡ some y → (x : A) × (getElem? xs i ≡ some x) × (f x ≡ y)
 mapped-at f [] i y e = absurd (never (cc))
 mapped-at f (x ∷ xs) zero y e = (x, refl, cc)
@@ -188,11 +189,6 @@ map-at : {A B : Type 0} (f : A → B) (xs : List A) (i : ℕ) (x : A) → getEle
 map-at f [] i x e = absurd (never (cc))
 map-at f (y ∷ ys) zero x e = let b : y ≡ x = cc in rw b
 map-at f (y ∷ ys) (suc i) x e = map-at f ys i x e
-
-carried-at : (f : Hint → ℕ) (hs : List Hint) (rest : List ℕ) (i : ℕ) (h : Hint) → getElem? hs i ≡ some h → getD (map f hs ++ rest) i 0 ≡ f h
-carried-at f [] rest i h e = absurd (never (cc))
-carried-at f (x ∷ xs) rest zero h e = let b : x ≡ h = cc in rw b
-carried-at f (x ∷ xs) rest (suc i) h e = carried-at f xs rest i h e
 
 getD-there : (xs : List ℕ) (i x : ℕ) → getElem? xs i ≡ some x → getD xs i 0 ≡ x
 getD-there [] i x e = absurd (never (cc))
@@ -240,7 +236,7 @@ narrowed-follows first a l gs os ns hs f e b =
         let o = f .origin (r .0 .source) (r .1) (r .3) in
         let w = map-at (λ h. getD os (h .source) 0) hs k (r .0) (r .2) in
         let c = getD-there os (r .0 .source) (o .0) (o .2) in
-        let z = carried-at (λ h. getD (l .counts) (h .source) 0) hs (replicate (groupsMax - length hs) 0) k (r .0) (r .2) in
+        let z = carried-at (l .counts) (groupsMax - length hs) hs k (r .0) (r .2) in
         (o .0, o .1, w ∙ ap some c, o .3, covers-narrow n (r .0 .actions) (r .1) (o .1) (r .4) (o .4), rw z (o .5))
 
 -- a clear and a load keep it following, too
