@@ -1,32 +1,23 @@
 -- Demand 2, the counters of the cabinet: from a fresh cabinet each named counter equals the permits charged, over all slots, to groups then naming it
 -- since it was last cleared, over every sequence of calls, each with the ACL that the host lends it then. Two wrong products that this rules out: a
 -- cabinet in which each slot has counters of its own, and one whose clear takes a slot's permits alone off the counter.
-use Prim.Native.Nat.{ℕ, _+_, _<_}
+use Prim.Native.Nat.{ℕ, _<_}
 use mathlib.Core.Path.{_≡_, refl, _∙_, ap}
 use mathlib.Core.List.{List, [], _∷_}
 use lib.ListN.{length, getD, length-replicate, getD-replicate}
 use Rattle.rules.specs.Sizes.{countersMax}
-use Rattle.rules.specs.Basics.{if_then_else_}
-use Rattle.rules.specs.Acl.{aclOf}
 use Rattle.rules.specs.Cabinet.{Cabinet, freshCabinet, ledgerAt, CabinetOutcome}
-use Rattle.theorems.specs.Demands.{clearing, outcome, chargedIn, namedBy, clears}
+use Rattle.theorems.specs.Demands.{clearing, outcome}
 use Rattle.theorems.specs.Cabinets.{CabinetCall, cabinetOutcome, cabinetAfter, cabinetAfterAll, lentIn, gateCall, cabinetCounted, cabinetTally}
-use Rattle.theorems.proofs.Counters.{called-counter}
+use Rattle.theorems.proofs.Counters.{Counts, called-counter}
 use Rattle.theorems.proofs.Slots.{Lands, to-slot, to-none, to-all, lands}
 
--- What an outcome has to do with a counter, and with the length of the table.
-abbrev CounterAfter : ℕ → Cabinet → CabinetCall → CabinetOutcome → Type 0
-CounterAfter counter c x r =
-    let n = getD (c .counters) counter 0 in
-    (getD (r .cabinet .counters) counter 0 ≡ (if clears counter (gateCall x) then 0 else if namedBy counter (chargedIn (aclOf (lentIn x)) (r .answer)) then n + 1 else n))
-    × (length (r .cabinet .counters) ≡ length (c .counters))
-
--- one call
-counter-after : (counter : ℕ) (c : Cabinet) (x : CabinetCall) → counter < countersMax → counter < length (c .counters) → CounterAfter counter c x (cabinetOutcome c x)
+-- What one call of the cabinet does to a counter.
+counter-after : (counter : ℕ) (c : Cabinet) (x : CabinetCall) → counter < countersMax → counter < length (c .counters) → Counts counter (lentIn x) (gateCall x) (cabinetOutcome c x .answer) (c .counters) (cabinetAfter c x .counters)
 unfolding outcome
 counter-after counter c x b h = pick x (cabinetOutcome c x) (lands c x)
   where
-    pick : (x : CabinetCall) (r : CabinetOutcome) → Lands c x r → CounterAfter counter c x r
+    pick : (x : CabinetCall) (r : CabinetOutcome) → Lands c x r → Counts counter (lentIn x) (gateCall x) (r .answer) (c .counters) (r .cabinet .counters)
     pick x r (to-slot k e d) = called-counter counter (record { ledger = ledgerAt c k; acl = lentIn x }) (gateCall x) b h
     pick x r (to-none k e d z) = rw (z counter b) (refl, refl)
     pick x r (to-all n) = called-counter counter (record { ledger = ledgerAt c 0; acl = [] }) (clearing n) b h
