@@ -7,7 +7,7 @@ use mathlib.Core.Logic.{_≢_}
 use mathlib.Core.List.{List, [], _∷_, map}
 use mathlib.Core.Option.{Option, none, some}
 use mathlib.Core.Bool.{Bool, true, false, false≢true}
-use lib.ListN.{length, getD, getElem?, set, replicate, length-set, length-replicate, length-append, length-map, List·getD-eq-default}
+use lib.ListN.{length, getD, getElem?, set, length-set, length-replicate, List·getD-eq-default}
 use lib.Seq.{getD-set-same, getD-set-other}
 use lib.Dec.{eqb, ltb}
 use borrow.Author.Tests.{eqb-true, eqb-false, leb-true, ltb-true, ltb-false, lt-ltb}
@@ -28,6 +28,7 @@ use Rattle.theorems.proofs.AclFile.{acl-bound}
 use Rattle.theorems.proofs.Hints.{limit-self}
 use Rattle.theorems.proofs.Calls.{Way, uses, reduces, expands, Permits, Comes, refuses, loads, zeroes, permits, comes}
 use Rattle.theorems.proofs.Counters.{raisedBy-length, reading, raisedBy-at}
+use Rattle.theorems.proofs.Tables.{carried-sized}
 use Rattle.theorems.proofs.Charges.{carried-at}
 use Rattle.theorems.proofs.Narrowing.{all-every, limit-left, admits-source, certified-source, left-source, names-source}
 
@@ -200,17 +201,12 @@ narrowed-follows first a l gs os ns hs f e b =
     record {
       load-time = f .load-time;
       counter-size = f .counter-size;
-      count-size =
-          length-append (map (λ h. getD (l .counts) (h .source) 0) hs) (replicate (groupsMax - length hs) 0)
-          ∙ sizes (length-map hs (λ h. getD (l .counts) (h .source) 0)) (length-replicate {A = ℕ} (groupsMax - length hs) 0);
+      count-size = carried-sized (l .counts) hs b;
       lower = f .lower;
       rising = rises;
       origin = λ k n d. narrowed-origin k n (narrows-at gs 0 ns hs k n e d);
     }
   where
-    sizes : {x y : ℕ} → x ≡ length hs → y ≡ groupsMax - length hs → x + y ≡ groupsMax
-    sizes p q = omega arith
-
     -- the origin of a hint's source
     from : (k : ℕ) (h : Hint) → getElem? hs k ≡ some h → (x : ℕ) × (getElem? os (h .source) ≡ some x)
     from k h d =
