@@ -12,7 +12,7 @@ use Rattle.desk.specs.declared.Protection.{Protection}
 use Rattle.desk.specs.declared.Protection.the-variants.{NotJudged, Module, Softcard, Cardset, NotKept}
 use Rattle.desk.specs.declared.Verdict.{Verdict}
 use Rattle.desk.specs.declared.Verdict.the-variants.{Accepted, Failed, Refused}
-use Rattle.desk.specs.Replies.{DeskReply, accepting, failing, refusing, protectionNumber, verdictAs}
+use Rattle.desk.specs.Replies.{Named, DeskReply, accepting, failing, refusing, protectionNumber, verdictAs, verdictFor}
 
 -- what each number and name stands for
 abbrev pub stepBack : rules.Step → Step
@@ -90,3 +90,21 @@ verdict-back (Refused r) = ap Refused (refusal-back r)
 
 pub determined : (v w : Verdict) → verdictAs v ≡ verdictAs w → v ≡ w
 determined v w e = sym (verdict-back v) ∙ ap verdictBack e ∙ verdict-back w
+
+-- And the other way: verdicts of the definitions that are told alike are the same, so that an acceptance by the code is one by the definition `desk`.
+abbrev acceptanceTold : Named → rules.Acceptance
+acceptanceTold n = if eqb (n .approach) 2 then rules.approach2 (record { protection = n .protection; recoverable = n .recoverable }) else rules.approach1
+
+abbrev verdictTold : DeskReply → rules.Verdict
+verdictTold (accepting n) = rules.accepted (acceptanceTold n)
+verdictTold (failing s) = rules.failed s
+verdictTold (refusing n) = rules.faulty n
+
+told-back : (v : rules.Verdict) → verdictTold (verdictFor v) ≡ v
+told-back (rules.accepted rules.approach1) = refl
+told-back (rules.accepted (rules.approach2 g)) = refl
+told-back (rules.failed s) = refl
+told-back (rules.faulty n) = refl
+
+pub verdict-told : (v w : rules.Verdict) → verdictFor v ≡ verdictFor w → v ≡ w
+verdict-told v w e = sym (told-back v) ∙ ap verdictTold e ∙ told-back w

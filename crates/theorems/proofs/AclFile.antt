@@ -1,20 +1,16 @@
--- Where the groups and actions of a sound ACL file come from: each is read off a record of that file which is well laid out; and there are at most as
--- many groups as the table has. Two wrong products that this rules out: a reader that makes up an action, and one that takes a malformed record for an
--- action.
-use Prim.Native.Nat.{_+_, _≤_}
-use native.Mathlib.Omega.{arith}
+-- Where the groups and actions of a sound ACL file come from: each is read off a record of that file which is well laid out. Two wrong products that this
+-- rules out: a reader that makes up an action, and one that takes a malformed record for an action.
 use mathlib.Core.Path.{_≡_, refl}
 use mathlib.Core.List.{List, [], _∷_}
 use mathlib.Core.Option.{Option, none}
 use mathlib.Core.Bool.{Bool, true, false, _&&_}
-use lib.ListN.{length}
 use lib.Dec.{eqb}
-use borrow.Author.Tests.{eqb-true, ltb-true}
-use Rattle.rules.specs.Sizes.{hashBytes, groupsMax}
+use borrow.Author.Tests.{eqb-true}
+use Rattle.rules.specs.Sizes.{hashBytes}
 use Rattle.rules.specs.Basics.{Bytes, Every, part, number, kind, flag, optional, scan}
 use Rattle.rules.specs.Layout.{groupLaidOut}
-use Rattle.rules.specs.Acl.{FileRule, Action, Group, actionOf, fileRuleNext, actionsOf, groupsOf, AclPlace, aclStart, actionLaidOut, actionInPlace, placedUnder, inPlace, hasRoomUnder, afterRecord, aclRecordFault, aclFaultUnder, aclFault}
-use Rattle.rules.proofs.Places.{aclFrom, record-in-place, record-has-room, not-due, same-count}
+use Rattle.rules.specs.Acl.{FileRule, Action, Group, actionOf, fileRuleNext, actionsOf, groupsOf, AclPlace, aclStart, actionLaidOut, actionInPlace, placedUnder, inPlace, afterRecord, aclRecordFault, aclFaultUnder, aclFault}
+use Rattle.rules.proofs.Places.{aclFrom, record-in-place, not-due}
 use Rattle.rules.proofs.Laws.{and-left, orNext-first, orNext-next}
 
 module _ (P : Bytes → Type 0) where
@@ -64,25 +60,3 @@ module _ (P : Bytes → Type 0) where
   pub acl-read : (rs : List Bytes) → aclFault rs ≡ none → Every P rs → Every GroupRead (groupsOf rs)
   unfolding aclFaultUnder
   acl-read rs e h = groups-read aclStart rs e h
-
--- Of a file without fault there are at most as many groups as the table has.
-groups-bound : (s : AclPlace) (rs : List Bytes) → aclFrom s rs ≡ none → s .groups ≤ groupsMax → s .groups + length (groupsOf rs) ≤ groupsMax
-unfolding scan groupsOf afterRecord hasRoomUnder
-groups-bound s [] e h = omega arith
-groups-bound s (r ∷ rs) e h =
-    pick (eqb (kind r) 1) refl (orNext-first (aclRecordFault s r) _ e) (groups-bound (afterRecord s r) rs (orNext-next (aclRecordFault s r) _ e))
-  where
-    pick : (b : Bool) → eqb (kind r) 1 ≡ b → aclRecordFault s r ≡ none → (afterRecord s r .groups ≤ groupsMax → afterRecord s r .groups + length (groupsOf rs) ≤ groupsMax) → s .groups + length (groupsOf (r ∷ rs)) ≤ groupsMax
-    pick true q d f =
-        let below = ltb-true (s .groups) groupsMax (rw q at (record-has-room s r d)) in
-        let g : s .groups + 1 ≤ groupsMax → s .groups + 1 + length (groupsOf rs) ≤ groupsMax = rw q at f in
-        let z = g (omega arith) in
-        rw q (omega arith)
-    pick false q d f =
-        let g = same-count s r q in
-        let z : s .groups + length (groupsOf rs) ≤ groupsMax = rw g at (f (rw g h)) in
-        rw q z
-
-pub acl-bound : (rs : List Bytes) → aclFault rs ≡ none → length (groupsOf rs) ≤ groupsMax
-unfolding aclFaultUnder
-acl-bound rs e = let r = groups-bound aclStart rs e (omega arith) in omega (arith, r)

@@ -31,8 +31,8 @@ use Rattle.rules.proofs.Joined.{Whole, joined-records, joined-fits, fits-joined
 use Rattle.rules.proofs.Written.{joined-octets, records-octets}
 use Rattle.rules.proofs.Trim.{trimmed-whole, trimmed-few, roomy, fault-refused, fault-step, fault-short, fault-none}
 use Rattle.theorems.proofs.Hints.{kept-self, kept-number-self, action-self, StandsAt, stands-here, stands-next, all-zero, limits-self}
-use Rattle.theorems.proofs.Permit.{Permitted, narrow-comes}
-use Rattle.theorems.proofs.AclFile.{acl-bound}
+use Rattle.theorems.proofs.Permit.{Permitted, narrow-needs, narrow-comes}
+use Rattle.theorems.proofs.AclSizes.{acl-fits}
 use Rattle.theorems.proofs.TrimmedAcl.{every-fault-none, trimmed-acl-sound, same-groups, trimmed-passes, passing-untouched, hints-sound, hints-many, trimmed-octets, hints-octets}
 
 ruleset conj = (and-left, and-right, and-both)
@@ -89,6 +89,10 @@ all-none : (t : Bool) → t ≡ true → (u : Option ℕ) → u ≡ none → (v 
 unfolding firstFault
 all-none t a u b v c w d x e = rw (a, b, c, d, e)
 
+both-none : (t : Bool) → t ≡ true → (u : Option ℕ) → u ≡ none → firstFault (unless t badLength ∷ u ∷ []) ≡ none
+unfolding firstFault
+both-none t p u q = rw (p, q)
+
 -- The trimmed ACL and its hints, of an ACL file without fault. b is any bundle's records.
 module _ (b : List Bytes) (acl : Bytes) (fit : fits aclRecords acl ≡ true) (sound : aclFault (records acl) ≡ none) where
   trimmed-records : records (trimmedAcl b acl) ≡ trimmedFrom b false true (records acl)
@@ -121,7 +125,7 @@ module _ (b : List Bytes) (acl : Bytes) (fit : fits aclRecords acl ≡ true) (so
   unfolding trimHints aclFaultUnder
   hints-fit =
       let m = hints-many b 0 (records acl) in
-      let l = acl-bound (records acl) sound in
+      let l = acl-fits acl sound .groups in
       joined-fits hintRecords (hintsFrom b 0 (records acl)) (every-map (λ h. Whole h × (hintRecord h ≡ true)) Whole (hintsFrom b 0 (records acl)) (λ h k. k .0) (hints-sound b 0 aclStart (records acl) sound)) (omega arith)
 
   pub hints-no-fault : hintsFault (records (trimHints b acl)) ≡ none
@@ -187,6 +191,15 @@ module _ (b : List Bytes) (acl : Bytes) (fit : fits aclRecords acl ≡ true) (so
 
       p′ : Permitted (narrowFiles km0 acl req (trimmedAcl b acl) (trimHints b acl)) l km0 (aclOf acl) (requestOf req) k g
       p′ = record { files = files; inTime = p .inTime; lowestGroup = p .lowestGroup }
+
+  -- .. short: whatever narrowing of the old ACL the gate takes with this request, it takes this one, by the same group
+  pub gate-takes : (l : Ledger) (km0 req new hints : Bytes) (k : ℕ) → narrow l km0 acl req new hints .answer ≡ permit k
+      → narrow l km0 acl req (trimmedAcl b acl) (trimHints b acl) .answer ≡ permit k
+  gate-takes l km0 req new hints k e =
+      let r = narrow-needs l km0 acl req new hints k e in
+      let h = fault-none-every _ (r .1 .files) in
+      let a : lengthsFit km0 acl req ≡ true = and-left (lengthsFit km0 acl req) (fits aclRecords new) (and-left (lengthsFit km0 acl req && fits aclRecords new) (fits hintRecords hints) (unless-passed (lengthsFit km0 acl req && fits aclRecords new && fits hintRecords hints) badLength (h .0))) in
+      gate-accepts l km0 req k (r .0) (record { files = both-none (lengthsFit km0 acl req) a (requestFault (useOf reduceAcl) (records req)) (h .1 .1 .0); inTime = r .1 .inTime; lowestGroup = r .1 .lowestGroup })
 
 -- The reply and the buffers. The ways that the tool ends: as the desk refuses, at a step before the ACL, with 9, or with both results written.
 module _ (bundle acl aclBuffer hintBuffer : Bytes) where

@@ -12,7 +12,7 @@ use lib.Seq.{getD-set-same, getD-set-other}
 use lib.Dec.{eqb, ltb}
 use borrow.Author.Tests.{eqb-true, eqb-false, leb-true, ltb-true, ltb-false, lt-ltb}
 use Rattle.rules.specs.Sizes.{groupsMax, countersMax, fullCount}
-use Rattle.rules.specs.Basics.{Bytes, Every, records}
+use Rattle.rules.specs.Basics.{Bytes, Every}
 use Rattle.rules.specs.Acl.{Limit, Group, aclOf}
 use Rattle.rules.specs.Request.{Request, Hint, hintsOf}
 use Rattle.rules.specs.Ledger.{Ledger, raisedBy, charge, loadedAt, cleared, recounted, carried}
@@ -24,7 +24,7 @@ use Rattle.theorems.specs.Account.{requestAsked, km0Given, PutDownTo, Pu
 use Rattle.rules.proofs.Laws.{never, and-left, and-right, and-both, every-map}
 use Rattle.theorems.proofs.Lists.{there-below, zero-at, every-all}
 use Rattle.rules.proofs.Forms.{KnownUse}
-use Rattle.theorems.proofs.AclFile.{acl-bound}
+use Rattle.theorems.proofs.AclSizes.{acl-fits}
 use Rattle.theorems.proofs.Hints.{limit-self}
 use Rattle.theorems.proofs.Calls.{Way, uses, reduces, expands, Permits, Comes, refuses, loads, zeroes, permits, comes}
 use Rattle.theorems.proofs.Counters.{raisedBy-length, reading, raisedBy-at}
@@ -282,7 +282,7 @@ module _ (first : List Group) where
     put-permit c k g counts p go =
         let q = requestAsked c in
         let o = f .origin k g (p .there) in
-        let b = acl-bound (records (s .acl)) (p .sound .file) in
+        let b = acl-fits (s .acl) (p .sound .file) .groups in
         let m = there-below (aclOf (s .acl)) k g (p .there) in (
           o .0,
           o .1,
