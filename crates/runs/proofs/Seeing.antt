@@ -24,7 +24,6 @@ use Rattle.rules.proofs.Sets.{set-alike}
 use Rattle.rules.proofs.GroupSets.{sets-judge}
 use Rattle.rules.proofs.Asking.{Sound, ask-gate, run-sound, asked-alike}
 use Rattle.theorems.proofs.AclSizes.{acl-fits}
-use Rattle.theorems.proofs.Prepared.{prepared-run}
 use Rattle.row.specs.declared.Seen.{Seen}
 use Rattle.row.specs.Rows.{certifiedIn, certifiedSet, readableOf, Saw}
 use Rattle.choosing.specs.Deciding.{admittingSet, setJudge, askSets}
@@ -83,9 +82,9 @@ run-seen l km0 acl row s requests buffer w = rw (seen-fault runRecords km0 acl r
 -- ---- on a prepared ACL
 pub prepared-seen : (l : Ledger) (km0 acl : Bytes) (row : List Certificate) (s : Seen) (f : Form) (requests buffer : Bytes) → Saw s acl row
     → preparedSeen l km0 acl s f requests buffer ≡ preparedRun l km0 acl row f requests buffer
-unfolding preparedSeen preparedFault
+unfolding preparedSeen preparedFault preparedRun
 prepared-seen l km0 acl row s f requests buffer w =
-    rw (seen-fault preparedRecords km0 acl row s requests buffer w) (pick (preparedFault km0 acl row f requests buffer) refl) ∙ sym (prepared-run l km0 acl row f requests buffer (w .decoded))
+    rw (seen-fault preparedRecords km0 acl row s requests buffer w) (pick (preparedFault km0 acl row f requests buffer) refl)
   where
     pick : (o : Option ℕ) → preparedFault km0 acl row f requests buffer ≡ o
         → runEnd l requests buffer o (askedInOrder (askSets km0 (aclOf acl) (s .certified)) l (records requests)) ≡ runEnd l requests buffer o (askedInOrder (askGate km0 acl row) l (records requests))

@@ -12,7 +12,7 @@ use lib.Dec.{eqb, ltb}
 use borrow.Author.Tests.{lt-ltb, le-ltb, eqb-false}
 use Rattle.rules.specs.Sizes.{slotsMax, runRecords}
 use Rattle.rules.specs.Numbers.{noSlot}
-use Rattle.rules.specs.Basics.{Bytes, Every, records}
+use Rattle.rules.specs.Basics.{Bytes, records}
 use Rattle.rules.specs.Request.{Certificate}
 use Rattle.rules.specs.Ledger.{Ledger}
 use Rattle.rules.specs.Runs.{withRow, askGate, bytesOfAnswer, Ran, askedInOrder, requestsIn, runFault, RunOutcome, ran, refusedWhole, runEnd, run}
@@ -20,11 +20,9 @@ use Rattle.rules.specs.Prepared.{Form, preparedFault, preparedRun}
 use Rattle.rules.specs.Cabinet.{Slot, Cabinet, countsAndTimes, emptySlot, slotAt, ledgerAt, putBack}
 use Rattle.rules.specs.CabinetRuns.{runInSlot, cabinetRun, cabinetPreparedRun}
 use Rattle.rules.proofs.Laws.{never}
-use Rattle.rules.proofs.Asking.{Decoded}
 use Rattle.theorems.specs.Demands.{outcome}
 use Rattle.theorems.specs.Cabinets.{CabinetCall, requestingAt, cabinetOutcome, cabinetAfter, cabinetAfterAll}
 use Rattle.theorems.proofs.Slots.{inside, as-the-gate, slots-kept, put-back}
-use Rattle.theorems.proofs.Prepared.{prepared-run}
 
 -- the answers of a sequence of calls, eight bytes each
 unfoldable pub answersOf : Cabinet → List CabinetCall → Bytes
@@ -79,11 +77,11 @@ module _ (slot : ℕ) (km0 acl : Bytes) (row : List Certificate) where
     unfolding cabinetRun run
     slot-run c requests buffer n e = ended c requests buffer n (run (ledgerAt c slot) km0 acl row requests buffer) (rw e)
 
-    pub slot-prepared-run : (c : Cabinet) (f : Form) (requests buffer : Bytes) → length (c .slots) ≡ slotsMax → Every Decoded row → preparedFault km0 acl row f requests buffer ≡ none
+    pub slot-prepared-run : (c : Cabinet) (f : Form) (requests buffer : Bytes) → length (c .slots) ≡ slotsMax → preparedFault km0 acl row f requests buffer ≡ none
         → cabinetPreparedRun c slot km0 acl row f requests buffer
         ≡ record { reply = ran (requestsIn requests); cabinet = cabinetAfterAll c (callsOf requests); buffer = answersOf c (callsOf requests) ++ drop (length (answersOf c (callsOf requests))) buffer }
-    unfolding cabinetPreparedRun
-    slot-prepared-run c f requests buffer n d e = ended c requests buffer n (preparedRun (ledgerAt c slot) km0 acl row f requests buffer) (prepared-run (ledgerAt c slot) km0 acl row f requests buffer d ∙ rw e)
+    unfolding cabinetPreparedRun preparedRun
+    slot-prepared-run c f requests buffer n e = ended c requests buffer n (preparedRun (ledgerAt c slot) km0 acl row f requests buffer) (rw e)
 
 -- "13, first of all"
 pub slot-run-13 : (c : Cabinet) (slot : ℕ) (buffer : Bytes) (o : RunOutcome) → slotsMax ≤ slot → runInSlot c slot buffer o ≡ record { reply = refusedWhole noSlot; cabinet = c; buffer = buffer }

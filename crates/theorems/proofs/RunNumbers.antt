@@ -14,7 +14,7 @@ use Rattle.rules.specs.Acl.{aclOf, aclFault}
 use Rattle.rules.specs.Request.{Certificate}
 use Rattle.rules.specs.Ledger.{Ledger}
 use Rattle.rules.specs.Runs.{withRow, askGate, Ran, askedInOrder, requestsIn, runLengthsFit, mechanismNamed, runFault, refusedWhole, runEnd, run}
-use Rattle.rules.specs.Prepared.{Form, formOf, sameForm, askForm, unprepared, preparationUnless, prepare, preparedFault, preparedRun}
+use Rattle.rules.specs.Prepared.{Form, formOf, sameForm, unprepared, preparationUnless, prepare, preparedFault, preparedRun}
 use Rattle.rules.proofs.Laws.{never}
 use Rattle.theorems.specs.Demands.{oneOf}
 use Rattle.theorems.proofs.Refusals.{FaultIn, unless-in, first-in, acl-in, RefusalIn, requestNumbers, fileNumbers, request-number}
@@ -58,7 +58,7 @@ pub prepared-number : (l : Ledger) (km0 acl : Bytes) (row : List Certificate) (f
 unfolding preparedRun preparedFault oneOf any
 prepared-number l km0 acl row f requests buffer n e =
     let ns = preparedNumbers in
-    refused-fault ns l requests buffer (preparedFault km0 acl row f requests buffer) (askedInOrder (askForm f km0 (aclOf acl) row) l (records requests))
+    refused-fault ns l requests buffer (preparedFault km0 acl row f requests buffer) (askedInOrder (askGate km0 acl row) l (records requests))
     (first-in ns _ (run-fault-in ns refl refl refl refl refl preparedRecords km0 acl row requests buffer, (unless-in ns (sameForm f (formOf (aclOf acl))) otherForm refl, tt))) n e
 
 -- The making of a form: the ACL's 1, 2, 3 and 12.
