@@ -10,12 +10,14 @@ use borrow.Author.Tests.{eq-eqb, ne-eqb, not-true, not-false}
 use lib.ListN.{length, take, drop, getD}
 use lib.Pow.{pow-mono}
 use lib.Dec.{eqb}
+use Rattle.rules.specs.Sizes.{chainMax}
 use Rattle.rules.specs.Basics.{if_then_else_, Bytes, any, same, bit, part, number, byte, kind, flag, optional, matchesNumber, records}
 use Rattle.rules.specs.Acl.{groupOf}
 use Rattle.rules.specs.Request.{BlobFile, blobFileNext, wantedOf, Certificate, certificateOf, certificatesOf, Delegation, delegationOf, delegationsOf, Request, requestOf}
-use Rattle.rules.specs.Chain.{serves, startsAt, holds, continues, chained, delegated, vouched}
+use Rattle.rules.specs.Chain.{serves, holds, chained, delegated, vouched}
 use Rattle.rules.specs.Grant.{certified}
 use Rattle.request.specs.Parts.{Parted}
+use Rattle.chains.specs.Levels.{startsAt, continues}
 use Rattle.rules.proofs.Rows.{wanted-first, recordsFrom, rows-lent, rows-end, lentRecord, lent-record, kind-at}
 
 -- no number of sixteen bits has a bit past the sixteenth
@@ -110,7 +112,7 @@ module _ (rec : Bytes) (file : Option BlobFile) (k : Bytes) (m : Option ℕ) (cs
       pick true e = rw (ne-eqb (kind rec) 6 n, e)
       pick false e = rw (ne-eqb (kind rec) 6 n, e)
 
-  pub delegated-use : (r : Bool) → byte 0 rec ≡ 6 → r ≡ chained (byte 4 rec) k m cs ds → r ≡ delegated (wantedOf rec file) k m cs ds
+  pub delegated-use : (r : Bool) → byte 0 rec ≡ 6 → r ≡ chained chainMax (byte 4 rec) k m cs ds → r ≡ delegated (wantedOf rec file) k m cs ds
   unfolding delegated wantedOf
   delegated-use r e p = p ∙ sym (rw (eq-eqb (kind rec) 6 e))
 

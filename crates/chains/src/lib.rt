@@ -5,13 +5,14 @@ ghost use mathlib.Core.List.{[]};
 ghost use mathlib.Core.Option.{Option};
 ghost use Prim.Native.Nat.{_≤_};
 ghost use lib.ListN.{length};
-ghost use Rattle.rules.specs.Sizes.{recordBytes, hashBytes};
+ghost use Rattle.rules.specs.Sizes.{recordBytes, hashBytes, chainMax};
 ghost use Rattle.rules.specs.Basics.{if_then_else_, any, part, number, flag, optional, matchesNumber, records};
 ghost use Rattle.rules.specs.Acl.{groupOf};
 ghost use Rattle.rules.specs.Request.{BlobFile, wantedOf, certificateOf, certificatesOf, delegationOf, delegationsOf, requestOf};
-ghost use Rattle.rules.specs.Chain.{serves, anyIn, leadsTo, leadsToPresented, startsAt, holds, continues, nextLevel, chained, delegated};
+ghost use Rattle.rules.specs.Chain.{serves, holds, chained, delegated};
 ghost use Rattle.rules.specs.Grant.{certified};
 ghost use Rattle.request.specs.Parts.{Sound};
+ghost use Rattle.chains.specs.Levels.{anyIn, leadsTo, leadsToPresented, startsAt, continues, nextLevel};
 
 // Whether a delegation leads to a key.
 fn leads_to(key: &[u8], del: &[u8]) -> bool
@@ -180,7 +181,7 @@ fn one_leads_to_presented(set: u64, group: &[u8], certs: &[u8], dels: &[u8]) -> 
 // Whether a chain of at most four delegations leads from a group's certifier to a presented certificate: level by level, those that a chain may end with.
 fn has_chain(p: u8, group: &[u8], certs: &[u8], dels: &[u8]) -> bool
     requires { ⌜ (length (now group) ≡ recordBytes) × (length (now dels) ≤ 4032) ⌝ }
-    ensures { λ r. ⌜ r ≡ chained p (part 4 hashBytes (now (group .entry))) (optional (flag 1 (now (group .entry))) (number 24 2 (now (group .entry)))) (certificatesOf (records (now (certs .entry)))) (delegationsOf (records (now (dels .entry)))) ⌝ }
+    ensures { λ r. ⌜ r ≡ chained chainMax p (part 4 hashBytes (now (group .entry))) (optional (flag 1 (now (group .entry))) (number 24 2 (now (group .entry)))) (certificatesOf (records (now (certs .entry)))) (delegationsOf (records (now (dels .entry)))) ⌝ }
 {
     let key = &group[4..24];
     let mut ends = next_level(p, key, dels, 0);

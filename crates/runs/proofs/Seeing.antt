@@ -12,7 +12,7 @@ use Rattle.rules.specs.Sizes.{recordBytes, aclRecords, certificatesMax, runReco
 use Rattle.rules.specs.Basics.{Bytes, any, setOf, records, fits}
 use Rattle.rules.specs.Acl.{Group, aclOf}
 use Rattle.rules.specs.Request.{Wanted, operation, workingBlob, recoveryBlob, Certificate, wantedOf}
-use Rattle.rules.specs.Chain.{serves, anyIn, chained, delegated, vouched}
+use Rattle.rules.specs.Chain.{serves, chained, delegated, vouched}
 use Rattle.rules.specs.Ledger.{Ledger}
 use Rattle.rules.specs.Grant.{certified, certifiedBy}
 use Rattle.rules.specs.Gate.{judge}
@@ -31,7 +31,7 @@ use Rattle.runs.specs.Judged.{seenFault, runSeen, preparedSeen}
 
 -- ---- certified by the row, with no delegations
 undelegated : (w : Wanted) (k : Bytes) (m : Option ℕ) (row : List Certificate) → delegated w k m row [] ≡ false
-unfolding delegated chained anyIn
+unfolding delegated chained any
 undelegated (operation p) k m row = refl
 undelegated (workingBlob b f) k m row = refl
 undelegated (recoveryBlob b f) k m row = refl

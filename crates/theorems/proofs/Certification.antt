@@ -1,23 +1,21 @@
--- The gate's search finds a chain exactly where there is one. Two wrong products that this rules out: one that takes a chain of five delegations, and
+-- A group is certified exactly where a certificate or a chain is there for it. Two wrong products that this rules out: one that takes a chain of five delegations, and
 -- one that loses a chain because a record of it is repeated.
-use Prim.Native.Nat.{ℕ, zero, suc, _+_, _-_, _≤_}
+use Prim.Native.Nat.{ℕ, zero, suc, _≤_}
 use native.Mathlib.Omega.{arith}
-use native.Mathlib.Nat.{zero-add, suc-add}
 use mathlib.Core.Path.{_≡_, refl, sym, _∙_, subst}
 use mathlib.Core.Logic.{_↔_, _⊎_, inl, inr}
-use mathlib.Core.List.{List, [], _∷_, _++_}
+use mathlib.Core.List.{List, [], _∷_}
 use mathlib.Core.Option.{Option, none, some}
 use mathlib.Core.Bool.{Bool, true, false, _&&_, _||_, false≢true}
-use lib.ListN.{length, length-append}
+use lib.ListN.{length}
 use borrow.Author.Tests.{eqb-true, eq-eqb}
 use Rattle.rules.specs.Sizes.{chainMax}
 use Rattle.rules.specs.Basics.{Bytes, any, Every, same, bit, matchesNumber}
 use Rattle.rules.specs.Acl.{Group}
 use Rattle.rules.specs.Request.{Wanted, operation, workingBlob, recoveryBlob, Certificate, Delegation, Request}
-use Rattle.rules.specs.Chain.{serves, anyIn, leadsTo, leadsToPresented, startsAt, holds, continues, nextLevel, level, chained, delegated, vouched}
+use Rattle.rules.specs.Chain.{serves, holds, chained, delegated, vouched}
 use Rattle.rules.specs.Grant.{certified}
 use Rattle.rules.proofs.Laws.{never, and-left, and-right, and-both, or-cases, or-left, or-right, not-both, decided, every-at, any-here, same-eq, eq-same}
-use Rattle.rules.proofs.Sets.{any-in-set, any-in-none}
 use Rattle.theorems.specs.Demands.{byOfficer}
 use Rattle.theorems.specs.Certification.{Member, Presents, Leads, ChainPresents, UseChained, Vouched, Certified, Uncertified}
 
@@ -65,136 +63,59 @@ presents-is cs k m = (to-words, of-words)
         member-any (serves k m) cs c (s .presented)
         (and-both (same (c .hash) k) (matchesNumber m (c .mechanism)) (eq-same (c .hash) k (s .hash)) (named-mechanism m (c .mechanism) (s .mechanism)))
 
-module _ (p : ℕ) (ds : List Delegation) (k : Bytes) where
-  -- a delegation that may stand in a chain
-  abbrev Usable : Delegation → Type 0
-  Usable d = Member d ds × (bit p (d .mask) ≡ true)
-
-  -- A delegation that ends a chain of at most n from the key.
-  abbrev Ends : ℕ → Delegation → Type 0
-  Ends zero d = ⊥
-  Ends (suc n) d = Usable d × ((d .from ≡ k) ⊎ ((e : Delegation) × Ends n e × (e .to ≡ d .from)))
-
-  -- What the n-th level is: exactly these.
-  level-ends : (n : ℕ) (test : Delegation → Bool) → anyIn (level n p k ds) test ds ≡ true → (d : Delegation) × Ends n d × (test d ≡ true)
-  unfolding level nextLevel continues startsAt holds leadsTo
-  level-ends zero test e = absurd (not-both (anyIn 0 test ds) e (any-in-none test ds))
-  level-ends (suc n) test e =
-      let r = any-member (λ d. continues p k ds (level n p k ds) d && test d) ds (sym (any-in-set (continues p k ds (level n p k ds)) test ds) ∙ e) in
-      let d = r .0 in
-      let c : continues p k ds (level n p k ds) d ≡ true = and-left (continues p k ds (level n p k ds) d) (test d) (r .2) in (
-        d,
-        (
-          (r .1, and-left (bit p (d .mask)) _ c),
-          pick d (or-cases (same (d .from) k) (anyIn (level n p k ds) (leadsTo (d .from)) ds) (and-right (bit p (d .mask)) _ c)) (level-ends n (leadsTo (d .from))),
-        ),
-        and-right (continues p k ds (level n p k ds) d) (test d) (r .2),
-      )
-    where
-      pick : (d : Delegation) → (same (d .from) k ≡ true) ⊎ (anyIn (level n p k ds) (leadsTo (d .from)) ds ≡ true)
-          → (anyIn (level n p k ds) (leadsTo (d .from)) ds ≡ true → (e : Delegation) × Ends n e × (leadsTo (d .from) e ≡ true))
-          → (d .from ≡ k) ⊎ ((e : Delegation) × Ends n e × (e .to ≡ d .from))
-      pick d (inl x) f = inl (same-eq (d .from) k x)
-      pick d (inr x) f = let y = f x in inr (y .0, y .1, same-eq (y .0 .to) (d .from) (y .2))
-
-  ends-level : (n : ℕ) (test : Delegation → Bool) (d : Delegation) → Ends n d → test d ≡ true → anyIn (level n p k ds) test ds ≡ true
-  unfolding level nextLevel continues startsAt holds leadsTo
-  ends-level zero test d h t = absurd h
-  ends-level (suc n) test d h t =
-      any-in-set (continues p k ds (level n p k ds)) test ds
-      ∙ member-any (λ d. continues p k ds (level n p k ds) d && test d) ds d (h .0 .0)
-      (and-both (continues p k ds (level n p k ds) d) (test d) (and-both (bit p (d .mask)) _ (h .0 .1) (pick (h .1) (λ e. ends-level n (leadsTo (d .from)) e))) t)
-    where
-      pick : (d .from ≡ k) ⊎ ((e : Delegation) × Ends n e × (e .to ≡ d .from))
-          → ((e : Delegation) → Ends n e → leadsTo (d .from) e ≡ true → anyIn (level n p k ds) (leadsTo (d .from)) ds ≡ true)
-          → (same (d .from) k || anyIn (level n p k ds) (leadsTo (d .from)) ds) ≡ true
-      pick (inl x) f = or-left (same (d .from) k) (anyIn (level n p k ds) (leadsTo (d .from)) ds) (eq-same (d .from) k x)
-      pick (inr x) f = or-right (same (d .from) k) (anyIn (level n p k ds) (leadsTo (d .from)) ds) (f (x .0) (x .1) (eq-same (x .0 .to) (d .from) (x .2)))
-
-  -- .. and these are the ends of chains.
-  leads-on : (a : Bytes) (links : List Delegation) (d : Delegation) → Leads a links (d .from) → Leads a (links ++ (d ∷ [])) (d .to)
-  leads-on a [] d h = (sym h, refl)
-  leads-on a (x ∷ links) d h = (h .0, leads-on (x .to) links d (h .1))
-
-  every-on : (links : List Delegation) (d : Delegation) → Every Usable links → Usable d → Every Usable (links ++ (d ∷ []))
-  every-on [] d h u = (u, tt)
-  every-on (x ∷ links) d h u = (h .0, every-on links d (h .1) u)
-
-  -- the links of a chain of at most n to a key
-  record Linked (n : ℕ) (h : Bytes) : Type 0 where
+module _ (p : ℕ) (ds : List Delegation) where
+  -- the links of a chain of at most n from a key to a key
+  record Linked (n : ℕ) (k h : Bytes) : Type 0 where
     links : List Delegation
     any-links : 1 ≤ length links
     few-links : length links ≤ n
-    each : Every Usable links
+    each : Every (λ d. Member d ds × (bit p (d .mask) ≡ true)) links
     leads : Leads k links h
 
-  ends-linked : (n : ℕ) (d : Delegation) → Ends n d → Linked n (d .to)
-  ends-linked zero d h = absurd h
-  ends-linked (suc n) d h = pick (h .1) (λ e. ends-linked n e)
-    where
-      pick : (d .from ≡ k) ⊎ ((e : Delegation) × Ends n e × (e .to ≡ d .from)) → ((e : Delegation) → Ends n e → Linked n (e .to)) → Linked (suc n) (d .to)
-      pick (inl x) f = record { links = d ∷ []; any-links = omega arith; few-links = omega arith; each = (h .0, tt); leads = (x, refl) }
-      pick (inr x) f =
-          let y = f (x .0) (x .1) in
-          let l : Leads k (y .links) (d .from) = subst (Leads k (y .links)) (x .2) (y .leads) in
-          let s = length-append (y .links) (d ∷ []) in
-          record {
-            links = y .links ++ (d ∷ []);
-            any-links = omega (arith, s);
-            few-links = omega (arith, s, y .few-links);
-            each = every-on (y .links) d (y .each) (h .0);
-            leads = leads-on k (y .links) d l;
-          }
+  module _ (cs : List Certificate) (m : Option ℕ) where
+    -- the test of a chain's first link, where at most n may follow
+    abbrev begins : ℕ → Bytes → Delegation → Bool
+    begins n k d = holds p d && same (d .from) k && (any (serves (d .to) m) cs || chained n p (d .to) m cs ds)
 
-  ends-more : (n : ℕ) (d : Delegation) → Ends n d → Ends (suc n) d
-  ends-more zero d h = absurd h
-  ends-more (suc n) d h = (h .0, pick (h .1) (λ e. ends-more n e))
-    where
-      pick : (d .from ≡ k) ⊎ ((e : Delegation) × Ends n e × (e .to ≡ d .from)) → ((e : Delegation) → Ends n e → Ends (suc n) e) → (d .from ≡ k) ⊎ ((e : Delegation) × Ends (suc n) e × (e .to ≡ d .from))
-      pick (inl x) f = inl x
-      pick (inr x) f = inr (x .0, f (x .0) (x .1), x .2)
+    linked : (n : ℕ) (k : Bytes) → chained n p k m cs ds ≡ true → (h : Bytes) × Linked n k h × Presents cs h m
+    unfolding chained holds
+    linked zero k e = absurd (false≢true e)
+    linked (suc n) k e =
+        let r = any-member (begins n k) ds e in
+        let d = r .0 in
+        let a = and-left (bit p (d .mask) && same (d .from) k) _ (r .2) in
+        pick d (r .1, and-left (bit p (d .mask)) (same (d .from) k) a) (same-eq (d .from) k (and-right (bit p (d .mask)) (same (d .from) k) a))
+        (or-cases (any (serves (d .to) m) cs) (chained n p (d .to) m cs ds) (and-right (bit p (d .mask) && same (d .from) k) _ (r .2))) (linked n)
+      where
+        pick : (d : Delegation) → Member d ds × (bit p (d .mask) ≡ true) → d .from ≡ k → (any (serves (d .to) m) cs ≡ true) ⊎ (chained n p (d .to) m cs ds ≡ true)
+            → ((k : Bytes) → chained n p k m cs ds ≡ true → (h : Bytes) × Linked n k h × Presents cs h m) → (h : Bytes) × Linked (suc n) k h × Presents cs h m
+        pick d u b (inl x) f = (d .to, record { links = d ∷ []; any-links = omega arith; few-links = omega arith; each = (u, tt); leads = (b, refl) }, presents-is cs (d .to) m .0 x)
+        pick d u b (inr x) f =
+            let y = f (d .to) x in
+            let l = y .1 in
+            let few = l .few-links in
+            (y .0, record { links = d ∷ l .links; any-links = omega arith; few-links = omega arith; each = (u, l .each); leads = (b, l .leads) }, y .2)
 
-  ends-up : (i n : ℕ) (d : Delegation) → Ends n d → Ends (i + n) d
-  ends-up zero n d h = rw zero-add h
-  ends-up (suc i) n d h = rw suc-add (ends-more (i + n) d (ends-up i n d h))
+    of-links : (n : ℕ) (k h : Bytes) (links : List Delegation) → 1 ≤ length links → length links ≤ n → Every (λ d. Member d ds × (bit p (d .mask) ≡ true)) links → Leads k links h → Presents cs h m
+        → chained n p k m cs ds ≡ true
+    unfolding chained holds
+    of-links zero k h links a f u l s = absurd (omega arith)
+    of-links (suc n) k h [] a f u l s = absurd (omega arith)
+    of-links (suc n) k h (d ∷ []) a f u l s =
+        member-any (begins n k) ds d (u .0 .0)
+        (and-both (bit p (d .mask) && same (d .from) k) _ (and-both (bit p (d .mask)) (same (d .from) k) (u .0 .1) (eq-same (d .from) k (l .0)))
+        (or-left (any (serves (d .to) m) cs) _ (presents-is cs (d .to) m .1 (subst (λ (x : Bytes). Presents cs x m) (sym (l .1)) s))))
+    of-links (suc n) k h (d ∷ e ∷ links) a f u l s =
+        member-any (begins n k) ds d (u .0 .0)
+        (and-both (bit p (d .mask) && same (d .from) k) _ (and-both (bit p (d .mask)) (same (d .from) k) (u .0 .1) (eq-same (d .from) k (l .0)))
+        (or-right (any (serves (d .to) m) cs) _ (of-links n (d .to) h (e ∷ links) (omega arith) (omega arith) (u .1) (l .1) s)))
 
-  -- the links after the end of a chain make a longer one
-  on-from : (n : ℕ) (e : Delegation) (links : List Delegation) (h : Bytes) → Ends n e → Every Usable links → Leads (e .to) links h → (d : Delegation) × Ends (length links + n) d × (d .to ≡ h)
-  on-from n e [] h x u l = (e, rw zero-add x, l)
-  on-from n e (d ∷ links) h x u l =
-      let r = on-from (suc n) d links h (u .0, inr (e, x, sym (l .0))) (u .1) (l .1) in
-      let s : length links + suc n ≡ length (d ∷ links) + n = omega arith in
-      (r .0, subst (λ (i : ℕ). Ends i (r .0)) s (r .1), r .2)
-
-  linked-ends : (n : ℕ) (h : Bytes) → Linked n h → (d : Delegation) × Ends n d × (d .to ≡ h)
-  linked-ends n h y = pick (y .links) (y .any-links) (y .few-links) (y .each) (y .leads)
-    where
-      pick : (links : List Delegation) → 1 ≤ length links → length links ≤ n → Every Usable links → Leads k links h → (d : Delegation) × Ends n d × (d .to ≡ h)
-      pick [] a f u l = absurd (omega arith)
-      pick (d ∷ links) a f u l =
-          let r = on-from 1 d links h (u .0, inl (l .0)) (u .1) (l .1) in
-          let s : (n - (length links + 1)) + (length links + 1) ≡ n = omega arith in
-          (r .0, subst (λ (i : ℕ). Ends i (r .0)) s (ends-up (n - (length links + 1)) (length links + 1) (r .0) (r .1)), r .2)
-
-  -- The search finds a chain to a presented certificate exactly where there is one.
-  pub chained-is : (cs : List Certificate) (m : Option ℕ) → (chained p k m cs ds ≡ true) ↔ ChainPresents p cs ds k m
-  unfolding chained leadsToPresented
-  chained-is cs m = (to-words, of-words)
-    where
-      to-words : chained p k m cs ds ≡ true → ChainPresents p cs ds k m
-      to-words e =
-          let r = level-ends chainMax (leadsToPresented m cs) e in
-          let y = ends-linked chainMax (r .0) (r .1) in (
-            r .0 .to,
-            record { links = y .links; any-links = y .any-links; few-links = y .few-links; each = y .each; leads = y .leads },
-            presents-is cs (r .0 .to) m .0 (r .2),
-          )
-
-      of-words : ChainPresents p cs ds k m → chained p k m cs ds ≡ true
-      of-words x =
-          let c = x .1 in
-          let r = linked-ends chainMax (x .0) (record { links = c .links; any-links = c .any-links; few-links = c .few-links; each = c .each; leads = c .leads }) in
-          ends-level chainMax (leadsToPresented m cs) (r .0) (r .1) (presents-is cs (r .0 .to) m .1 (rw (r .2) (x .2)))
+  -- The definition holds exactly where there is a chain to a presented certificate.
+  pub chained-is : (k : Bytes) (cs : List Certificate) (m : Option ℕ) → (chained chainMax p k m cs ds ≡ true) ↔ ChainPresents p cs ds k m
+  chained-is k cs m = (
+    λ e. let r = linked cs m chainMax k e in let c = r .1 in (r .0, record { links = c .links; any-links = c .any-links; few-links = c .few-links; each = c .each; leads = c .leads }, r .2),
+    λ x. let c = x .1 in of-links cs m chainMax k (x .0) (c .links) (c .any-links) (c .few-links) (c .each) (c .leads) (x .2),
+  )
 
 -- A blob request is certified by no chain.
 use-chained-is : (q : Request) (k : Bytes) (m : Option ℕ) → (delegated (q .wanted) k m (q .certificates) (q .delegations) ≡ true) ↔ UseChained q k m

@@ -3,8 +3,8 @@ use mathlib.Core.Path.{_≡_}
 use Rattle.rules.specs.Sizes.{chainMax}
 use Rattle.rules.specs.Basics.{records}
 use Rattle.rules.specs.Request.{delegationsOf}
-use Rattle.rules.specs.Chain.{level}
-use Rattle.rules.proofs.Sets.{chained-none, level-first, level-next, chained-last}
+use Rattle.chains.specs.Levels.{level}
+use Rattle.chains.proofs.Levels.{chained-none, level-first, level-next, chained-last}
 use borrow.Author.Needs.{needs}
 use Rattle.chains.proofs.has_chain.Statement.{statement}
 use Rattle.chains.proofs.has_chain.Tie as tie

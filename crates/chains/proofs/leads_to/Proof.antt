@@ -1,4 +1,4 @@
-use Rattle.rules.specs.Chain.{leadsTo}
+use Rattle.chains.specs.Levels.{leadsTo}
 use borrow.Author.Needs.{needs}
 use Rattle.chains.proofs.leads_to.Statement.{statement}
 use Rattle.chains.proofs.leads_to.Tie as tie

@@ -1,4 +1,4 @@
-use Rattle.rules.specs.Chain.{leadsToPresented}
+use Rattle.chains.specs.Levels.{leadsToPresented}
 use borrow.Author.Needs.{needs}
 use Rattle.chains.proofs.leads_to_presented.Statement.{statement}
 use Rattle.chains.proofs.leads_to_presented.Tie as tie

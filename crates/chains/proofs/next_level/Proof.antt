@@ -4,9 +4,9 @@ use mathlib.Core.Path.{_≡_}
 use lib.ListN.{length}
 use Rattle.rules.specs.Basics.{setOf, records}
 use Rattle.rules.specs.Request.{delegationsOf}
-use Rattle.rules.specs.Chain.{continues, nextLevel}
+use Rattle.chains.specs.Levels.{continues, nextLevel}
 use Rattle.rules.proofs.Rows.{recordsFrom}
-use Rattle.rules.proofs.Sets.{set-start, set-skip, set-more, set-whole, set-doubled}
+use Rattle.chains.proofs.Sets.{set-start, set-skip, set-more, set-whole, set-doubled}
 use Rattle.chains.proofs.Laws.{mark-small}
 use borrow.Author.Needs.{needs}
 use Rattle.chains.proofs.next_level.Statement.{statement}

@@ -1,4 +1,4 @@
-use Rattle.rules.specs.Chain.{startsAt}
+use Rattle.chains.specs.Levels.{startsAt}
 use Rattle.rules.proofs.Choices.{or-taken, or-left-out}
 use borrow.Author.Needs.{needs}
 use Rattle.chains.proofs.starts.Statement.{statement}
