@@ -19,9 +19,10 @@ use Rattle.rules.specs.Acl.{Limit, limitsOf, Group, announcesFile, aclOf}
 use Rattle.rules.specs.Request.{wantedOf, requestLaidOut, standsAlone, requestRecordFault}
 use Rattle.rules.specs.Ledger.{Ledger, raised, raisedBy, charge}
 use Rattle.rules.specs.Grant.{limitsLeft, unspent}
-use Rattle.rules.specs.Gate.{Lowest, notFound, group, Denial, early, unadmitted, uncertified, exhausted, numberOf, nearest, Judgement, granted, denied, tooEarly, ofCertified, judgedBy, permitted, settle}
+use Rattle.rules.specs.Gate.{Lowest, notFound, group, Denial, early, unadmitted, uncertified, exhausted, numberOf, nearest, Judgement, granted, denied, tooEarly, orElse, permitted, settle}
 use Rattle.rules.specs.Runs.{requestWith, groupOr, bytesOfAnswer}
 use Rattle.rules.proofs.Laws.{never, and-left, and-right}
+use Rattle.rules.proofs.Judging.{ungranted}
 use Rattle.rules.proofs.GroupSets.{holdsAt, firstIn, placed, placedAt, judgedBySets, unspentAt}
 use Rattle.theorems.specs.Sizes.{GroupFits}
 use Rattle.theorems.proofs.Lists.{there-below}
@@ -53,6 +54,11 @@ first-true test (suc w) n h = pick (eqb (n % 2) 1 && test 0) refl (first-true (�
 none-granted : (k : ℕ) (d : Denial) → Granted k ≡ Denied (denialFor d) → ⊥
 none-granted k d f = never (cc)
 
+none-ungranted : (k : ℕ) (x y : Lowest) → Granted k ≡ judgedFor (ungranted x y) → ⊥
+none-ungranted k notFound notFound f = never (cc)
+none-ungranted k notFound (group p g) f = never (cc)
+none-ungranted k (group p g) y f = never (cc)
+
 -- a group that is found stands among those there are
 abbrev FoundIn : ℕ → Lowest → Type 0
 FoundIn n notFound = Unit {0}
@@ -76,14 +82,14 @@ placed-in gs k = pick (getElem? gs k) refl
     pick none e = tt
     pick (some g) e = there-below gs k g e
 
-certified-in : (n : ℕ) (x y : Lowest) → FoundIn n x → FoundIn n y → NamedIn n (ofCertified x y)
-certified-in n notFound notFound p q = tt
-certified-in n notFound (group k g) p q = q
-certified-in n (group j h) y p q = p
+ungranted-in : (n : ℕ) (x y : Lowest) → FoundIn n x → FoundIn n y → JudgedIn n (ungranted x y)
+ungranted-in n notFound notFound p q = tt
+ungranted-in n notFound (group k g) p q = q
+ungranted-in n (group j h) y p q = p
 
-judged-in : (n : ℕ) (d : Denial) (x : Lowest) → NamedIn n d → JudgedIn n (judgedBy d x)
-judged-in n d notFound p = p
-judged-in n d (group k g) p = tt
+judged-in : (n : ℕ) (j : Judgement) (x : Lowest) → JudgedIn n j → JudgedIn n (orElse x granted j)
+judged-in n j notFound p = p
+judged-in n j (group k g) p = tt
 
 set-judged-in : (l : Ledger) (km0 : Bytes) (gs : List Group) (c : ℕ) (r : Bytes) → JudgedIn (length gs) (setJudge l km0 gs c r)
 unfolding setJudge judgedBySets
@@ -92,15 +98,15 @@ set-judged-in l km0 gs c r = pick (tooEarly l (requestWith r []))
     a : ℕ
     a = admittingSet km0 (wantedOf r none) gs
 
-    d : Denial
-    d = ofCertified (placed gs (trailingZeros setBits (bitAnd a c))) (placed gs (trailingZeros setBits a))
+    d : Judgement
+    d = ungranted (placed gs (trailingZeros setBits (bitAnd a c))) (placed gs (trailingZeros setBits a))
 
     x : Lowest
     x = placed gs (firstIn (unspentAt l (requestWith r []) gs) setBits (bitAnd a c))
 
-    pick : (b : Bool) → JudgedIn (length gs) (if b then denied early else judgedBy d x)
+    pick : (b : Bool) → JudgedIn (length gs) (if b then denied early else orElse x granted d)
     pick true = tt
-    pick false = judged-in (length gs) d x (certified-in (length gs) (placed gs (trailingZeros setBits (bitAnd a c))) (placed gs (trailingZeros setBits a)) (placed-in gs (trailingZeros setBits (bitAnd a c))) (placed-in gs (trailingZeros setBits a)))
+    pick false = judged-in (length gs) d x (ungranted-in (length gs) (placed gs (trailingZeros setBits (bitAnd a c))) (placed gs (trailingZeros setBits a)) (placed-in gs (trailingZeros setBits (bitAnd a c))) (placed-in gs (trailingZeros setBits a)))
 
 -- The group that grants, by the code's answer.
 module _ (l : Ledger) (km0 : Bytes) (gs : List Group) (c : ℕ) (r : Bytes) (fit : length gs ≤ setBits) where
@@ -118,10 +124,10 @@ module _ (l : Ledger) (km0 : Bytes) (gs : List Group) (c : ℕ) (r : Bytes) (fit
       f : ℕ
       f = firstIn left setBits both
 
-      found : (d : Denial) (o : Option Group) → getElem? gs f ≡ o → Granted k ≡ judgedFor (judgedBy d (placedAt f o))
-          → (g : Group) × (judgedBy d (placedAt f o) ≡ granted k g) × (getElem? gs k ≡ some g) × (unspent l k (requestWith r []) g ≡ true)
-      found d none p q = absurd (none-granted k d q)
-      found d (some g) p q =
+      found : (x y : Lowest) (o : Option Group) → getElem? gs f ≡ o → Granted k ≡ judgedFor (orElse (placedAt f o) granted (ungranted x y))
+          → (g : Group) × (orElse (placedAt f o) granted (ungranted x y) ≡ granted k g) × (getElem? gs k ≡ some g) × (unspent l k (requestWith r []) g ≡ true)
+      found x y none p q = absurd (none-ungranted k x y q)
+      found x y (some g) p q =
           let a : f ≡ k = cc in
           let b : f < setBits = let h = there-below gs f g p in omega arith in
           let t : holdsAt (unspent l f (requestWith r [])) (getElem? gs f) ≡ true = first-true left setBits both b in
@@ -131,7 +137,7 @@ module _ (l : Ledger) (km0 : Bytes) (gs : List Group) (c : ℕ) (r : Bytes) (fit
       pick : (b : Bool) → tooEarly l (requestWith r []) ≡ b
           → (g : Group) × (setJudge l km0 gs c r ≡ granted k g) × (getElem? gs k ≡ some g) × (unspent l k (requestWith r []) g ≡ true)
       pick true q = let n : Granted k ≡ Denied Early = rw q at e in absurd (none-granted k early n)
-      pick false q = rw q (found _ (getElem? gs f) refl (rw q at e))
+      pick false q = rw q (found (placed gs (trailingZeros setBits both)) (placed gs (trailingZeros setBits (admittingSet km0 (wantedOf r none) gs))) (getElem? gs f) refl (rw q at e))
 
 -- every element, and one of them
 every-at : {A : Type 0} (P : A → Type 0) (xs : List A) (k : ℕ) (x : A) → Every P xs → getElem? xs k ≡ some x → P x

@@ -15,8 +15,9 @@ use Rattle.rules.specs.Acl.{Limit, Group, aclOf, aclFault}
 use Rattle.rules.specs.Request.{Request}
 use Rattle.rules.specs.Ledger.{Ledger}
 use Rattle.rules.specs.Grant.{limitLeft, limitsLeft, groupAdmits, certified, unspent}
-use Rattle.rules.specs.Gate.{Answer, permit, refuse, Lowest, notFound, group, lowest, early, Judgement, granted, denied, grants, tooEarly, whyNot, judgedBy, judge}
+use Rattle.rules.specs.Gate.{Answer, permit, refuse, group, lowest, Judgement, granted, denied, grants, judge}
 use Rattle.rules.proofs.Laws.{never, and-left, and-right, and-both, implication}
+use Rattle.rules.proofs.Judging.{judge-lowest}
 use Rattle.theorems.specs.Sizes.{Apart, GroupFits}
 use Rattle.theorems.proofs.AclSizes.{acl-fits}
 use Rattle.groups.specs.Parts.{firstLimits}
@@ -69,18 +70,6 @@ limits-room counters own elapsed (m ∷ ms) e =
         and-right (ltb n (m .maximum)) (ltb n fullCount) f
 
 module _ (l : Ledger) (km0 : Bytes) (gs : List Group) (q : Request) where
-  judge-found : (k : ℕ) (g : Group) → judge l km0 gs q ≡ granted k g → lowest (grants l km0 q) 0 gs ≡ group k g
-  unfolding judge
-  judge-found k g e = pick (tooEarly l q) refl
-    where
-      low : (r : Lowest) → judgedBy (whyNot km0 gs q) r ≡ granted k g → r ≡ group k g
-      low notFound f = absurd (never (cc))
-      low (group j x) f = let a : j ≡ k = cc in let b : x ≡ g = cc in rw (a, b)
-
-      pick : (b : Bool) → tooEarly l q ≡ b → lowest (grants l km0 q) 0 gs ≡ group k g
-      pick true d = let c : denied early ≡ granted k g = rw d at e in absurd (never (cc))
-      pick false d = low (lowest (grants l km0 q) 0 gs) (rw d at e)
-
   -- what the code's answer says
   granted-as : (k : ℕ) → Granted k ≡ judgedFor (judge l km0 gs q) → (g : Group) × (judge l km0 gs q ≡ granted k g)
   granted-as k e = pick (judge l km0 gs q) refl
@@ -93,7 +82,7 @@ module _ (l : Ledger) (km0 : Bytes) (gs : List Group) (q : Request) where
   pub granted-limits : (k : ℕ) → Granted k ≡ judgedFor (judge l km0 gs q) → (g : Group) × (judge l km0 gs q ≡ granted k g) × (firstLimits (drop k gs) ≡ g .limits) × (grants l km0 q k g ≡ true)
   granted-limits k e =
       let j = granted-as k e in
-      let r = lowest-at (grants l km0 q) 0 gs k (j .0) (judge-found k (j .0) (j .1)) in
+      let r = lowest-at (grants l km0 q) 0 gs k (j .0) (judge-lowest l km0 gs q k (j .0) (j .1) .1) in
       let i : r .0 ≡ k = omega (arith, r .1) in
       (j .0, j .1, rw i at (r .2), r .3)
 

@@ -10,18 +10,19 @@ use Rattle.rules.specs.Acl.{Group}
 use Rattle.rules.specs.Request.{Request}
 use Rattle.rules.specs.Ledger.{Ledger}
 use Rattle.rules.specs.Grant.{groupAdmits, certified, unspent}
-use Rattle.rules.specs.Gate.{Lowest, notFound, group, lowest, ofCertified, whyNot, grants, judgedBy, judge}
+use Rattle.rules.specs.Gate.{Lowest, notFound, group, lowest, Judgement, granted, admitsCertified, grants, orElse, judge}
+use Rattle.rules.proofs.Judging.{ungranted}
 use Rattle.judging.specs.declared.Standing.{Standing}
 use Rattle.judging.specs.declared.Nearest.{Nearest}
 use Rattle.judging.specs.declared.Nearest.the-variants as near
 use Rattle.judging.specs.declared.Judged.{Judged}
 use Rattle.refusals.specs.declared.Denial.the-variants.{Early, Uncertified, Exhausted}
 use Rattle.judging.specs.declared.Judged.the-variants.{Granted, Denied}
-use Rattle.judging.specs.Standings.{standingOf, denialOf, judgedFrom, standing, denialFor, judgedFor, ledgerOfTables}
+use Rattle.judging.specs.Standings.{standingOf, denialOf, judgedFrom, standing, judgedFor, ledgerOfTables}
 
 -- why no group grants, by the nearest before and the lowest groups from there on
 abbrev combined : Nearest → Lowest → Lowest → Judged
-combined near.Nothing c a = Denied (denialFor (ofCertified c a))
+combined near.Nothing c a = judgedFor (ungranted c a)
 combined (near.Admitting k) notFound a = Denied (Uncertified k)
 combined (near.Admitting k) (group p g) a = Denied (Exhausted p)
 combined (near.Certified k) c a = Denied (Exhausted k)
@@ -87,13 +88,13 @@ module _ (admitting certifying : Group → Bool) (left : ℕ → Group → Bool)
 -- .. of the ledger and the request
 module _ (l : Ledger) (km0 : Bytes) (q : Request) where
   pub judged-is : (gs : List Group) → judgedFrom (standing (l .counts) (l .counters) (q .time - l .loaded) km0 q) near.Nothing 0 gs
-      ≡ judgedFor (judgedBy (whyNot km0 gs q) (lowest (grants l km0 q) 0 gs))
+      ≡ judgedFor (orElse (lowest (grants l km0 q) 0 gs) granted (ungranted (lowest (λ place. admitsCertified km0 q) 0 gs) (lowest (λ place. groupAdmits km0 q) 0 gs)))
   unfolding standing
-  judged-is gs = one-pass (groupAdmits km0 q) (certified q) (λ k. unspent l k q) near.Nothing 0 gs ∙ settle (lowest (grants l km0 q) 0 gs)
+  judged-is gs = one-pass (groupAdmits km0 q) (certified q) (λ k. unspent l k q) near.Nothing 0 gs ∙ settle (lowest (grants l km0 q) 0 gs) _
     where
-      settle : (g : Lowest) → unless-granted (Denied (denialFor (whyNot km0 gs q))) g ≡ judgedFor (judgedBy (whyNot km0 gs q) g)
-      settle notFound = refl
-      settle (group p g) = refl
+      settle : (g : Lowest) (j : Judgement) → unless-granted (judgedFor j) g ≡ judgedFor (orElse g granted j)
+      settle notFound j = refl
+      settle (group p g) j = refl
 
 -- the clock: `if t < loaded`, `if t < last`
 module _ (counts counters : List ℕ) (loaded last t : ℕ) (km0 : Bytes) (gs : List Group) (q : Request) (e : t ≡ q .time) where

@@ -18,8 +18,9 @@ use Rattle.rules.specs.Acl.{Group}
 use Rattle.rules.specs.Request.{Request}
 use Rattle.rules.specs.Ledger.{Ledger}
 use Rattle.rules.specs.Grant.{groupAdmits, certified, unspent}
-use Rattle.rules.specs.Gate.{Lowest, notFound, group, lowest, ofCertified, Judgement, judgedBy, admitsCertified, whyNot, grants}
+use Rattle.rules.specs.Gate.{Lowest, notFound, group, lowest, Judgement, granted, admitsCertified, grants, orElse}
 use Rattle.rules.proofs.Sets.{set-rest}
+use Rattle.rules.proofs.Judging.{ungranted}
 
 -- The lowest bit of a number, and the others.
 pub bit-zero : (n : ℕ) → bit 0 n ≡ eqb (n % 2) 1
@@ -225,14 +226,14 @@ lowest-member p place (g ∷ gs) (suc w) h =
 unfoldable pub judgedBySets : List Group → ℕ → ℕ → (ℕ → Bool) → Judgement
 judgedBySets gs admitting certifying left =
     let both = bitAnd admitting certifying in
-    judgedBy (ofCertified (placed gs (trailingZeros setBits both)) (placed gs (trailingZeros setBits admitting))) (placed gs (firstIn left setBits both))
+    orElse (placed gs (firstIn left setBits both)) granted (ungranted (placed gs (trailingZeros setBits both)) (placed gs (trailingZeros setBits admitting)))
 
 -- a group that stands at a place, and is unspent
 abbrev pub unspentAt : Ledger → Request → List Group → ℕ → Bool
 unspentAt l q gs k = holdsAt (unspent l k q) (getElem? gs k)
 
 pub sets-judge : (l : Ledger) (km0 : Bytes) (gs : List Group) (q : Request) → length gs ≤ setBits
-    → judgedBy (whyNot km0 gs q) (lowest (grants l km0 q) 0 gs)
+    → orElse (lowest (grants l km0 q) 0 gs) granted (ungranted (lowest (λ place. admitsCertified km0 q) 0 gs) (lowest (λ place. groupAdmits km0 q) 0 gs))
     ≡ judgedBySets gs (setOf (groupAdmits km0 q) gs) (setOf (certified q) gs) (unspentAt l q gs)
 unfolding judgedBySets
 sets-judge l km0 gs q h =

@@ -1,4 +1,5 @@
 pub mod Laws
+pub mod Judging
 pub mod Choices
 pub mod Rows
 pub mod Few

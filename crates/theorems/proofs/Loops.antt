@@ -15,8 +15,9 @@ use Rattle.rules.specs.Acl.{Group, aclOf}
 use Rattle.rules.specs.Request.{Certificate, Delegation, Request, requestOf, hintsOf}
 use Rattle.rules.specs.Ledger.{Ledger}
 use Rattle.rules.specs.Grant.{groupAdmits, certified}
-use Rattle.rules.specs.Gate.{Outcome, lowest, Judgement, denied, early, ofCertified, judgedBy, tooEarly, admitsCertified, grants, judge, permitted, requestFiles, request, narrowFiles, narrowed, narrow, expandFiles, expanded, expand}
+use Rattle.rules.specs.Gate.{Outcome, Lowest, lowest, Judgement, granted, denied, early, orElse, tooEarly, admitsCertified, grants, judge, permitted, requestFiles, request, narrowFiles, narrowed, narrow, expandFiles, expanded, expand}
 use Rattle.rules.proofs.Laws.{not-both, decided, every-map, same-eq, eq-same}
+use Rattle.rules.proofs.Judging.{ungranted}
 use Rattle.theorems.specs.Certification.{Member, Presents, Leads, Chain, ChainPresents, Vouched, Certified}
 use Rattle.theorems.proofs.Lists.{both-ways}
 use Rattle.theorems.proofs.Certification.{certified-is}
@@ -92,7 +93,7 @@ module _ (l : Ledger) (km0 : Bytes) (q r : Request) (h : PresentsSame q r) where
       let b = lowest-same (λ place. admitsCertified km0 q) (λ place. admitsCertified km0 r) both-same 0 gs in
       let c = lowest-same (grants l km0 q) (grants l km0 r) grants-same 0 gs in
       ap₂ (λ (t : Bool) (j : Judgement). if t then denied early else j) e
-      (ap₂ judgedBy (ap₂ ofCertified b a) c)
+      (ap₂ (λ (r : Lowest) (j : Judgement). orElse r granted j) c (ap₂ ungranted b a))
 
   called-same : (f g : Option ℕ) (gs : List Group) (onPermit : ℕ → Ledger → Outcome) → f ≡ g → called f l km0 gs q onPermit ≡ called g l km0 gs r onPermit
   called-same f g gs onPermit e = rw (e, judge-same gs, h .0 .sameTime)

@@ -14,8 +14,9 @@ use Rattle.rules.specs.Acl.{Limit, Group, aclOf}
 use Rattle.rules.specs.Request.{Request}
 use Rattle.rules.specs.Ledger.{Ledger, charge}
 use Rattle.rules.specs.Grant.{groupAdmits, certified, limitLeft, limitsLeft}
-use Rattle.rules.specs.Gate.{Outcome, Lowest, group, lowest, early, Judgement, granted, denied, tooEarly, grants, whyNot, judgedBy, judge, outcomeUnless, settle}
+use Rattle.rules.specs.Gate.{Outcome, Lowest, group, lowest, early, Judgement, granted, denied, tooEarly, admitsCertified, grants, orElse, judge, outcomeUnless, settle}
 use Rattle.rules.specs.Cabinet.{Slot, countsAndTimes, ledgerWith}
+use Rattle.rules.proofs.Judging.{ungranted}
 use Rattle.theorems.specs.Demands.{Call, outcome, names, oneOf}
 use Rattle.theorems.specs.Account.{requestAsked, km0Given}
 use Rattle.theorems.specs.Cabinets.{countersNamed, countersIn}
@@ -77,7 +78,7 @@ module _ (a b : List ℕ) where
     judge-agrees : (gs : List Group) → Agree a b (countersIn gs) → judge (ledgerWith s a) km0 gs q ≡ judge (ledgerWith s b) km0 gs q
     unfolding judge
     judge-agrees gs h =
-        ap (λ (r : Lowest). if tooEarly (ledgerWith s a) q then denied early else judgedBy (whyNot km0 gs q) r) (lowest-agrees 0 gs h)
+        ap (λ (r : Lowest). if tooEarly (ledgerWith s a) q then denied early else orElse r granted (ungranted (lowest (λ place. admitsCertified km0 q) 0 gs) (lowest (λ place. groupAdmits km0 q) 0 gs))) (lowest-agrees 0 gs h)
 
 -- outcomes with the same answer that leave the same group counts and times
 pub record Alike (o p : Outcome) : Type 0 where
