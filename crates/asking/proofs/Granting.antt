@@ -21,12 +21,11 @@ use Rattle.rules.specs.Ledger.{Ledger, raised, raisedBy, charge}
 use Rattle.rules.specs.Grant.{limitsLeft, unspent}
 use Rattle.rules.specs.Gate.{Lowest, notFound, group, Denial, early, unadmitted, uncertified, exhausted, numberOf, nearest, Judgement, granted, denied, tooEarly, orElse, permitted, settle}
 use Rattle.rules.specs.Runs.{requestWith, groupOr, bytesOfAnswer}
-use Rattle.rules.proofs.Laws.{never, and-left, and-right}
+use Rattle.rules.proofs.Laws.{never, and-left, and-right, there-below}
 use Rattle.rules.proofs.Judging.{ungranted}
 use Rattle.rules.proofs.GroupSets.{holdsAt, firstIn, placed, placedAt, judgedBySets, unspentAt}
-use Rattle.theorems.specs.Sizes.{GroupFits}
-use Rattle.theorems.proofs.Lists.{there-below}
-use Rattle.theorems.proofs.AclSizes.{acl-fits}
+use Rattle.rules.specs.Fits.{GroupFits}
+use Rattle.rules.proofs.AclSizes.{acl-fits}
 use Rattle.refusals.specs.Refusals.{denialNumber, denialGroup}
 use Rattle.charging.specs.Charges.{Chargeable}
 use Rattle.charging.proofs.Granting.{limits-room}

@@ -17,7 +17,8 @@ use Rattle.rules.specs.Written.{bigEndian}
 use Rattle.rules.specs.Runs.{answerWith}
 use Rattle.rules.proofs.Rows.{recordsFrom, lentRecord, rows-lent, rows-end}
 use Rattle.rules.proofs.Asking.{Running, overAt, writing, length-over}
-use Rattle.theorems.proofs.Tables.{Sized, charge-sized}
+use Rattle.rules.specs.Fits.{Sized}
+use Rattle.rules.proofs.Ledgers.{charge-sized}
 use Rattle.judging.specs.Standings.{ledgerOfTables}
 use Rattle.choosing.specs.Deciding.{setJudge, askSets}
 use Rattle.asking.specs.Answers.{IsOutcome}

@@ -18,8 +18,8 @@ use Rattle.rules.specs.Grant.{limitLeft, limitsLeft, groupAdmits, certified, un
 use Rattle.rules.specs.Gate.{Answer, permit, refuse, group, lowest, Judgement, granted, denied, grants, judge}
 use Rattle.rules.proofs.Laws.{never, and-left, and-right, and-both, implication}
 use Rattle.rules.proofs.Judging.{judge-lowest}
-use Rattle.theorems.specs.Sizes.{Apart, GroupFits}
-use Rattle.theorems.proofs.AclSizes.{acl-fits}
+use Rattle.rules.specs.Fits.{Apart, GroupFits}
+use Rattle.rules.proofs.AclSizes.{acl-fits}
 use Rattle.groups.specs.Parts.{firstLimits}
 use Rattle.judging.specs.declared.Judged.{Judged}
 use Rattle.judging.specs.declared.Judged.the-variants.{Granted, Denied}

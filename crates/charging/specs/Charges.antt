@@ -12,7 +12,7 @@ use Rattle.rules.specs.Basics.{if_then_else_, implies, all}
 use Rattle.rules.specs.Acl.{Limit, Group}
 use Rattle.rules.specs.Ledger as rules
 use Rattle.rules.specs.Gate as rulesGate
-use Rattle.theorems.specs.Sizes.{Apart}
+use Rattle.rules.specs.Fits.{Apart}
 use Rattle.groups.specs.Parts.{firstLimits}
 use Rattle.refusals.specs.Refusals.{refusalNumber, denialNumber, denialGroup}
 use Rattle.judging.specs.declared.Judged.{Judged}

@@ -21,12 +21,11 @@ use Rattle.rules.specs.Grant.{admits}
 use Rattle.rules.specs.Desk.{isArchive}
 use Rattle.rules.specs.Runs.{requestWith}
 use Rattle.rules.specs.Prepared.{isBlobAction, formOf}
-use Rattle.rules.proofs.Laws.{and-left, and-right}
+use Rattle.rules.proofs.Laws.{and-left, and-right, there-below}
 use Rattle.rules.proofs.Sets.{set-rest, set-alike, set-bits}
 use Rattle.rules.proofs.GroupSets.{digit-odd, digit-bit, firstIn, first-done, judgedBySets, unspentAt}
 use Rattle.rules.proofs.Forms.{form-use, any-part, working-part, recovery-part}
-use Rattle.theorems.proofs.Lists.{there-below}
-use Rattle.theorems.proofs.AclSizes.{acl-fits}
+use Rattle.rules.proofs.AclSizes.{acl-fits}
 use Rattle.prepared.specs.Places.{Inside, Bodies}
 use Rattle.judging.specs.declared.Judged.{Judged}
 use Rattle.judging.specs.declared.Judged.the-variants.{Denied}

@@ -9,7 +9,7 @@ use Rattle.rules.specs.Request.{Certificate}
 use Rattle.rules.specs.Ledger.{Ledger}
 use Rattle.rules.specs.Runs.{RunOutcome, run}
 use Rattle.rules.specs.Prepared.{Form, preparedRun}
-use Rattle.theorems.proofs.LongRows.{run-long-row, prepared-run-long-row}
+use Rattle.rules.proofs.LongRows.{run-long-row, prepared-run-long-row}
 
 pub run-of-whole : (l : Ledger) (km0 acl : Bytes) (lent : List Certificate) (requests buffer : Bytes) (o : RunOutcome) → o ≡ run l km0 acl lent requests buffer
     → (whole : List Certificate) → take (certificatesMax + 1) whole ≡ lent → o ≡ run l km0 acl whole requests buffer

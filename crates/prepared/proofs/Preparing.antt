@@ -8,7 +8,7 @@ use Rattle.rules.specs.Basics.{Bytes, setOf, fileFault}
 use Rattle.rules.specs.Acl.{aclOf, aclFileFault}
 use Rattle.rules.specs.Prepared.{Form, useSets, formOf, unprepared, prepare}
 use Rattle.rules.proofs.Laws.{fault-none-every}
-use Rattle.theorems.proofs.AclSizes.{acl-fits}
+use Rattle.rules.proofs.AclSizes.{acl-fits}
 use Rattle.prepared.specs.Forms.{preparationFor}
 
 -- an ACL file without fault has no more groups than a set has bits

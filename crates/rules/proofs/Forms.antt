@@ -7,13 +7,15 @@ use mathlib.Core.List.{List, [], _∷_}
 use mathlib.Core.Option.{Option}
 use mathlib.Core.Bool.{Bool, true, false, _&&_, _||_, false≢true}
 use lib.ListN.{getD}
+use borrow.Author.Tests.{eqb-true}
 use Rattle.rules.specs.Sizes.{permissionsMax}
 use Rattle.rules.specs.Basics.{Bytes, any}
 use Rattle.rules.specs.Acl.{Action, permissions, makeBlob, makeArchive, Group}
 use Rattle.rules.specs.Request.{Wanted, operation, workingBlob, recoveryBlob, WorkingBlob, RecoveryBlob, BlobFile}
 use Rattle.rules.specs.Grant.{admitsWorking, admitsRecovery}
 use Rattle.rules.specs.Desk.{isArchive}
-use Rattle.rules.specs.Prepared.{isBlobAction, useSet, useSets, formOf}
+use Rattle.rules.specs.Prepared.{isBlobAction, Form, useSet, useSets, formOf, sameForm}
+use Rattle.rules.proofs.Laws.{and-left, and-right, same-eq}
 
 -- a use is of one of the permissions that there are
 abbrev pub KnownUse : Wanted → Type 0
@@ -55,3 +57,14 @@ unfolding admitsRecovery
 recovery-part w f (permissions bits) e = e
 recovery-part w f (makeBlob b r) e = e
 recovery-part w f (makeArchive a r) e = refl
+
+ruleset conj = (and-left, and-right)
+
+-- forms that count as the same are the same
+pub same-form : (f h : Form) → sameForm f h ≡ true → f ≡ h
+unfolding sameForm
+same-form f h e =
+    let a : f .uses ≡ h .uses = same-eq (f .uses) (h .uses) (search conj) in
+    let b : f .working ≡ h .working = eqb-true (f .working) (h .working) (search conj) in
+    let c : f .recovery ≡ h .recovery = eqb-true (f .recovery) (h .recovery) (search conj) in
+    rw (a, b, c)

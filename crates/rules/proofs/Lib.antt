@@ -25,3 +25,6 @@ pub mod CabinetExamples
 pub mod RunExamples
 pub mod PreparedExamples
 pub mod TrimExamples
+pub mod Ledgers
+pub mod AclSizes
+pub mod LongRows

@@ -18,8 +18,8 @@ use Rattle.rules.specs.Runs.{requestsIn, runLengthsFit, RunOutcome, ran, runEnd
 use Rattle.rules.specs.Prepared.{Form, formOf, sameForm}
 use Rattle.rules.proofs.Laws.{and-left, and-right, unless-passed, fault-none-every, chunks-length}
 use Rattle.rules.proofs.Asking.{Running, overAt, writing, writing-is}
-use Rattle.theorems.proofs.AclSizes.{acl-fits}
-use Rattle.theorems.proofs.Prepared.{same-form}
+use Rattle.rules.proofs.AclSizes.{acl-fits}
+use Rattle.rules.proofs.Forms.{same-form}
 use Rattle.prepared.specs.Places.{Inside, Bodies}
 use Rattle.judging.specs.Standings.{ledgerOfTables}
 use Rattle.choosing.specs.Deciding.{Ready, askSets}

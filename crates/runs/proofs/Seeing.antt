@@ -23,7 +23,7 @@ use Rattle.rules.proofs.Rows.{records-sized}
 use Rattle.rules.proofs.Sets.{set-alike}
 use Rattle.rules.proofs.GroupSets.{sets-judge}
 use Rattle.rules.proofs.Asking.{Sound, ask-gate, run-sound, asked-alike}
-use Rattle.theorems.proofs.AclSizes.{acl-fits}
+use Rattle.rules.proofs.AclSizes.{acl-fits}
 use Rattle.row.specs.declared.Seen.{Seen}
 use Rattle.row.specs.Rows.{certifiedIn, certifiedSet, readableOf, Saw}
 use Rattle.choosing.specs.Deciding.{admittingSet, setJudge, askSets}

@@ -19,17 +19,18 @@ use Rattle.rules.specs.Request.{requestOf, Hint, hintsOf}
 use Rattle.rules.specs.Ledger.{Ledger, raised, raisedBy, charge, recounted, carried}
 use Rattle.rules.specs.Narrow.{narrows}
 use Rattle.rules.specs.Gate.{done, permit, load, clear, request, narrow, expand}
-use Rattle.rules.proofs.Laws.{never, and-left, and-right, every-at, any-some, fault-none-every}
+use Rattle.rules.proofs.Laws.{never, and-left, and-right, every-at, any-some, fault-none-every, there-below}
 use Rattle.rules.proofs.Few.{narrow-few}
 use Rattle.theorems.specs.Demands.{names}
-use Rattle.theorems.specs.Sizes.{LimitFits, GroupFits}
+use Rattle.rules.specs.Fits.{LimitFits, GroupFits, Sized}
 use Rattle.theorems.specs.Charges.{countCharged, counterCharged, AsCharged, Charged, Carried, Zeroed, Loaded, Cleared}
-use Rattle.theorems.proofs.Lists.{there-below, zero-at}
+use Rattle.theorems.proofs.Lists.{zero-at}
 use Rattle.theorems.proofs.Permit.{permit-needs, permit-comes, narrow-needs, narrow-comes, expand-needs, expand-comes}
-use Rattle.theorems.proofs.Counters.{raisedBy-length, raisedBy-at}
-use Rattle.theorems.proofs.Tables.{Sized, charge-sized, carried-sized}
+use Rattle.theorems.proofs.Counters.{raisedBy-at}
+use Rattle.rules.proofs.Ledgers.{raisedBy-length, charge-sized}
+use Rattle.theorems.proofs.Tables.{carried-sized}
 use Rattle.theorems.proofs.Hints.{narrows-shown}
-use Rattle.theorems.proofs.AclSizes.{acl-fits}
+use Rattle.rules.proofs.AclSizes.{acl-fits}
 
 -- what is within a list stands at a place
 below-there : {A : Type 0} (xs : List A) (i : ℕ) → i < length xs → (x : A) × (getElem? xs i ≡ some x)

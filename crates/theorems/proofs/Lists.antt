@@ -1,13 +1,11 @@
 -- Laws of lists and of tests that several files of this crate cite.
-use Prim.Native.Nat.{ℕ, zero, suc, _<_}
-use native.Mathlib.Omega.{arith}
+use Prim.Native.Nat.{ℕ, zero, suc}
 use mathlib.Core.Path.{_≡_, refl}
 use mathlib.Core.List.{List, [], _∷_, _++_}
-use mathlib.Core.Option.{some}
 use mathlib.Core.Bool.{Bool, true, false, false≢true}
-use lib.ListN.{length, getD, getElem?, set, replicate}
+use lib.ListN.{getD, set, replicate}
 use Rattle.rules.specs.Basics.{all, Every}
-use Rattle.rules.proofs.Laws.{never, and-both}
+use Rattle.rules.proofs.Laws.{and-both}
 
 -- a test that another implies, and that implies it
 pub both-ways : (a b : Bool) → (a ≡ true → b ≡ true) → (b ≡ true → a ≡ true) → a ≡ b
@@ -15,12 +13,6 @@ both-ways true true f g = refl
 both-ways true false f g = absurd (false≢true (f refl))
 both-ways false true f g = absurd (false≢true (g refl))
 both-ways false false f g = refl
-
--- what stands at a place is within the list
-pub there-below : {A : Type 0} (xs : List A) (i : ℕ) (x : A) → getElem? xs i ≡ some x → i < length xs
-there-below [] i x e = absurd (never (cc))
-there-below (y ∷ ys) zero x e = omega arith
-there-below (y ∷ ys) (suc i) x e = let r = there-below ys i x e in omega arith
 
 -- zeros are zero at every place, past the end too
 pub zero-at : (n i : ℕ) → _≡_ {A = ℕ} (getD (replicate n 0) i 0) 0

@@ -5,10 +5,9 @@ use native.Mathlib.Nat.{lt-of-lt-of-le}
 use mathlib.Core.Path.{_≡_, refl, _∙_, ap}
 use mathlib.Core.List.{List, _++_}
 use mathlib.Core.Option.{none}
-use mathlib.Core.Bool.{Bool, true}
+use mathlib.Core.Bool.{Bool}
 use lib.ListN.{length, getD, getElem?, drop}
 use lib.Pow.{pow-mono}
-use borrow.Author.Tests.{eqb-true}
 use Rattle.rules.specs.Sizes.{permissionsMax, setBits, runRecords}
 use Rattle.rules.specs.Basics.{Bytes, any, bit, setOf, records}
 use Rattle.rules.specs.Acl.{Group, aclOf, aclFault}
@@ -17,14 +16,11 @@ use Rattle.rules.specs.Ledger.{Ledger}
 use Rattle.rules.specs.Grant.{admitsUse}
 use Rattle.rules.specs.Runs.{askGate, askedInOrder, requestsIn, runFault, ran, run}
 use Rattle.rules.specs.Desk.{isArchive}
-use Rattle.rules.specs.Prepared.{isBlobAction, Form, formOf, sameForm, preparedFault, preparedRun}
-use Rattle.rules.proofs.Laws.{and-left, and-right, same-eq}
+use Rattle.rules.specs.Prepared.{isBlobAction, Form, formOf, preparedFault, preparedRun}
 use Rattle.rules.proofs.Sets.{set-bits}
 use Rattle.rules.proofs.GroupSets.{holdsAt, set-exact}
 use Rattle.rules.proofs.Forms.{form-use}
-use Rattle.theorems.proofs.AclSizes.{acl-fits}
-
-ruleset conj = (and-left, and-right)
+use Rattle.rules.proofs.AclSizes.{acl-fits}
 
 -- "for each permission exactly the groups with an action that sets its bit": group i is in the set of permission p exactly if it has such an action
 pub uses-exact : (gs : List Group) (p i : ℕ) → p < permissionsMax → bit i (getD (formOf gs .uses) p 0) ≡ holdsAt (λ g. any (admitsUse p) (g .actions)) (getElem? gs i)
@@ -38,15 +34,6 @@ working-exact gs i = set-exact (λ g. any isBlobAction (g .actions)) gs i
 pub recovery-exact : (gs : List Group) (i : ℕ) → bit i (formOf gs .recovery) ≡ holdsAt (λ g. any isArchive (g .actions)) (getElem? gs i)
 unfolding formOf
 recovery-exact gs i = set-exact (λ g. any isArchive (g .actions)) gs i
-
--- forms that count as the same are the same
-pub same-form : (f h : Form) → sameForm f h ≡ true → f ≡ h
-unfolding sameForm
-same-form f h e =
-    let a : f .uses ≡ h .uses = same-eq (f .uses) (h .uses) (search conj) in
-    let b : f .working ≡ h .working = eqb-true (f .working) (h .working) (search conj) in
-    let c : f .recovery ≡ h .recovery = eqb-true (f .recovery) (h .recovery) (search conj) in
-    rw (a, b, c)
 
 -- "On every ledger and run not refused whole, answers and ledger equal those of asking it one by one in order."
 pub prepared-run : (l : Ledger) (km0 acl : Bytes) (row : List Certificate) (f : Form) (requests buffer : Bytes) → preparedFault km0 acl row f requests buffer ≡ none

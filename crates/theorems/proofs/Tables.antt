@@ -1,32 +1,22 @@
 -- Every call keeps the lengths of the ledger's tables. Two wrong products that this rules out: one whose narrowing hands back as many counts
 -- as there are new groups, and one whose expansion drops the counts.
-use Prim.Native.Nat.{ℕ, _+_, _-_, _≤_}
+use Prim.Native.Nat.{ℕ, _-_, _≤_}
 use native.Mathlib.Omega.{arith}
 use mathlib.Core.Path.{_≡_, _∙_}
 use mathlib.Core.List.{List, [], _∷_, map}
 use lib.ListN.{length, getD, replicate, length-set, length-append, length-replicate, length-map}
 use Rattle.rules.specs.Sizes.{groupsMax, countersMax}
-use Rattle.rules.specs.Acl.{Group}
 use Rattle.rules.specs.Request.{Hint, hintsOf}
-use Rattle.rules.specs.Ledger.{Ledger, freshLedger, charge, carried}
+use Rattle.rules.specs.Ledger.{freshLedger, carried}
 use Rattle.rules.specs.Gate.{Outcome}
 use Rattle.theorems.specs.Demands.{Call, State, outcome, after, afterAll}
 use Rattle.theorems.specs.Account.{requestAsked}
 use Rattle.theorems.proofs.Calls.{Way, uses, reduces, expands, Comes, refuses, loads, zeroes, permits, comes}
-use Rattle.theorems.proofs.Counters.{raisedBy-length}
-
--- as many counts as an ACL may have groups, and as many counters as there are named ones
-pub record Sized (l : Ledger) : Type 0 where
-  pub groups : length (l .counts) ≡ groupsMax
-  pub named : length (l .counters) ≡ countersMax
+use Rattle.rules.specs.Fits.{Sized}
+use Rattle.rules.proofs.Ledgers.{charge-sized}
 
 pub fresh-sized : Sized freshLedger
 fresh-sized = record { groups = length-replicate {A = ℕ} groupsMax 0; named = length-replicate {A = ℕ} countersMax 0 }
-
-pub charge-sized : (l : Ledger) (k : ℕ) (g : Group) (time : ℕ) → Sized l → Sized (charge l k g time)
-unfolding charge
-charge-sized l k g time h =
-    record { groups = length-set (l .counts) k (getD (l .counts) k 0 + 1) ∙ h .groups; named = raisedBy-length (l .counters) (g .limits) (l .counters) ∙ h .named }
 
 pub carried-sized : (counts : List ℕ) (hints : List Hint) → length hints ≤ groupsMax → length (carried counts hints) ≡ groupsMax
 carried-sized counts hints h =

@@ -21,13 +21,14 @@ use Rattle.rules.specs.Narrow.{groupNarrows, narrowsSource, narrowsFrom, narrow
 use Rattle.rules.specs.Gate.{Outcome, permit, load, grants, permitted, clear}
 use Rattle.theorems.specs.Demands.{Call, State, outcome, replacement, inForce, after, EveryPermit, names}
 use Rattle.theorems.specs.Account.{requestAsked, km0Given, PutDownTo, PutDown, AllPutDown, isExpansion}
-use Rattle.rules.proofs.Laws.{never, and-left, and-right, and-both, every-map}
-use Rattle.theorems.proofs.Lists.{there-below, zero-at, every-all}
+use Rattle.rules.proofs.Laws.{never, and-left, and-right, and-both, every-map, there-below}
+use Rattle.theorems.proofs.Lists.{zero-at, every-all}
 use Rattle.rules.proofs.Forms.{KnownUse}
-use Rattle.theorems.proofs.AclSizes.{acl-fits}
+use Rattle.rules.proofs.AclSizes.{acl-fits}
 use Rattle.theorems.proofs.Hints.{limit-self}
 use Rattle.theorems.proofs.Calls.{Way, uses, reduces, expands, Permits, Comes, refuses, loads, zeroes, permits, comes}
-use Rattle.theorems.proofs.Counters.{raisedBy-length, reading, raisedBy-at}
+use Rattle.theorems.proofs.Counters.{reading, raisedBy-at}
+use Rattle.rules.proofs.Ledgers.{raisedBy-length}
 use Rattle.theorems.proofs.Tables.{carried-sized}
 use Rattle.theorems.proofs.Charges.{carried-at}
 use Rattle.theorems.proofs.Narrowing.{all-every, limit-left, admits-source, certified-source, left-source, names-source}

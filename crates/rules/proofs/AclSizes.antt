@@ -12,15 +12,15 @@ use lib.ListN.{length, getD, getElem?, take, length-append}
 use lib.Seq.{drop-cons}
 use lib.Dec.{eqb, ltb}
 use borrow.Author.Tests.{eqb-true, eqb-false, eq-eqb, ne-eqb, leb-true, ltb-true, not-true}
 use Rattle.rules.specs.Sizes.{groupsMax, limitsMax, actionsMax, countersMax}
 use Rattle.rules.specs.Numbers.{malformed, tooMany}
 use Rattle.rules.specs.Basics.{Bytes, any, Every, numberFrom, part, byte, kind, recordFault, scan, records}
 use Rattle.rules.specs.Layout.{counterUnder, counterOfSort, limitUnder, limitLaidOut}
 use Rattle.rules.specs.Acl.{Limit, limitOf, limitsOf, actionsOf, groupOf, groupsOf, aclOf, AclPlace, limitKey, among, limitInPlace, inPlace, hasRoomUnder, hasRoom, afterRecord, recordFaultUnder, aclRecordFault, aclEnd, aclStart, aclFaultUnder, aclFault}
 use Rattle.rules.proofs.Laws.{never, and-left, and-right, and-both, not-both, or-right, every-at, unless-passed, orNext-first, orNext-next, fault-none-every}
 use Rattle.rules.proofs.Rows.{records-sized}
 use Rattle.rules.proofs.Places.{limit-placed, same-count}
-use Rattle.theorems.specs.Sizes.{LimitFits, Apart, GroupFits, AclFits}
+use Rattle.rules.specs.Fits.{LimitFits, Apart, GroupFits, AclFits}
 
 ruleset conj = (and-left, and-right, and-both)
 
