@@ -11,10 +11,10 @@ use lib.Seq.{drop-cons, take-suc-set}
 use lib.Dec.{eqb, ltb}
 use borrow.Author.Tests.{eq-eqb, ne-eqb, lt-ltb, le-ltb, ltb-true, ltb-false, not-true, not-false}
 use Rattle.rules.specs.Sizes.{groupsMax, limitsMax, actionsMax}
-use Rattle.rules.specs.Basics.{Bytes, any, kind, flag, orNext, firstFault, scan}
+use Rattle.rules.specs.Basics.{Bytes, any, kind, flag, orNext, firstFault, scan, recordsFrom}
 use Rattle.rules.specs.Numbers.{malformed, tooMany, openArchive}
 use Rattle.rules.specs.Acl.{AclPlace, aclStart, among, limitKey, limitInPlace, inPlace, hasRoomUnder, hasRoom, keyed, recordFaultUnder, aclRecordFault, limitAdded, groupBegun, actionAdded, afterRecord, aclEnd, aclFaultUnder, aclFault}
-use Rattle.rules.proofs.Rows.{recordsFrom, rows-lent, rows-end, lentRecord}
+use Rattle.rules.proofs.Rows.{rows-lent, rows-end, lentRecord}
 use Rattle.files.specs.declared.Checked.{Checked}
 use Rattle.files.specs.declared.Checked.the-variants.{Sound, Refused}
 use Rattle.files.specs.Faults.{faultAs}

@@ -13,7 +13,7 @@ use lib.Count.{trailingZeros}
 use lib.Dec.{eqb, ltb}
 use Rattle.rules.specs.Sizes.{fullCount, groupsMax, setBits}
 use Rattle.rules.specs.Numbers.{malformed, noGroup}
-use Rattle.rules.specs.Basics.{if_then_else_, Bytes, Every, kind, flag, number, records}
+use Rattle.rules.specs.Basics.{if_then_else_, Bytes, Every, kind, flag, number, records, holdsAt}
 use Rattle.rules.specs.Layout.{useLaidOut}
 use Rattle.rules.specs.Acl.{Limit, limitsOf, Group, announcesFile, aclOf}
 use Rattle.rules.specs.Request.{wantedOf, requestLaidOut, standsAlone, requestRecordFault}
@@ -23,7 +23,7 @@ use Rattle.rules.specs.Gate.{Lowest, notFound, group, Denial, early, unadmitted
 use Rattle.rules.specs.Runs.{requestWith, groupOr, bytesOfAnswer}
 use Rattle.rules.proofs.Laws.{never, and-left, and-right, there-below}
 use Rattle.rules.proofs.Judging.{ungranted}
-use Rattle.rules.proofs.GroupSets.{holdsAt, firstIn, placed, placedAt, judgedBySets, unspentAt}
+use Rattle.choosing.specs.GroupSets.{firstIn, placed, placedAt, judgedBySets, unspentAt}
 use Rattle.rules.specs.Fits.{GroupFits}
 use Rattle.rules.proofs.AclSizes.{acl-fits}
 use Rattle.refusals.specs.Refusals.{denialNumber, denialGroup}

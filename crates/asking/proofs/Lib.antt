@@ -1,3 +1,4 @@
+pub mod Loop
 pub mod Charging
 pub mod Granting
 pub mod Opening

@@ -16,7 +16,7 @@ use Rattle.rules.specs.Ledger.{Ledger, raised, raisedBy, charge}
 use Rattle.rules.specs.Gate.{Judgement, granted, denied, early, tooEarly, permitted, settle, outcomeUnless}
 use Rattle.rules.specs.Runs.{requestWith}
 use Rattle.rules.proofs.Laws.{never}
-use Rattle.rules.proofs.GroupSets.{judgedBySets, unspentAt}
+use Rattle.choosing.specs.GroupSets.{judgedBySets, unspentAt}
 use Rattle.judging.specs.Standings.{ledgerOfTables}
 use Rattle.choosing.specs.Deciding.{admittingSet, setJudge, askSets}
 use Rattle.choosing.specs.Opening.{NoLess, OpenFrom}

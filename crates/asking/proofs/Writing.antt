@@ -8,15 +8,16 @@ use mathlib.Core.Option.{Option, none, some}
 use lib.ListN.{length, take, drop, set, length-append}
 use lib.Seq.{sets-eq, length-take-le, take-append-le, take-take, drop-at}
 use Rattle.rules.specs.Sizes.{groupsMax, countersMax}
-use Rattle.rules.specs.Basics.{Bytes, number}
+use Rattle.rules.specs.Basics.{Bytes, number, recordsFrom}
 use Rattle.rules.specs.Acl.{Group}
 use Rattle.rules.specs.Request.{requestRecordFault}
 use Rattle.rules.specs.Ledger.{Ledger}
 use Rattle.rules.specs.Gate.{Outcome, Judgement, granted, denied, permitted, settle, outcomeUnless}
 use Rattle.rules.specs.Written.{bigEndian}
 use Rattle.rules.specs.Runs.{answerWith}
-use Rattle.rules.proofs.Rows.{recordsFrom, lentRecord, rows-lent, rows-end}
-use Rattle.rules.proofs.Asking.{Running, overAt, writing, length-over}
+use Rattle.rules.proofs.Rows.{lentRecord, rows-lent, rows-end}
+use Rattle.asking.specs.Written.{Running, overAt, writing}
+use Rattle.asking.proofs.Loop.{length-over}
 use Rattle.rules.specs.Fits.{Sized}
 use Rattle.rules.proofs.Ledgers.{charge-sized}
 use Rattle.judging.specs.Standings.{ledgerOfTables}

@@ -9,11 +9,11 @@ use borrow.Author.Tests.{not-true, not-false}
 use lib.ListN.{length, take, drop, getD, set, replicate, length-set, length-replicate, take-append-drop}
 use lib.Seq.{take-suc-set, drop-set-lt, set-out, getD-take, getD-drop}
 use Rattle.rules.specs.Sizes.{groupsMax}
-use Rattle.rules.specs.Basics.{Bytes, part, byte}
+use Rattle.rules.specs.Basics.{Bytes, part, byte, recordsFrom}
 use Rattle.rules.specs.Request.{Hint, hintOf, hintsOf}
 use Rattle.rules.specs.Ledger.{carried}
 use Rattle.rules.specs.Gate.{Answer}
-use Rattle.rules.proofs.Rows.{recordsFrom, rows-start, rows-at, rows-end}
+use Rattle.rules.proofs.Rows.{rows-start, rows-at, rows-end}
 use Rattle.charging.specs.Charges.{isPermit}
 use Rattle.carrying.specs.Carried.{carriedFrom, countsAfter}
 

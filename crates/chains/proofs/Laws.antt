@@ -11,14 +11,14 @@ use lib.ListN.{length, take, drop, getD}
 use lib.Pow.{pow-mono}
 use lib.Dec.{eqb}
 use Rattle.rules.specs.Sizes.{chainMax}
-use Rattle.rules.specs.Basics.{if_then_else_, Bytes, any, same, bit, part, number, byte, kind, flag, optional, matchesNumber, records}
+use Rattle.rules.specs.Basics.{if_then_else_, Bytes, any, same, bit, part, number, byte, kind, flag, optional, matchesNumber, records, recordsFrom}
 use Rattle.rules.specs.Acl.{groupOf}
 use Rattle.rules.specs.Request.{BlobFile, blobFileNext, wantedOf, Certificate, certificateOf, certificatesOf, Delegation, delegationOf, delegationsOf, Request, requestOf}
 use Rattle.rules.specs.Chain.{serves, holds, chained, delegated, vouched}
 use Rattle.rules.specs.Grant.{certified}
 use Rattle.request.specs.Parts.{Parted}
 use Rattle.chains.specs.Levels.{startsAt, continues}
-use Rattle.rules.proofs.Rows.{wanted-first, recordsFrom, rows-lent, rows-end, lentRecord, lent-record, kind-at}
+use Rattle.rules.proofs.Rows.{wanted-first, rows-lent, rows-end, lentRecord, lent-record, kind-at}
 
 -- no number of sixteen bits has a bit past the sixteenth
 high-bit : (p n : ℕ) → n < 65536 → 16 ≤ p → bit p n ≡ false

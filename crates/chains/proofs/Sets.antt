@@ -8,10 +8,10 @@ use lib.ListN.{length, getD, drop, length-drop}
 use lib.Pow.{pow-mono}
 use lib.Dec.{eqb}
 use borrow.Author.Tests.{eq-eqb, ne-eqb}
-use Rattle.rules.specs.Basics.{if_then_else_, Bytes, kind, setOf, records}
+use Rattle.rules.specs.Basics.{if_then_else_, Bytes, kind, setOf, records, recordsFrom}
 use Rattle.rules.specs.Request.{Delegation, delegationOf, delegationsOf}
 use Rattle.rules.proofs.Laws.{chunks-length}
-use Rattle.rules.proofs.Rows.{recordsFrom, rows-start, rows-lent, rows-end, lentRecord, lent-record, kind-at}
+use Rattle.rules.proofs.Rows.{rows-start, rows-lent, rows-end, lentRecord, lent-record, kind-at}
 use Rattle.rules.proofs.Sets.{set-bits}
 use Rattle.chains.specs.Levels.{anyIn}
 

@@ -10,11 +10,11 @@ use lib.ListN.{length, drop, getD, getElem?, set, length-set}
 use lib.Seq.{set-out, getD-take, getD-drop, getD-set-other}
 use lib.Dec.{eqb}
 use Rattle.rules.specs.Sizes.{fullCount}
-use Rattle.rules.specs.Basics.{Bytes, if_then_else_, all, part, byte, records}
+use Rattle.rules.specs.Basics.{Bytes, if_then_else_, all, part, byte, records, recordsFrom}
 use Rattle.rules.specs.Acl.{Limit, limitOf, limitsOf}
 use Rattle.rules.specs.Ledger.{raised, raisedBy}
 use Rattle.rules.proofs.Laws.{and-left, and-right}
-use Rattle.rules.proofs.Rows.{recordsFrom, lent-record}
+use Rattle.rules.proofs.Rows.{lent-record}
 use Rattle.groups.proofs.Laws.{limits-step, limits-stop, limits-end}
 use Rattle.charging.specs.Charges.{counterNotFull, limitNotFull, Chargeable, raisedOnce}
 

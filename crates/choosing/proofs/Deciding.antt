@@ -23,7 +23,9 @@ use Rattle.rules.specs.Runs.{requestWith}
 use Rattle.rules.specs.Prepared.{isBlobAction, formOf}
 use Rattle.rules.proofs.Laws.{and-left, and-right, there-below}
 use Rattle.rules.proofs.Sets.{set-rest, set-alike, set-bits}
-use Rattle.rules.proofs.GroupSets.{digit-odd, digit-bit, firstIn, first-done, judgedBySets, unspentAt}
+use Rattle.rules.proofs.GroupSets.{digit-odd, digit-bit}
+use Rattle.choosing.specs.GroupSets.{firstIn, judgedBySets, unspentAt}
+use Rattle.choosing.proofs.GroupSets.{first-done}
 use Rattle.rules.proofs.Forms.{form-use, any-part, working-part, recovery-part}
 use Rattle.rules.proofs.AclSizes.{acl-fits}
 use Rattle.prepared.specs.Places.{Inside, Bodies}

@@ -20,7 +20,8 @@ use Rattle.rules.specs.Request.{blobFileNext, wantedOf}
 use Rattle.rules.specs.Grant.{admits, unspentWith}
 use Rattle.rules.specs.Gate.{notFound}
 use Rattle.rules.proofs.Rows.{lentRest, lent-rest, no-rows}
-use Rattle.rules.proofs.GroupSets.{two, halved, still-even, firstIn, first-stop, first-next, first-done, lowest-out, member-below, first-below, placed, placed-there, placed-past, judgedBySets}
+use Rattle.choosing.proofs.GroupSets.{two, halved, still-even, first-stop, first-next, first-done, lowest-out, member-below, first-below, placed-there, placed-past}
+use Rattle.choosing.specs.GroupSets.{firstIn, placed, judgedBySets}
 use Rattle.prepared.specs.Places.{Inside}
 use Rattle.judging.specs.declared.Judged.the-variants.{Granted, Denied}
 use Rattle.refusals.specs.declared.Denial.the-variants.{Unadmitted, Uncertified, Exhausted}

@@ -14,7 +14,8 @@ use Rattle.rules.specs.Basics.{if_then_else_, Bytes, all, records}
 use Rattle.rules.specs.Acl.{Limit, limitsOf}
 use Rattle.rules.specs.Grant.{counterLeft, limitLeft, limitsLeft}
 use Rattle.rules.proofs.Laws.{never, and-left, and-right, and-both}
-use Rattle.rules.proofs.GroupSets.{two, firstIn}
+use Rattle.choosing.proofs.GroupSets.{two}
+use Rattle.choosing.specs.GroupSets.{firstIn}
 use Rattle.choosing.specs.Members.{leftAt, membersIn}
 use Rattle.choosing.specs.Opening.{NoLess, Opened, OpenFrom}
 

@@ -12,7 +12,7 @@ use Rattle.rules.specs.Grant.{admits}
 use Rattle.rules.specs.Gate.{Outcome, early, Judgement, denied, tooEarly, permitted, settle, outcomeUnless}
 use Rattle.rules.specs.Runs.{requestWith}
 use Rattle.rules.specs.Prepared.{formOf}
-use Rattle.rules.proofs.GroupSets.{judgedBySets, unspentAt}
+use Rattle.choosing.specs.GroupSets.{judgedBySets, unspentAt}
 use Rattle.prepared.specs.Places.{Bodies}
 
 -- What a run knows of its ACL, of the table of its groups and of the form: the ACL is without fault, and table and form are those made of it.

@@ -7,7 +7,7 @@ use lib.ListN.{getD}
 use lib.Bits.{bitAnd}
 use Rattle.rules.specs.Sizes.{setBits}
 use Rattle.rules.specs.Basics.{Bytes}
-use Rattle.rules.proofs.GroupSets.{firstIn}
+use Rattle.choosing.specs.GroupSets.{firstIn}
 use Rattle.choosing.specs.Members.{leftAt}
 
 -- a table with no less at any place

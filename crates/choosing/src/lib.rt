@@ -9,7 +9,7 @@ ghost use mathlib.Core.Bool.{true};
 ghost use Rattle.rules.specs.Sizes.{recordBytes, groupsMax, permissionsMax, setBits};
 ghost use Rattle.rules.specs.Acl.{aclOf};
 ghost use Rattle.rules.specs.Request.{wantedOf, requestLaidOut};
-ghost use Rattle.rules.proofs.GroupSets.{firstIn, judgedBySets};
+ghost use Rattle.choosing.specs.GroupSets.{firstIn, judgedBySets};
 ghost use Rattle.prepared.specs.Places.{Inside};
 ghost use Rattle.judging.specs.Standings.{judgedFor, ledgerOfTables};
 ghost use Rattle.choosing.specs.Members.{leftAt, admitsAt, membersIn};

@@ -8,10 +8,10 @@ use mathlib.Core.Bool.{Bool, true, false, not, _&&_}
 use borrow.Author.Tests.{eq-eqb, ne-eqb, not-true, not-false}
 use lib.ListN.{length, getD}
 use lib.Dec.{eqb}
-use Rattle.rules.specs.Basics.{Bytes, any, Every, same, bit, part, records}
+use Rattle.rules.specs.Basics.{Bytes, any, Every, same, bit, part, records, recordsFrom}
 use Rattle.rules.specs.Bundle.{firstRecord, numbered, field, lists, signatureOutcome, Policy, policyFrom, policyRecord, policyOf}
 use Rattle.rules.proofs.Laws.{never}
-use Rattle.rules.proofs.Rows.{recordsFrom, records-sized, rows-lent, rows-end, lentRecord}
+use Rattle.rules.proofs.Rows.{records-sized, rows-lent, rows-end, lentRecord}
 use Rattle.facts.specs.Found.{orEmpty}
 use Rattle.facts.specs.Places.{entered}
 use Rattle.facts.proofs.Places.{first-fact, first-signature, first-policy}

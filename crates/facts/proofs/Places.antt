@@ -9,9 +9,9 @@ use borrow.Author.Tests.{eqb-true, eqb-false, eq-eqb, ne-eqb, ltb-true, ltb-fals
 use lib.ListN.{length, getD, take, drop, set, replicate, length-set, length-replicate, getD-replicate}
 use lib.Seq.{getD-take, getD-drop, getD-set-same, getD-set-other}
 use lib.Dec.{eqb, ltb}
-use Rattle.rules.specs.Basics.{if_then_else_, Bytes, part, kind, byte, orNext, records}
+use Rattle.rules.specs.Basics.{if_then_else_, Bytes, part, kind, byte, orNext, records, recordsFrom}
 use Rattle.rules.specs.Bundle.{firstRecord, numbered, policyRecord}
-use Rattle.rules.proofs.Rows.{recordsFrom, rows-start, rows-lent, rows-end, lentRecord, lent-record, kind-at}
+use Rattle.rules.proofs.Rows.{rows-start, rows-lent, rows-end, lentRecord, lent-record, kind-at}
 use Rattle.facts.specs.Found.{orEmpty}
 use Rattle.facts.specs.Places.{entries, unasked, entryOf, entered, endingAt, PlaceOf, Filling, Found}
 

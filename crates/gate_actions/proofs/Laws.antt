@@ -10,11 +10,11 @@ use borrow.Author.Tests.{eq-eqb, ne-eqb, eqb-true, eqb-false, not-true, not-fals
 use lib.ListN.{length, drop, getD}
 use lib.Dec.{eqb}
 use lib.Pow.{pow-mono}
-use Rattle.rules.specs.Basics.{Bytes, any, same, bit, part, number, byte, kind, flag, optional, present, matches, records}
+use Rattle.rules.specs.Basics.{Bytes, any, same, bit, part, number, byte, kind, flag, optional, present, matches, records, recordsFrom}
 use Rattle.rules.specs.Acl.{Parameters, parametersOf, blobRuleOf, archiveRuleOf, FileRule, fileRuleNext, actionOf, Action, actionsOf}
 use Rattle.rules.specs.Request.{tokenOf, workingBlobOf, recoveryBlobOf, BlobFile, wantedOf}
 use Rattle.rules.specs.Grant.{tighter, meets, nullKey, admitsDirect, admitsToken, admitsKey, admitsBlob, admitsArchive, admitsFile, admitsUse, admitsWorking, admitsRecovery, admits}
-use Rattle.rules.proofs.Rows.{recordsFrom, lentRecord, lentRest, lent-record, kind-at}
+use Rattle.rules.proofs.Rows.{lentRecord, lentRest, lent-record, kind-at}
 use Rattle.groups.specs.Parts.{passedOver, actionFrom, actionsFrom, NextAction}
 use Rattle.groups.proofs.Laws.{acts-group, acts-here, acts-over, acts-end, lent-action}
 

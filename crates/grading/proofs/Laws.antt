@@ -10,11 +10,11 @@ use lib.ListN.{length, drop, getD}
 use lib.Dec.{eqb}
 use Rattle.rules.specs.Numbers.{notKept}
 use Rattle.rules.specs.Sizes.{hashBytes}
-use Rattle.rules.specs.Basics.{if_then_else_, Bytes, any, kind, flag, part, number, optional, bothSame, orNext, firstFault, records}
+use Rattle.rules.specs.Basics.{if_then_else_, Bytes, any, kind, flag, part, number, optional, bothSame, orNext, firstFault, records, recordsFrom}
 use Rattle.rules.specs.Acl.{blobRuleOf, archiveRuleOf, FileRule, fileRuleNext, Action, makeBlob, actionOf, actionsOf, Group, groupOf, groupsOf}
 use Rattle.rules.specs.Bundle.{field, Policy, policyOf}
 use Rattle.rules.specs.Desk.{Step, permissionsFailure, blobFailure, archiveFailure, moduleKey, recoveryKey, failureUnder, officersGroup, aclFailure, actionProtection, smallest, isArchive, keyProtection, recoverableKey}
-use Rattle.rules.proofs.Rows.{recordsFrom, rows-at, rows-lent, rows-end, lentRecord, lent-record, kind-at}
+use Rattle.rules.proofs.Rows.{rows-at, rows-lent, rows-end, lentRecord, lent-record, kind-at}
 use Rattle.groups.specs.Parts.{passedOver, actionFrom, NextPart}
 use Rattle.groups.proofs.Laws.{acts-group, acts-here, acts-end}
 use Rattle.desk_actions.proofs.Laws.{by-kind}

@@ -10,10 +10,10 @@ use borrow.Author.Tests.{eq-eqb, ne-eqb, not-true, not-false}
 use lib.ListN.{length, take, drop, getD, length-drop, drop-of-length-le}
 use lib.Seq.{length-take-le, drop-nil, getD-drop, getD-take}
 use lib.Dec.{eqb}
-use Rattle.rules.specs.Basics.{if_then_else_, Bytes, all, part, kind, records}
+use Rattle.rules.specs.Basics.{if_then_else_, Bytes, all, part, kind, records, recordsFrom}
 use Rattle.rules.specs.Acl.{Limit, limitOf, limitsOf, fileRuleOf, fileRuleNext, actionOf, actionsOf, Group, groupOf, groupsOf}
 use Rattle.rules.specs.Request.{blobFileOf, blobFileNext}
-use Rattle.rules.proofs.Rows.{recordsFrom, rows-at, rows-end, rows-start, rows-rest, rows-lent, kind-at, lentRecord, lent-record, lentRest, lent-rest, first, no-rows}
+use Rattle.rules.proofs.Rows.{rows-at, rows-end, rows-start, rows-rest, rows-lent, kind-at, lentRecord, lent-record, lentRest, lent-rest, first, no-rows}
 use Rattle.groups.specs.Parts.{passedOver, partPlace, actionPlace, groupPlace, actionFrom, actionsFrom, NextPart, NextAction, GroupAt, FromGroup, GroupBody, fileIn, blobIn, filePart, FilePart}
 
 or-not-left : (a b : Bool) → (a || b) ≡ false → a ≡ false

@@ -10,12 +10,12 @@ use lib.ListN.{length, take, drop, getD, set, replicate, length-append, length-d
 use lib.Seq.{set-at, append-snoc}
 use lib.Dec.{eqb}
 use Rattle.rules.specs.Sizes.{recordBytes, groupsMax, actionsMax}
-use Rattle.rules.specs.Basics.{if_then_else_, Bytes, kind, scan, records, joined}
+use Rattle.rules.specs.Basics.{if_then_else_, Bytes, kind, scan, records, joined, recordsFrom}
 use Rattle.rules.specs.Acl.{AclPlace, aclStart, hasRoomUnder, afterRecord, aclRecordFault, aclFaultUnder, aclFault}
 use Rattle.rules.specs.Trim.{isChecked, stays, keptPlaces, hintsFrom, trimHints}
 use Rattle.rules.specs.Written.{hintBytes}
 use Rattle.rules.proofs.Laws.{orNext-first, orNext-next}
-use Rattle.rules.proofs.Rows.{recordsFrom, rows-lent, lentRecord, lent-record, lent-rest, kind-at}
+use Rattle.rules.proofs.Rows.{rows-lent, lentRecord, lent-record, lent-rest, kind-at}
 use Rattle.rules.proofs.Places.{aclFrom, record-has-room, same-count}
 use Rattle.rules.proofs.Written.{hint-whole}
 use Rattle.rules.proofs.Trim.{fresh-group, group-places, places-group, places-limit, places-file, places-stays, places-goes, places-end, hints-group, hints-other, hints-end}

@@ -8,11 +8,11 @@ use mathlib.Core.Bool.{Bool, true, false}
 use borrow.Author.Tests.{eq-eqb, ne-eqb}
 use lib.ListN.{length, take, drop, getD, List·getD-eq-default}
 use lib.Dec.{ltb}
-use Rattle.rules.specs.Basics.{Bytes, any, number, byte, records}
+use Rattle.rules.specs.Basics.{Bytes, any, number, byte, records, recordsFrom}
 use Rattle.rules.specs.Acl.{limitOf, Action, Group, groupOf, groupsOf}
 use Rattle.rules.specs.Request.{Wanted, blobFileNext, wantedOf, Request, requestOf}
 use Rattle.rules.specs.Grant.{admits, counterLeft, limitLeft}
-use Rattle.rules.proofs.Rows.{wanted-first, recordsFrom, rows-lent, rows-end, rows-rest, lentRecord, lentRest, lent-record, lent-rest, kind-at}
+use Rattle.rules.proofs.Rows.{wanted-first, rows-lent, rows-end, rows-rest, lentRecord, lentRest, lent-record, lent-rest, kind-at}
 use Rattle.judging.specs.declared.Standing.{Standing}
 use Rattle.judging.specs.declared.Nearest.{Nearest}
 use Rattle.refusals.specs.declared.Denial.{Denial}

@@ -10,10 +10,10 @@ use borrow.Author.Tests.{ltb-false, lt-ltb, le-ltb, le-leb, lt-leb, not-true, no
 use lib.ListN.{length, take, drop, getD, getElem?, length-drop, drop-of-length-le}
 use lib.Seq.{drop-cons, drop-drop, drop-nil, take-all}
 use lib.Dec.{ltb}
-use Rattle.rules.specs.Basics.{if_then_else_, Bytes, any, all, allZero, records}
+use Rattle.rules.specs.Basics.{if_then_else_, Bytes, any, all, allZero, records, recordsFrom}
 use Rattle.rules.specs.Acl.{fileRuleNext, Action, actionOf, actionsOf, Limit, limitOf, limitsOf}
 use Rattle.rules.specs.Narrow.{noWider, noWiderThan, actionsNoWider, isAnswered}
-use Rattle.rules.proofs.Rows.{recordsFrom, lentRecord, lentRest}
+use Rattle.rules.proofs.Rows.{lentRecord, lentRest}
 use Rattle.groups.specs.Parts.{actionFrom, actionsFrom, NextAction}
 use Rattle.groups.proofs.Laws.{acts-end, lent-action, limits-step, limits-stop, limits-end}
 use Rattle.narrowing.specs.Groups.{actionIn, resumedFrom, ActionAt, recordsNarrow}

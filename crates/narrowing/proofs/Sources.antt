@@ -9,12 +9,12 @@ use borrow.Author.Tests.{eq-eqb, not-true, not-false, lt-leb, le-leb, ltb-true, 
 use lib.ListN.{length, take, drop, getD, getElem?, length-drop}
 use lib.Seq.{getD-take, drop-nil, drop-drop}
 use lib.Dec.{eqb, leb, ltb}
-use Rattle.rules.specs.Basics.{Bytes, part, byte, kind, records}
+use Rattle.rules.specs.Basics.{Bytes, part, byte, kind, records, recordsFrom}
 use Rattle.rules.specs.Acl.{Group, groupOf, groupsOf}
 use Rattle.rules.specs.Request.{Hint, hintOf, hintsOf}
 use Rattle.rules.specs.Narrow.{narrowsSource, narrowsFrom}
 use Rattle.rules.proofs.Laws.{chunks-length}
-use Rattle.rules.proofs.Rows.{recordsFrom, rows-start, rows-at, rows-lent, rows-end, rows-rest, lentRecord, lent-record, lentRest, kind-at, no-rows}
+use Rattle.rules.proofs.Rows.{rows-start, rows-at, rows-lent, rows-end, rows-rest, lentRecord, lent-record, lentRest, kind-at, no-rows}
 use Rattle.groups.specs.Parts.{groupPlace, GroupAt}
 use Rattle.narrowing.specs.Groups.{recordsNarrow}
 

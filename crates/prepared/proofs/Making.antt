@@ -14,12 +14,12 @@ use lib.Dec.{eqb}
 use lib.Bits.{bitOr}
 use lib.Pow.{pow-mono}
 use Rattle.rules.specs.Sizes.{permissionsMax, setBits}
-use Rattle.rules.specs.Basics.{if_then_else_, Bytes, Every, any, bit, kind, number, setOf, same}
+use Rattle.rules.specs.Basics.{if_then_else_, Bytes, Every, any, bit, kind, number, setOf, same, recordsFrom}
 use Rattle.rules.specs.Acl.{Action, permissions, makeBlob, makeArchive, fileRuleNext, actionOf, actionsOf, Group, groupOf, groupsOf, aclOf}
 use Rattle.rules.specs.Grant.{admitsUse}
 use Rattle.rules.specs.Desk.{isArchive}
 use Rattle.rules.specs.Prepared.{isBlobAction, useSet, useSets, formOf}
-use Rattle.rules.proofs.Rows.{recordsFrom, rows-start, rows-end, rows-lent, lentRecord}
+use Rattle.rules.proofs.Rows.{rows-start, rows-end, rows-lent, lentRecord}
 use Rattle.rules.proofs.Sets.{set-bits}
 use Rattle.rules.proofs.GroupSets.{bit-zero, bit-suc, bit-or}
 use Rattle.groups.specs.Parts.{passedOver}

@@ -11,9 +11,9 @@ use lib.ListN.{length, drop, getD, getElem?, set, length-set, length-drop}
 use lib.Seq.{getD-set-same, getD-set-other}
 use lib.Dec.{eqb}
 use Rattle.rules.specs.Sizes.{groupsMax}
-use Rattle.rules.specs.Basics.{Bytes, Every, part, records}
+use Rattle.rules.specs.Basics.{Bytes, Every, part, records, recordsFrom}
 use Rattle.rules.specs.Acl.{groupOf, groupsOf, aclOf}
-use Rattle.rules.proofs.Rows.{recordsFrom, rows-start, rows-at, rows-end, kind-at}
+use Rattle.rules.proofs.Rows.{rows-start, rows-at, rows-end, kind-at}
 use Rattle.prepared.specs.Places.{Inside, BodyAt, Bodies}
 
 -- Where filling stands: g groups are found, the others are those of the records from the byte `at` on.

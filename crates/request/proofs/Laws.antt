@@ -11,13 +11,13 @@ use lib.Dec.{eqb, ltb}
 use borrow.Author.Tests.{eq-eqb, ne-eqb, eqb-true, not-true, not-false}
 use Rattle.rules.specs.Sizes.{certificatesMax, delegationsMax}
 use Rattle.rules.specs.Numbers.{malformed, tooMany}
-use Rattle.rules.specs.Basics.{if_then_else_, Bytes, number, kind, flag, unless, records, orNext, firstFault, recordFault, scan}
+use Rattle.rules.specs.Basics.{if_then_else_, Bytes, number, kind, flag, unless, records, orNext, firstFault, recordFault, scan, recordsFrom}
 use Rattle.rules.specs.Request.{Certificate, certificateOf, certificatesOf, delegationsOf, certificateRecord, delegationRecord, PresentedCounts, certificateFault, delegationFault, presentedRecordFault, afterPresented, presentedEnd, presentedFault, fileRequestRecord, fileNext, presentedAfter, requestFault, requestFrom, requestOf, hintRecord, hintFault}
 use Rattle.rules.specs.Layout.{delegationLaidOut, fileRequestLaidOut}
 use Rattle.rules.proofs.Laws.{and-left, and-right, not-both, unless-passed, orNext-first, orNext-next, fault-none-every}
 use Rattle.request.specs.Following.{followingFault}
 use Rattle.request.specs.Parts.{Parted}
-use Rattle.rules.proofs.Rows.{first, recordsFrom, scan-stop, scan-next, bad-record, full-record, sound-record, no-rows, rows-start, rows-at, rows-rest, rows-lent, rows-end, lentRecord, lentRest, lent-record, kind-at}
+use Rattle.rules.proofs.Rows.{first, scan-stop, scan-next, bad-record, full-record, sound-record, no-rows, rows-start, rows-at, rows-rest, rows-lent, rows-end, lentRecord, lentRest, lent-record, kind-at}
 
 -- the first record as code lends it, `&s[..64]`, and what follows
 request-rows : (s : Bytes) → 64 ≤ length s → records s ≡ take 64 s ∷ records (take (length s - 64) (drop 64 s))

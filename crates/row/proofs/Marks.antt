@@ -10,7 +10,7 @@ use borrow.Author.Tests.{eq-eqb, ne-eqb, not-true, not-false}
 use lib.ListN.{length, take, drop, getD, length-drop, take-append-drop}
 use lib.Dec.{eqb, leb}
 use Rattle.rules.specs.Sizes.{hashBytes, aclRecords, certificatesMax, setBits}
-use Rattle.rules.specs.Basics.{Bytes, any, same, kind, flag, part, number, optional, matchesNumber, setOf, fits}
+use Rattle.rules.specs.Basics.{Bytes, any, same, kind, flag, part, number, optional, matchesNumber, setOf, fits, recordsFrom}
 use Rattle.rules.specs.Acl.{groupOf, groupsOf, aclOf}
 use Rattle.rules.specs.Request as rules
 use Rattle.rules.specs.Chain.{serves}
@@ -19,7 +19,7 @@ use lib.Seq.{take-all, length-take-le}
 use Rattle.fields.proofs.Words.{same-append}
 use Rattle.rules.proofs.GroupSets.{digit-odd}
 use Rattle.rules.proofs.Sets.{set-rest}
-use Rattle.rules.proofs.Rows.{recordsFrom, rows-end, rows-lent, lentRecord, lent-record, kind-at}
+use Rattle.rules.proofs.Rows.{rows-end, rows-lent, lentRecord, lent-record, kind-at}
 use Rattle.row.specs.Rows.{serving, certifiedIn, certifiedSet, digit, recordBefore, groupsFrom, LastGroup, readableOf}
 
 -- a group's mechanism, by whether it has one

@@ -7,13 +7,11 @@ use mathlib.Core.Bool.{Bool, true, _&&_}
 use lib.ListN.{length, take, drop, getD}
 use lib.Dec.{leb}
 use Rattle.rules.specs.Sizes.{recordBytes, hashBytes, aclRecords, certificatesMax, setBits}
-use Rattle.rules.specs.Basics.{if_then_else_, Bytes, Every, any, all, part, number, flag, optional, setOf, fits}
+use Rattle.rules.specs.Basics.{if_then_else_, Bytes, Every, any, all, part, number, flag, optional, setOf, fits, recordsFrom}
 use Rattle.rules.specs.Acl.{Group, groupsOf, aclOf}
 use Rattle.rules.specs.Request as rules
 use Rattle.rules.specs.Chain.{serves}
-use Rattle.rules.specs.Runs.{mechanismNamed}
-use Rattle.rules.proofs.Asking.{Decoded}
-use Rattle.rules.proofs.Rows.{recordsFrom}
+use Rattle.rules.specs.Runs.{mechanismNamed, Decoded}
 use Rattle.row.specs.declared.Certificate.{Certificate}
 use Rattle.row.specs.declared.Seen.{Seen}
 

@@ -10,12 +10,8 @@ use borrow.Author.Tests.{not-true, not-false}
 use lib.ListN.{length, take, drop, getD, length-drop}
 use lib.Seq.{drop-drop, take-all, length-take-le, getD-take, getD-drop}
 use Rattle.rules.specs.Numbers.{malformed, tooMany}
-use Rattle.rules.specs.Basics.{Bytes, Every, part, chunks, records, orNext, firstFault, recordFault, eachFault, scan}
+use Rattle.rules.specs.Basics.{Bytes, Every, part, chunks, records, recordsFrom, orNext, firstFault, recordFault, eachFault, scan}
 use Rattle.rules.specs.Request.{wantedOf, blobFileNext, requestFrom, requestOf}
-
--- the records from a place on: shut, so that a search reads the file and the place off it
-unfoldable pub recordsFrom : Bytes → ℕ → List Bytes
-recordsFrom s at = records (drop at s)
 
 pub rows-start : (s : Bytes) → recordsFrom s 0 ≡ records s
 unfolding recordsFrom

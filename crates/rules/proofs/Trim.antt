@@ -11,7 +11,7 @@ use lib.Dec.{eqb, leb}
 use borrow.Author.Tests.{ltb-true}
 use Rattle.rules.specs.Sizes.{actionsMax}
 use Rattle.rules.specs.Numbers.{shortBuffer}
-use Rattle.rules.specs.Basics.{Bytes, Every, number, kind, firstFault, scan, records}
+use Rattle.rules.specs.Basics.{Bytes, Every, number, kind, firstFault, scan, records, recordsFrom}
 use Rattle.rules.specs.Layout.{header, permissionsLaidOut}
 use Rattle.rules.specs.Acl.{AclPlace, hasRoomUnder, afterRecord, aclRecordFault}
 use Rattle.rules.specs.Written.{bigEndian, hintBytes}
@@ -19,7 +19,7 @@ use Rattle.rules.specs.Bundle.{policyOf}
 use Rattle.rules.specs.Desk.{Step, beforeAcl, deskFault}
 use Rattle.rules.specs.Trim.{keptBits, withBits, isChecked, actionPasses, stays, trimmedRecord, keptBefore, trimmedFrom, keptPlaces, hintsFrom, trimmedAcl, trimHints, untrimmed, unread, trimFault}
 use Rattle.rules.proofs.Laws.{orNext-first, orNext-next}
-use Rattle.rules.proofs.Rows.{recordsFrom, rows-lent, rows-end, lentRecord}
+use Rattle.rules.proofs.Rows.{rows-lent, rows-end, lentRecord}
 use Rattle.rules.proofs.Joined.{Whole}
 use Rattle.rules.proofs.Places.{aclFrom, record-has-room}
 use Rattle.rules.proofs.Written.{bigEndian-number}

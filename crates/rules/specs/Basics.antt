@@ -143,6 +143,10 @@ chunks (suc n) bs = take recordBytes bs ∷ chunks n (drop recordBytes bs)
 unfoldable pub records : Bytes → List Bytes
 records bs = chunks (length bs / recordBytes) bs
 
+-- .. from a place on
+unfoldable pub recordsFrom : Bytes → ℕ → List Bytes
+recordsFrom s at = records (drop at s)
+
 -- the file of given records, one after the other
 unfoldable pub joined : List Bytes → Bytes
 joined [] = []
@@ -151,6 +155,11 @@ joined (r ∷ rs) = r ++ joined rs
 -- whole records, and not more than `most` of them
 unfoldable pub fits : ℕ → Bytes → Bool
 fits most bs = eqb (length bs % recordBytes) 0 && leb (length bs) (most * recordBytes)
+
+-- a test of what stands at a place; nothing stands past the end
+abbrev pub holdsAt : {A : Type 0} → (A → Bool) → Option A → Bool
+holdsAt test none = false
+holdsAt test (some a) = test a
 
 -- The first fault of a list of tests, each done after those before it.
 abbrev pub unless : {F : Type 0} → Bool → F → Option F

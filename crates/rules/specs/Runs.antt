@@ -3,6 +3,7 @@ use Prim.Native.Nat.{ℕ, _*_}
 use mathlib.Core.List.{List, [], _∷_, _++_, map}
 use mathlib.Core.Option.{Option, none, some}
 use mathlib.Core.Bool.{Bool, not, _&&_}
+use mathlib.Core.Path.{_≡_}
 use lib.ListN.{length}
 use lib.Dec.{eqb, leb}
 use Rattle.rules.specs.Sizes.{hashBytes, aclRecords, certificatesMax, runRecords, answerBytes}
@@ -14,6 +15,10 @@ use Rattle.rules.specs.Ledger.{Ledger}
 use Rattle.rules.specs.Gate.{Answer, done, permit, refuse, Outcome, request}
 use Rattle.rules.specs.Subject.{writtenOver}
 use Rattle.rules.specs.Written.{bigEndian, certificateBytes}
+
+-- "decoded certificates": what the Rattle type of one sees to, a hash of 20 bytes
+abbrev pub Decoded : Certificate → Type 0
+Decoded c = length (c .hash) ≡ hashBytes
 
 -- "asking one by one": the request file of a request record with the certificates of "a lent row of decoded certificates", each as its record of kind
 -- 9. "Delegations and kind 15 records are not offered here."

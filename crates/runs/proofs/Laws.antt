@@ -17,7 +17,8 @@ use Rattle.rules.specs.Ledger.{Ledger}
 use Rattle.rules.specs.Runs.{requestsIn, runLengthsFit, RunOutcome, ran, runEnd, askedInOrder}
 use Rattle.rules.specs.Prepared.{Form, formOf, sameForm}
 use Rattle.rules.proofs.Laws.{and-left, and-right, unless-passed, fault-none-every, chunks-length}
-use Rattle.rules.proofs.Asking.{Running, overAt, writing, writing-is}
+use Rattle.asking.specs.Written.{Running, overAt, writing}
+use Rattle.asking.proofs.Loop.{writing-is}
 use Rattle.rules.proofs.AclSizes.{acl-fits}
 use Rattle.rules.proofs.Forms.{same-form}
 use Rattle.prepared.specs.Places.{Inside, Bodies}

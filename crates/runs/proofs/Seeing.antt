@@ -21,7 +21,7 @@ use Rattle.rules.specs.Prepared.{Form, preparedFault, preparedRun}
 use Rattle.rules.proofs.Laws.{fault-none-every}
 use Rattle.rules.proofs.Rows.{records-sized}
 use Rattle.rules.proofs.Sets.{set-alike}
-use Rattle.rules.proofs.GroupSets.{sets-judge}
+use Rattle.choosing.proofs.GroupSets.{sets-judge}
 use Rattle.rules.proofs.Asking.{Sound, ask-gate, run-sound, asked-alike}
 use Rattle.rules.proofs.AclSizes.{acl-fits}
 use Rattle.row.specs.declared.Seen.{Seen}

@@ -21,13 +21,13 @@ use Rattle.rules.specs.Ledger.{Ledger, loadedAt}
 use Rattle.rules.specs.Grant.{nullKey, admitsBlob, admitsWorking, admits, groupAdmits, certifiedBy, certified, unspent}
 use Rattle.rules.specs.Gate.{permit, tooEarly, grants, requestFiles, request}
 use Rattle.rules.specs.Written.{Octets, tokenBytes, blobRequestBytes, certificateBytes}
-use Rattle.rules.specs.Runs.{withRow, mechanismNamed}
+use Rattle.rules.specs.Runs.{withRow, mechanismNamed, Decoded}
 use Rattle.rules.specs.Bundle.{field}
 use Rattle.rules.specs.Desk.{Grade, Acceptance, approach2, Verdict, accepted, WB1, WB2, WB6, moduleKey, blobFailure, failureUnder, officersGroup, groupFailure, actionProtection, smallest, keyProtection, gradeOf, desk, deskFault, verdictUnless, attested, actionFailure, blobProtection}
 use Rattle.theorems.specs.Exhibit.{IfBlob, EveryBlob, mixed, namedOr1, Presentable, servedBy, presentedTo, certificatesFor, blobRequestFile, BlobPermitted}
 use Rattle.rules.proofs.Laws.{never, and-left, and-right, and-both, or-cases, or-left, or-right, implied, not-both, every-at, every-map, every-zip, any-here, same-eq, eq-same, same-refl, bothSame-eq, bothSame-at, unless-passed, fault-none-every, fault-none-map}
 use Rattle.rules.proofs.Joined.{Whole}
-use Rattle.rules.proofs.Asking.{Decoded, file-records, file-fits, row-fault, row-request}
+use Rattle.rules.proofs.Asking.{file-records, file-fits, row-fault, row-request}
 use Rattle.rules.proofs.Rows.{records-sized}
 use Rattle.rules.proofs.Written.{wellFormed, TokenFits, parameters-laid-out, blob-whole, blob-time, blob-wanted, blob-alone, part-octets, token-octets, no-token-octets, blob-octets, certificate-octets, joined-octets, records-octets, number-below}
 use Rattle.theorems.proofs.Lists.{zero-at}

@@ -9,7 +9,7 @@ use mathlib.Core.Bool.{Bool}
 use lib.ListN.{length, getD, getElem?, drop}
 use lib.Pow.{pow-mono}
 use Rattle.rules.specs.Sizes.{permissionsMax, setBits, runRecords}
-use Rattle.rules.specs.Basics.{Bytes, any, bit, setOf, records}
+use Rattle.rules.specs.Basics.{Bytes, any, bit, setOf, records, holdsAt}
 use Rattle.rules.specs.Acl.{Group, aclOf, aclFault}
 use Rattle.rules.specs.Request.{Certificate}
 use Rattle.rules.specs.Ledger.{Ledger}
@@ -18,7 +18,7 @@ use Rattle.rules.specs.Runs.{askGate, askedInOrder, requestsIn, runFault, ran, 
 use Rattle.rules.specs.Desk.{isArchive}
 use Rattle.rules.specs.Prepared.{isBlobAction, Form, formOf, preparedFault, preparedRun}
 use Rattle.rules.proofs.Sets.{set-bits}
-use Rattle.rules.proofs.GroupSets.{holdsAt, set-exact}
+use Rattle.rules.proofs.GroupSets.{set-exact}
 use Rattle.rules.proofs.Forms.{form-use}
 use Rattle.rules.proofs.AclSizes.{acl-fits}
 

@@ -8,11 +8,11 @@ use lib.ListN.{length, take, drop, set, length-append, length-drop}
 use lib.Seq.{length-take-le}
 use lib.Dec.{eqb}
 use Rattle.rules.specs.Sizes.{recordBytes}
-use Rattle.rules.specs.Basics.{if_then_else_, Bytes, number, kind, records, joined}
+use Rattle.rules.specs.Basics.{if_then_else_, Bytes, number, kind, records, joined, recordsFrom}
 use Rattle.rules.specs.Bundle.{Policy, policyOf}
 use Rattle.rules.specs.Trim.{keptBits, withBits, trimmedFrom, hintsFrom, trimmedAcl}
 use Rattle.rules.specs.Written.{bigEndian}
-use Rattle.rules.proofs.Rows.{recordsFrom, rows-lent, lentRecord, lent-record, lent-rest}
+use Rattle.rules.proofs.Rows.{rows-lent, lentRecord, lent-record, lent-rest}
 use Rattle.rules.proofs.Trim.{trim-end, hints-group, hints-other, hints-end}
 use Rattle.subject.specs.Writing.{overwritten}
 use Rattle.keeping.specs.declared.Fate.{Fate}

@@ -1,9 +1,8 @@
 use Prim.Native.Nat.{_≤_, _-_, _*_, _/_}
 use mathlib.Core.Path.{_≡_, refl}
 use lib.ListN.{length}
-use Rattle.rules.specs.Basics.{records}
-use Rattle.rules.proofs.Rows.{recordsFrom}
-use Rattle.rules.proofs.Asking.{writing}
+use Rattle.rules.specs.Basics.{records, recordsFrom}
+use Rattle.asking.specs.Written.{writing}
 use Rattle.judging.specs.Standings.{ledgerOfTables}
 use Rattle.choosing.specs.Deciding.{askSets}
 use Rattle.choosing.specs.Opening.{OpenFrom}

@@ -2,9 +2,9 @@ use Prim.Native.Nat.{_≤_, _-_}
 use mathlib.Core.Path.{_≡_, refl}
 use lib.ListN.{length}
 use Rattle.rules.specs.Sizes.{listedMax}
-use Rattle.rules.specs.Basics.{records, scan}
+use Rattle.rules.specs.Basics.{records, scan, recordsFrom}
 use Rattle.rules.specs.Bundle.{bundleRecordFault, afterBundleRecord, bundleEnd, bundleFault}
-use Rattle.rules.proofs.Rows.{recordsFrom, scan-stop, scan-next, scan-done}
+use Rattle.rules.proofs.Rows.{scan-stop, scan-next, scan-done}
 use Rattle.bundle.proofs.Laws.{bundle-bad, bundle-full, bundle-sound, bundle-next, listed-is, end-bad, end-sound}
 use borrow.Author.Needs.{needs}
 use Rattle.bundle.proofs.bundle_records.Statement.{statement}

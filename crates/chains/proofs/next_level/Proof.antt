@@ -2,10 +2,9 @@ use Prim.Native.Nat.{_≤_, _%_}
 use native.Mathlib.Omega.{arith}
 use mathlib.Core.Path.{_≡_}
 use lib.ListN.{length}
-use Rattle.rules.specs.Basics.{setOf, records}
+use Rattle.rules.specs.Basics.{setOf, records, recordsFrom}
 use Rattle.rules.specs.Request.{delegationsOf}
 use Rattle.chains.specs.Levels.{continues, nextLevel}
-use Rattle.rules.proofs.Rows.{recordsFrom}
 use Rattle.chains.proofs.Sets.{set-start, set-skip, set-more, set-whole, set-doubled}
 use Rattle.chains.proofs.Laws.{mark-small}
 use borrow.Author.Needs.{needs}

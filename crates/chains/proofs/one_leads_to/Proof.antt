@@ -1,10 +1,9 @@
 use Prim.Native.Nat.{_≤_, _-_}
 use mathlib.Core.Path.{_≡_, refl}
 use lib.ListN.{length}
-use Rattle.rules.specs.Basics.{records}
+use Rattle.rules.specs.Basics.{records, recordsFrom}
 use Rattle.rules.specs.Request.{delegationsOf}
 use Rattle.chains.specs.Levels.{anyIn, leadsTo}
-use Rattle.rules.proofs.Rows.{recordsFrom}
 use Rattle.chains.proofs.Sets.{dels-skip, dels-out, dels-found, dels-next, dels-done}
 use borrow.Author.Needs.{needs}
 use Rattle.chains.proofs.one_leads_to.Statement.{statement}

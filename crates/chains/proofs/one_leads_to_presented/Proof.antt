@@ -1,10 +1,9 @@
 use Prim.Native.Nat.{_≤_, _-_}
 use mathlib.Core.Path.{_≡_, refl}
 use lib.ListN.{length}
-use Rattle.rules.specs.Basics.{number, flag, optional, records}
+use Rattle.rules.specs.Basics.{number, flag, optional, records, recordsFrom}
 use Rattle.rules.specs.Request.{certificatesOf, delegationsOf}
 use Rattle.chains.specs.Levels.{anyIn, leadsToPresented}
-use Rattle.rules.proofs.Rows.{recordsFrom}
 use Rattle.chains.proofs.Sets.{dels-skip, dels-out, dels-found, dels-next, dels-done}
 use borrow.Author.Needs.{needs}
 use Rattle.chains.proofs.one_leads_to_presented.Statement.{statement}

@@ -1,8 +1,7 @@
 use Prim.Native.Nat.{_≤_, _-_}
 use mathlib.Core.Path.{_≡_, refl}
 use lib.ListN.{length}
-use Rattle.rules.proofs.Rows.{recordsFrom}
-use Rattle.rules.specs.Basics.{any, number, flag, optional, records}
+use Rattle.rules.specs.Basics.{recordsFrom, any, number, flag, optional, records}
 use Rattle.rules.specs.Request.{certificatesOf}
 use Rattle.rules.specs.Chain.{serves}
 use Rattle.chains.proofs.Laws.{certs-skip, certs-found, certs-next, certs-none}

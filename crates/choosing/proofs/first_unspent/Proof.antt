@@ -1,7 +1,7 @@
 use Prim.Native.Nat.{_<_, _^_}
 use mathlib.Core.Path.{_≡_, refl}
 use Rattle.rules.specs.Sizes.{groupsMax}
-use Rattle.rules.proofs.GroupSets.{firstIn}
+use Rattle.choosing.specs.GroupSets.{firstIn}
 use Rattle.choosing.specs.Members.{leftAt}
 use Rattle.choosing.proofs.Laws.{lowest-group, walk-stop, walk-next, walk-done, walk-less, walk-within}
 use borrow.Author.Needs.{needs}

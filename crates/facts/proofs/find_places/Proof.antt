@@ -1,7 +1,7 @@
 use Prim.Native.Nat.{_≤_, _-_}
 use mathlib.Core.Path.{_≡_}
 use lib.ListN.{length}
-use Rattle.rules.proofs.Rows.{recordsFrom}
+use Rattle.rules.specs.Basics.{recordsFrom}
 use Rattle.facts.specs.Places.{entries, Filling}
 use Rattle.facts.proofs.Places.{entry-below, filling-start, filling-kept, filling-put, filling-done}
 use borrow.Author.Needs.{needs}

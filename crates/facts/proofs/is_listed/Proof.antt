@@ -1,9 +1,8 @@
 use Prim.Native.Nat.{_≤_, _-_}
 use mathlib.Core.Path.{_≡_, refl}
 use lib.ListN.{length}
-use Rattle.rules.specs.Basics.{any, records}
+use Rattle.rules.specs.Basics.{any, records, recordsFrom}
 use Rattle.rules.specs.Bundle.{lists, listed}
-use Rattle.rules.proofs.Rows.{recordsFrom}
 use Rattle.facts.proofs.Laws.{any-found, any-next, any-none}
 use borrow.Author.Needs.{needs}
 use Rattle.facts.proofs.is_listed.Statement.{statement}

@@ -1,11 +1,10 @@
 use Prim.Native.Nat.{_≤_, _-_}
 use mathlib.Core.Path.{_≡_}
 use lib.ListN.{length, drop}
-use Rattle.rules.specs.Basics.{any, records}
+use Rattle.rules.specs.Basics.{any, records, recordsFrom}
 use Rattle.rules.specs.Acl.{actionsOf}
 use Rattle.rules.specs.Request.{blobFileNext, wantedOf}
 use Rattle.rules.specs.Grant.{admits}
-use Rattle.rules.proofs.Rows.{recordsFrom}
 use Rattle.groups.specs.Parts.{actionsFrom}
 use Rattle.gate_actions.proofs.Laws.{acts-first, acts-found, acts-next, acts-none}
 use borrow.Author.Needs.{needs}

@@ -1,10 +1,9 @@
 use Prim.Native.Nat.{_≤_, _-_}
 use mathlib.Core.Path.{_≡_, refl}
 use lib.ListN.{length}
-use Rattle.rules.specs.Basics.{any, records}
+use Rattle.rules.specs.Basics.{any, records, recordsFrom}
 use Rattle.rules.specs.Acl.{actionsOf}
 use Rattle.rules.specs.Grant.{admitsUse}
-use Rattle.rules.proofs.Rows.{recordsFrom}
 use Rattle.gate_actions.proofs.Laws.{uses-found, uses-next, acts-stop, acts-none}
 use borrow.Author.Needs.{needs}
 use Rattle.gate_actions.proofs.admits_some_use.Statement.{statement}

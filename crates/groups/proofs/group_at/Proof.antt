@@ -1,8 +1,7 @@
 use Prim.Native.Nat.{_≤_, _-_}
 use mathlib.Core.Path.{_≡_, refl}
 use lib.ListN.{length, drop}
-use Rattle.rules.specs.Basics.{records}
-use Rattle.rules.proofs.Rows.{recordsFrom}
+use Rattle.rules.specs.Basics.{records, recordsFrom}
 use Rattle.rules.specs.Acl.{groupsOf}
 use Rattle.groups.proofs.Laws.{from-skip, from-next, place-skip, place-next, place-here, place-none, found-here, found-none}
 use Rattle.groups.specs.Parts.{groupPlace}

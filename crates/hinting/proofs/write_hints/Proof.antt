@@ -1,9 +1,8 @@
 use Prim.Native.Nat.{_≤_, _-_}
 use mathlib.Core.Path.{_≡_}
 use lib.ListN.{length}
-use Rattle.rules.specs.Basics.{records, joined}
+use Rattle.rules.specs.Basics.{records, joined, recordsFrom}
 use Rattle.rules.specs.Trim.{hintsFrom, trimHints}
-use Rattle.rules.proofs.Rows.{recordsFrom}
 use Rattle.hinting.specs.Hinting.{SoundFrom}
 use Rattle.hinting.proofs.Written.{Writing, writing-kept, writing-inside}
 use Rattle.hinting.proofs.Hints.{sound-first, sound-group, sound-other, hints-first, hints-skip, hints-room, hints-next, hints-done}

@@ -4,7 +4,7 @@ use mathlib.Core.Path.{_≡_, ap}
 use lib.ListN.{length, getD}
 use Rattle.rules.specs.Acl.{groupsOf, aclOf}
 use Rattle.rules.specs.Request.{requestOf}
-use Rattle.rules.proofs.Rows.{recordsFrom}
+use Rattle.rules.specs.Basics.{recordsFrom}
 use Rattle.judging.specs.declared.Nearest.the-variants.{Nothing}
 use Rattle.judging.specs.Standings.{judgedFrom, standing}
 use Rattle.judging.proofs.Laws.{groups-grant, groups-next, groups-done, standing-at}

@@ -1,9 +1,8 @@
 use Prim.Native.Nat.{_≤_, _-_}
 use mathlib.Core.Path.{_≡_, refl}
 use lib.ListN.{length, drop}
-use Rattle.rules.specs.Basics.{records}
+use Rattle.rules.specs.Basics.{records, recordsFrom}
 use Rattle.rules.specs.Acl.{groupsOf}
-use Rattle.rules.proofs.Rows.{recordsFrom}
 use Rattle.judging.proofs.Laws.{group-here, group-skip, group-none}
 use borrow.Author.Needs.{needs}
 use Rattle.judging.proofs.next_group.Statement.{statement}

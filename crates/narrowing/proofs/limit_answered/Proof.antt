@@ -1,8 +1,7 @@
 use Prim.Native.Nat.{_≤_, _-_}
 use mathlib.Core.Path.{_≡_, refl}
 use lib.ListN.{length}
-use Rattle.rules.proofs.Rows.{recordsFrom}
-use Rattle.rules.specs.Basics.{any, records}
+use Rattle.rules.specs.Basics.{recordsFrom, any, records}
 use Rattle.rules.specs.Acl.{limitOf, limitsOf}
 use Rattle.rules.specs.Narrow.{answers, isAnswered}
 use Rattle.narrowing.proofs.Laws.{any-stop, any-found, any-next, any-done}

@@ -1,8 +1,7 @@
 use Prim.Native.Nat.{_≤_, _-_}
 use mathlib.Core.Path.{_≡_, refl}
 use lib.ListN.{length}
-use Rattle.rules.proofs.Rows.{recordsFrom}
-use Rattle.rules.specs.Basics.{all, records}
+use Rattle.rules.specs.Basics.{recordsFrom, all, records}
 use Rattle.rules.specs.Acl.{limitsOf}
 use Rattle.rules.specs.Narrow.{isAnswered}
 use Rattle.groups.proofs.Laws.{all-stop, all-failed, all-next, all-done}

@@ -4,7 +4,8 @@ use lib.ListN.{length, getD, drop}
 use Rattle.rules.specs.Acl.{groupsOf, aclOf}
 use Rattle.rules.specs.Request.{hintsOf}
 use Rattle.rules.specs.Narrow.{narrowsFrom, narrows}
-use Rattle.rules.proofs.Rows.{recordsFrom, rows-start}
+use Rattle.rules.proofs.Rows.{rows-start}
+use Rattle.rules.specs.Basics.{recordsFrom}
 use Rattle.groups.proofs.Laws.{begins}
 use Rattle.narrowing.proofs.Sources.{hintsFrom, hints-start, group-later, groups-on, hint-lacking, source-falls, source-found, source-wider, source-kept, left-next, hints-spent}
 use borrow.Author.Needs.{needs}

@@ -3,7 +3,7 @@ use mathlib.Core.Path.{_≡_}
 use mathlib.Core.List.{[]}
 use lib.ListN.{length}
 use Rattle.rules.specs.Request.{certificatesOf}
-use Rattle.rules.proofs.Rows.{recordsFrom}
+use Rattle.rules.specs.Basics.{recordsFrom}
 use Rattle.request.proofs.Laws.{none-past, none-earlier, parted-here, parted-all}
 use borrow.Author.Needs.{needs}
 use Rattle.request.proofs.delegations_start.Statement.{statement}

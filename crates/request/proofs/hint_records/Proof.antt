@@ -1,9 +1,9 @@
 use Prim.Native.Nat.{_≤_, _-_}
 use mathlib.Core.Path.{_≡_, refl}
 use lib.ListN.{length}
-use Rattle.rules.specs.Basics.{records, eachFault}
+use Rattle.rules.specs.Basics.{records, eachFault, recordsFrom}
 use Rattle.rules.specs.Request.{hintFault, hintsFault}
-use Rattle.rules.proofs.Rows.{recordsFrom, each-stop, each-next, each-done}
+use Rattle.rules.proofs.Rows.{each-stop, each-next, each-done}
 use Rattle.request.proofs.Laws.{hint-bad, hint-sound}
 use borrow.Author.Needs.{needs}
 use Rattle.request.proofs.hint_records.Statement.{statement}

@@ -1,9 +1,9 @@
 use Prim.Native.Nat.{_≤_, _-_}
 use mathlib.Core.Path.{_≡_, refl}
 use lib.ListN.{length}
-use Rattle.rules.specs.Basics.{records, scan}
+use Rattle.rules.specs.Basics.{records, scan, recordsFrom}
 use Rattle.rules.specs.Request.{presentedRecordFault, afterPresented, presentedEnd, presentedFault}
-use Rattle.rules.proofs.Rows.{recordsFrom, scan-done}
+use Rattle.rules.proofs.Rows.{scan-done}
 use Rattle.request.proofs.Laws.{certificate-bad, certificate-full, certificate-sound, delegation-bad, delegation-full, delegation-sound}
 use borrow.Author.Needs.{needs}
 use Rattle.request.proofs.presented_records.Statement.{statement}

@@ -1,9 +1,8 @@
 use Prim.Native.Nat.{_≤_, _-_}
 use mathlib.Core.Path.{_≡_}
 use lib.ListN.{length}
-use Rattle.rules.specs.Basics.{records, joined}
+use Rattle.rules.specs.Basics.{records, joined, recordsFrom}
 use Rattle.rules.specs.Trim.{trimmedFrom, trimmedAcl}
-use Rattle.rules.proofs.Rows.{recordsFrom}
 use Rattle.hinting.proofs.Written.{Writing, writing-kept, writing-inside}
 use Rattle.trimming.proofs.Laws.{acl-first, acl-room, acl-next, acl-done}
 use borrow.Author.Needs.{needs}

@@ -2,8 +2,7 @@ use Prim.Native.Nat.{_≤_, _-_}
 use mathlib.Core.Path.{_≡_, _∙_, refl}
 use lib.ListN.{length}
 use Rattle.rules.specs.Sizes.{limitsMax}
-use Rattle.rules.specs.Basics.{records}
-use Rattle.rules.proofs.Rows.{recordsFrom}
+use Rattle.rules.specs.Basics.{records, recordsFrom}
 use Rattle.acl.specs.Places.{aclPlaceAs, reading}
 use Rattle.acl.proofs.Laws.{was-true, acl-bad, acl-full, acl-open, acl-sound, read-stop, read-next, read-done}
 use borrow.Author.Needs.{needs}
