@@ -79,6 +79,11 @@ bitCount (suc k) n = (if bit k n then 1 else 0) + bitCount k n
 unfoldable pub within : ℕ → ℕ → ℕ → Bool
 within k a b = allBelow k (λ i. implies (bit i a) (bit i b))
 
+-- the number in which these bits are set, each listed once
+abbrev pub bits : List ℕ → ℕ
+bits [] = 0
+bits (i ∷ is) = 2 ^ i + bits is
+
 -- the elements of a list that pass a test, as a set: a number, in which bit i says whether the i-th is in it
 unfoldable pub setOf : {A : Type 0} → (A → Bool) → List A → ℕ
 setOf test [] = 0
