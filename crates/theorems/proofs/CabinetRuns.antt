@@ -6,47 +6,41 @@ use mathlib.Core.Path.{_≡_, refl, sym, _∙_, ap, ap₂}
 use mathlib.Core.List.{List, [], _∷_, _++_, map}
 use mathlib.Core.Option.{Option, none, some}
 use mathlib.Core.Bool.{Bool, true, false}
-use lib.ListN.{length, drop}
+use lib.ListN.{length, getD, drop}
 use lib.Seq.{set-set, getD-set-other}
 use lib.Dec.{eqb, ltb}
-use borrow.Author.Tests.{lt-ltb, le-ltb, eqb-false}
-use Rattle.rules.specs.Sizes.{slotsMax, runRecords}
+use borrow.Author.Tests.{lt-ltb, le-ltb, ltb-true, eqb-false}
+use Rattle.rules.specs.Sizes.{slotsMax, countersMax, runRecords}
 use Rattle.rules.specs.Numbers.{noSlot}
-use Rattle.rules.specs.Basics.{Bytes, records}
+use Rattle.rules.specs.Basics.{Bytes, Every, records}
 use Rattle.rules.specs.Request.{Certificate}
 use Rattle.rules.specs.Ledger.{Ledger}
 use Rattle.rules.specs.Runs.{withRow, askGate, bytesOfAnswer, Ran, askedInOrder, requestsIn, runFault, RunOutcome, ran, refusedWhole, runEnd, run}
 use Rattle.rules.specs.Prepared.{Form, preparedFault, preparedRun}
-use Rattle.rules.specs.Cabinet.{Slot, Cabinet, countsAndTimes, emptySlot, slotAt, ledgerAt, putBack}
+use Rattle.rules.specs.Desk.{Grade, approach2, accepted, desk}
+use Rattle.rules.specs.Cabinet.{Slot, Cabinet, freshCabinet, countsAndTimes, emptySlot, slotAt, ledgerAt, putBack}
 use Rattle.rules.specs.CabinetRuns.{runInSlot, cabinetRun, cabinetPreparedRun}
 use Rattle.rules.proofs.Laws.{never}
 use Rattle.theorems.specs.Demands.{outcome}
-use Rattle.theorems.specs.Cabinets.{CabinetCall, requestingAt, cabinetOutcome, cabinetAfter, cabinetAfterAll}
+use Rattle.theorems.specs.CabinetSteps.{CabinetStep, callingCabinet, runningAt, runningPreparedAt, cabinetAfterStep, cabinetAfterSteps, cabinetRequestsOf, cabinetAnswers, askedInSlot, cabinetCallsBy, cabinetCallsIn}
+use Rattle.theorems.specs.Cabinets.{CabinetCall, requestingAt, cabinetAfter, cabinetAfterAll, cabinetTally, turns, LentInForce, Unsigned, PermitAllowed}
+use Rattle.theorems.proofs.SharedCounters.{counters-count-all}
+use Rattle.theorems.proofs.SlotDemand3.{demand-3-slot}
 use Rattle.theorems.proofs.Slots.{inside, as-the-gate, slots-kept, put-back}
-
--- the answers of a sequence of calls, eight bytes each
-unfoldable pub answersOf : Cabinet → List CabinetCall → Bytes
-answersOf c [] = []
-answersOf c (x ∷ xs) = bytesOfAnswer (cabinetOutcome c x .answer) ++ answersOf (cabinetAfter c x) xs
 
 -- a ledger put back over another
 put-over : (c : Cabinet) (slot : ℕ) (l m : Ledger) → putBack (putBack c slot l) slot m ≡ putBack c slot m
 put-over c slot l m = ap (λ (ss : List Slot). let d : Cabinet = record { slots = ss; counters = m .counters } in d) (set-set (c .slots) slot (countsAndTimes l) (countsAndTimes m))
 
 module _ (slot : ℕ) (km0 acl : Bytes) (row : List Certificate) where
-  -- the request of a record of a run
-  abbrev pub callOf : Bytes → CabinetCall
+  abbrev callOf : Bytes → CabinetCall
   callOf r = requestingAt slot km0 acl (withRow r row)
-
-  -- .. of a run
-  abbrev pub callsOf : Bytes → List CabinetCall
-  callsOf requests = map callOf (records requests)
 
   module _ (h : slot < slotsMax) where
     asked-at : (c : Cabinet) (rs : List Bytes) → length (c .slots) ≡ slotsMax
         → (cabinetAfterAll c (map callOf rs) ≡ putBack c slot (askedInOrder (askGate km0 acl row) (ledgerAt c slot) rs .ledger))
-        × (answersOf c (map callOf rs) ≡ askedInOrder (askGate km0 acl row) (ledgerAt c slot) rs .answers)
-    unfolding askedInOrder cabinetAfterAll answersOf outcome
+        × (cabinetAnswers c (map callOf rs) ≡ askedInOrder (askGate km0 acl row) (ledgerAt c slot) rs .answers)
+    unfolding askedInOrder cabinetAfterAll cabinetAnswers outcome
     asked-at c [] n = (sym (put-back c slot), refl)
     asked-at c (r ∷ rs) n =
         let x = callOf r in
@@ -65,7 +59,7 @@ module _ (slot : ℕ) (km0 acl : Bytes) (row : List Certificate) where
     ended : (c : Cabinet) (requests buffer : Bytes) → length (c .slots) ≡ slotsMax → (o : RunOutcome)
         → o ≡ runEnd (ledgerAt c slot) requests buffer none (askedInOrder (askGate km0 acl row) (ledgerAt c slot) (records requests))
         → runInSlot c slot buffer o
-        ≡ record { reply = ran (requestsIn requests); cabinet = cabinetAfterAll c (callsOf requests); buffer = answersOf c (callsOf requests) ++ drop (length (answersOf c (callsOf requests))) buffer }
+        ≡ record { reply = ran (requestsIn requests); cabinet = cabinetAfterAll c (cabinetRequestsOf slot km0 acl row requests); buffer = cabinetAnswers c (cabinetRequestsOf slot km0 acl row requests) ++ drop (length (cabinetAnswers c (cabinetRequestsOf slot km0 acl row requests))) buffer }
     ended c requests buffer n o e =
         let a = asked-at c (records requests) n in
         rw (lt-ltb slot slotsMax h, e, a .0, a .1)
@@ -73,24 +67,20 @@ module _ (slot : ℕ) (km0 acl : Bytes) (row : List Certificate) where
     -- "On every ledger and run not refused whole, answers and ledger equal those of asking it one by one in order": in a slot
     pub slot-run : (c : Cabinet) (requests buffer : Bytes) → length (c .slots) ≡ slotsMax → runFault runRecords km0 acl row requests buffer ≡ none
         → cabinetRun c slot km0 acl row requests buffer
-        ≡ record { reply = ran (requestsIn requests); cabinet = cabinetAfterAll c (callsOf requests); buffer = answersOf c (callsOf requests) ++ drop (length (answersOf c (callsOf requests))) buffer }
+        ≡ record { reply = ran (requestsIn requests); cabinet = cabinetAfterAll c (cabinetRequestsOf slot km0 acl row requests); buffer = cabinetAnswers c (cabinetRequestsOf slot km0 acl row requests) ++ drop (length (cabinetAnswers c (cabinetRequestsOf slot km0 acl row requests))) buffer }
     unfolding cabinetRun run
     slot-run c requests buffer n e = ended c requests buffer n (run (ledgerAt c slot) km0 acl row requests buffer) (rw e)
 
     pub slot-prepared-run : (c : Cabinet) (f : Form) (requests buffer : Bytes) → length (c .slots) ≡ slotsMax → preparedFault km0 acl row f requests buffer ≡ none
         → cabinetPreparedRun c slot km0 acl row f requests buffer
-        ≡ record { reply = ran (requestsIn requests); cabinet = cabinetAfterAll c (callsOf requests); buffer = answersOf c (callsOf requests) ++ drop (length (answersOf c (callsOf requests))) buffer }
+        ≡ record { reply = ran (requestsIn requests); cabinet = cabinetAfterAll c (cabinetRequestsOf slot km0 acl row requests); buffer = cabinetAnswers c (cabinetRequestsOf slot km0 acl row requests) ++ drop (length (cabinetAnswers c (cabinetRequestsOf slot km0 acl row requests))) buffer }
     unfolding cabinetPreparedRun preparedRun
     slot-prepared-run c f requests buffer n e = ended c requests buffer n (preparedRun (ledgerAt c slot) km0 acl row f requests buffer) (rw e)
 
--- "13, first of all"
-pub slot-run-13 : (c : Cabinet) (slot : ℕ) (buffer : Bytes) (o : RunOutcome) → slotsMax ≤ slot → runInSlot c slot buffer o ≡ record { reply = refusedWhole noSlot; cabinet = c; buffer = buffer }
-slot-run-13 c slot buffer o h = rw (le-ltb slot slotsMax h)
-
--- a run refused whole leaves cabinet and buffer
-pub slot-run-refused : (c : Cabinet) (slot : ℕ) (requests buffer : Bytes) (f : Option ℕ) (o : Ran) (n : ℕ) → runInSlot c slot buffer (runEnd (ledgerAt c slot) requests buffer f o) .reply ≡ refusedWhole n
+-- a run in a slot, by what it comes to on the slot's ledger: a reply of 13, or of a run refused as a whole, leaves cabinet and buffer
+refused-in : (c : Cabinet) (slot : ℕ) (requests buffer : Bytes) (f : Option ℕ) (o : Ran) (n : ℕ) → runInSlot c slot buffer (runEnd (ledgerAt c slot) requests buffer f o) .reply ≡ refusedWhole n
     → (runInSlot c slot buffer (runEnd (ledgerAt c slot) requests buffer f o) .cabinet ≡ c) × (runInSlot c slot buffer (runEnd (ledgerAt c slot) requests buffer f o) .buffer ≡ buffer)
-slot-run-refused c slot requests buffer f o n e = pick (ltb slot slotsMax) refl f e
+refused-in c slot requests buffer f o n e = pick (ltb slot slotsMax) refl f e
   where
     pick : (b : Bool) → ltb slot slotsMax ≡ b → (f : Option ℕ) → runInSlot c slot buffer (runEnd (ledgerAt c slot) requests buffer f o) .reply ≡ refusedWhole n
         → (runInSlot c slot buffer (runEnd (ledgerAt c slot) requests buffer f o) .cabinet ≡ c) × (runInSlot c slot buffer (runEnd (ledgerAt c slot) requests buffer f o) .buffer ≡ buffer)
@@ -98,10 +88,99 @@ slot-run-refused c slot requests buffer f o n e = pick (ltb slot slotsMax) refl 
     pick true t (some x) d = rw t (put-back c slot, refl)
     pick false t f d = rw t (refl, refl)
 
--- "changes no other slot's counts or times"
-pub slot-run-others : (c : Cabinet) (slot other : ℕ) (buffer : Bytes) (o : RunOutcome) → eqb slot other ≡ false → slotAt (runInSlot c slot buffer o .cabinet) other ≡ slotAt c other
-slot-run-others c slot other buffer o e = pick (ltb slot slotsMax) refl
+others-in : (c : Cabinet) (slot other : ℕ) (buffer : Bytes) (o : RunOutcome) → eqb slot other ≡ false → slotAt (runInSlot c slot buffer o .cabinet) other ≡ slotAt c other
+others-in c slot other buffer o e = pick (ltb slot slotsMax) refl
   where
     pick : (b : Bool) → ltb slot slotsMax ≡ b → slotAt (runInSlot c slot buffer o .cabinet) other ≡ slotAt c other
     pick true t = rw t (getD-set-other (c .slots) slot other _ emptySlot (λ q. eqb-false slot other e (sym q)))
     pick false t = rw t
+
+module _ (c : Cabinet) (slot : ℕ) (km0 acl : Bytes) (row : List Certificate) (requests buffer : Bytes) where
+  -- "13, first of all"
+  pub slot-run-13 : slotsMax ≤ slot → cabinetRun c slot km0 acl row requests buffer ≡ record { reply = refusedWhole noSlot; cabinet = c; buffer = buffer }
+  unfolding cabinetRun
+  slot-run-13 h = rw (le-ltb slot slotsMax h)
+
+  -- a run refused whole leaves cabinet and buffer
+  pub slot-run-refused : (n : ℕ) → cabinetRun c slot km0 acl row requests buffer .reply ≡ refusedWhole n
+      → (cabinetRun c slot km0 acl row requests buffer .cabinet ≡ c) × (cabinetRun c slot km0 acl row requests buffer .buffer ≡ buffer)
+  unfolding cabinetRun run
+  slot-run-refused n e =
+      refused-in c slot requests buffer (runFault runRecords km0 acl row requests buffer) (askedInOrder (askGate km0 acl row) (ledgerAt c slot) (records requests)) n e
+
+  -- "changes no other slot's counts or times"
+  pub slot-run-others : (other : ℕ) → eqb slot other ≡ false → slotAt (cabinetRun c slot km0 acl row requests buffer .cabinet) other ≡ slotAt c other
+  unfolding cabinetRun
+  slot-run-others other e = others-in c slot other buffer (run (ledgerAt c slot) km0 acl row requests buffer) e
+
+  -- .. on a prepared ACL
+  module _ (f : Form) where
+    pub slot-prepared-13 : slotsMax ≤ slot → cabinetPreparedRun c slot km0 acl row f requests buffer ≡ record { reply = refusedWhole noSlot; cabinet = c; buffer = buffer }
+    unfolding cabinetPreparedRun
+    slot-prepared-13 h = rw (le-ltb slot slotsMax h)
+
+    pub slot-prepared-refused : (n : ℕ) → cabinetPreparedRun c slot km0 acl row f requests buffer .reply ≡ refusedWhole n
+        → (cabinetPreparedRun c slot km0 acl row f requests buffer .cabinet ≡ c) × (cabinetPreparedRun c slot km0 acl row f requests buffer .buffer ≡ buffer)
+    unfolding cabinetPreparedRun preparedRun
+    slot-prepared-refused n e =
+        refused-in c slot requests buffer (preparedFault km0 acl row f requests buffer) (askedInOrder (askGate km0 acl row) (ledgerAt c slot) (records requests)) n e
+
+    pub slot-prepared-others : (other : ℕ) → eqb slot other ≡ false → slotAt (cabinetPreparedRun c slot km0 acl row f requests buffer .cabinet) other ≡ slotAt c other
+    unfolding cabinetPreparedRun
+    slot-prepared-others other e = others-in c slot other buffer (preparedRun (ledgerAt c slot) km0 acl row f requests buffer) e
+
+-- ---- runs among calls of the cabinet
+cabinet-append : (c : Cabinet) (xs ys : List CabinetCall) → cabinetAfterAll c (xs ++ ys) ≡ cabinetAfterAll (cabinetAfterAll c xs) ys
+unfolding cabinetAfterAll
+cabinet-append c [] ys = refl
+cabinet-append c (x ∷ xs) ys = cabinet-append (cabinetAfter c x) xs ys
+
+-- a run is its requests, none where it is refused as a whole or there is no such slot
+run-calls : (c : Cabinet) (slot : ℕ) (km0 acl : Bytes) (row : List Certificate) (requests buffer : Bytes) (f : Option ℕ) → length (c .slots) ≡ slotsMax
+    → runInSlot c slot buffer (runEnd (ledgerAt c slot) requests buffer f (askedInOrder (askGate km0 acl row) (ledgerAt c slot) (records requests))) .cabinet
+    ≡ cabinetAfterAll c (askedInSlot slot f (cabinetRequestsOf slot km0 acl row requests))
+unfolding cabinetAfterAll
+run-calls c slot km0 acl row requests buffer f n = pick (ltb slot slotsMax) refl f
+  where
+    pick : (b : Bool) → ltb slot slotsMax ≡ b → (f : Option ℕ)
+        → runInSlot c slot buffer (runEnd (ledgerAt c slot) requests buffer f (askedInOrder (askGate km0 acl row) (ledgerAt c slot) (records requests))) .cabinet
+        ≡ cabinetAfterAll c (askedInSlot slot f (cabinetRequestsOf slot km0 acl row requests))
+    pick false t f = rw t
+    pick true t (some x) = rw t (put-back c slot)
+    pick true t none = rw t (sym (asked-at slot km0 acl row (ltb-true slot slotsMax t) c (records requests) n .0))
+
+step-calls : (c : Cabinet) (x : CabinetStep) → length (c .slots) ≡ slotsMax → cabinetAfterStep c x ≡ cabinetAfterAll c (cabinetCallsBy x)
+unfolding cabinetAfterStep cabinetAfterAll cabinetRun cabinetPreparedRun run preparedRun
+step-calls c (callingCabinet x) n = refl
+step-calls c (runningAt slot km0 acl row requests buffer) n = run-calls c slot km0 acl row requests buffer (runFault runRecords km0 acl row requests buffer) n
+step-calls c (runningPreparedAt slot km0 acl row f requests buffer) n = run-calls c slot km0 acl row requests buffer (preparedFault km0 acl row f requests buffer) n
+
+all-kept : (c : Cabinet) (xs : List CabinetCall) → length (cabinetAfterAll c xs .slots) ≡ length (c .slots)
+unfolding cabinetAfterAll
+all-kept c [] = refl
+all-kept c (x ∷ xs) = all-kept (cabinetAfter c x) xs ∙ slots-kept c x
+
+-- Steps come to calls: the same cabinet. So the theorems about sequences of cabinet calls (shared counters, isolation, demand 3 per slot) speak of runs in slots.
+pub cabinet-steps-as-calls : (c : Cabinet) (xs : List CabinetStep) → length (c .slots) ≡ slotsMax → cabinetAfterSteps c xs ≡ cabinetAfterAll c (cabinetCallsIn xs)
+unfolding cabinetAfterSteps cabinetCallsIn cabinetAfterAll
+cabinet-steps-as-calls c [] n = refl
+cabinet-steps-as-calls c (x ∷ xs) n =
+    let e = step-calls c x n in
+    cabinet-steps-as-calls (cabinetAfterStep c x) xs (ap (λ (d : Cabinet). length (d .slots)) e ∙ all-kept c (cabinetCallsBy x) ∙ n)
+    ∙ ap (λ (d : Cabinet). cabinetAfterAll d (cabinetCallsIn xs)) e
+    ∙ sym (cabinet-append c (cabinetCallsBy x) (cabinetCallsIn xs))
+
+-- "The counter sentence of demand 2 now counts permits over all slots", with runs among the calls.
+pub counters-count-all-steps : (steps : List CabinetStep) (counter : ℕ) → counter < countersMax
+    → getD (cabinetAfterSteps freshCabinet steps .counters) counter 0 ≡ cabinetTally counter freshCabinet 0 (cabinetCallsIn steps)
+counters-count-all-steps steps counter b =
+    ap (λ (c : Cabinet). getD (c .counters) counter 0) (cabinet-steps-as-calls freshCabinet steps refl)
+    ∙ counters-count-all (cabinetCallsIn steps) counter b
+
+-- Demand 3 per slot, with runs among the calls.
+pub demand-3-slot-steps : (bundle acl : Bytes) (verdict : Grade) → desk bundle acl ≡ accepted (approach2 verdict)
+    → (cabinet : Cabinet) (slot : ℕ) (steps : List CabinetStep)
+    → LentInForce acl (turns slot cabinet (cabinetCallsIn steps))
+    → Every (Unsigned (records bundle)) (turns slot cabinet (cabinetCallsIn steps))
+    → Every (PermitAllowed (records bundle) verdict) (turns slot cabinet (cabinetCallsIn steps))
+demand-3-slot-steps bundle acl verdict e cabinet slot steps f d = demand-3-slot bundle acl verdict e cabinet slot (cabinetCallsIn steps) f d

@@ -13,6 +13,7 @@ use Rattle.rules.specs.Request.{Certificate, standsAlone, requestRecordFault}
 use Rattle.rules.specs.Ledger.{Ledger}
 use Rattle.rules.specs.Gate.{refuse, refused}
 use Rattle.rules.specs.Runs.{withRow, askGate, Ran, answeredFirst, askedInOrder, requestsIn, runFault, ran, refusedWhole, runEnd, run}
+use Rattle.rules.specs.Prepared.{Form, preparedFault, preparedRun}
 use Rattle.rules.proofs.Laws.{never}
 use Rattle.rules.proofs.Asking.{Sound, ask-gate}
 use Rattle.theorems.specs.Demands.{requesting, outcome}
@@ -41,8 +42,20 @@ pub malformed-answered : (km0 acl : Bytes) (row : List Certificate) → Sound km
 unfolding requestRecordFault
 malformed-answered km0 acl row s l r n e = ask-gate km0 acl row s l r n ∙ rw e
 
--- "with the buffer untouched": a run refused whole hands back ledger and buffer as they were
-pub refused-whole : (l : Ledger) (requests buffer : Bytes) (fault : Option ℕ) (o : Ran) (n : ℕ) → runEnd l requests buffer fault o .reply ≡ refusedWhole n
+-- "with the buffer untouched": what is refused as a whole hands back ledger and buffer as they were
+refused-whole : (l : Ledger) (requests buffer : Bytes) (fault : Option ℕ) (o : Ran) (n : ℕ) → runEnd l requests buffer fault o .reply ≡ refusedWhole n
     → (runEnd l requests buffer fault o .ledger ≡ l) × (runEnd l requests buffer fault o .buffer ≡ buffer)
 refused-whole l requests buffer none o n e = absurd (never (cc))
 refused-whole l requests buffer (some f) o n e = (refl, refl)
+
+pub run-refused : (l : Ledger) (km0 acl : Bytes) (row : List Certificate) (requests buffer : Bytes) (n : ℕ) → run l km0 acl row requests buffer .reply ≡ refusedWhole n
+    → (run l km0 acl row requests buffer .ledger ≡ l) × (run l km0 acl row requests buffer .buffer ≡ buffer)
+unfolding run
+run-refused l km0 acl row requests buffer n e =
+    refused-whole l requests buffer (runFault runRecords km0 acl row requests buffer) (askedInOrder (askGate km0 acl row) l (records requests)) n e
+
+pub prepared-refused : (l : Ledger) (km0 acl : Bytes) (row : List Certificate) (f : Form) (requests buffer : Bytes) (n : ℕ) → preparedRun l km0 acl row f requests buffer .reply ≡ refusedWhole n
+    → (preparedRun l km0 acl row f requests buffer .ledger ≡ l) × (preparedRun l km0 acl row f requests buffer .buffer ≡ buffer)
+unfolding preparedRun
+prepared-refused l km0 acl row f requests buffer n e =
+    refused-whole l requests buffer (preparedFault km0 acl row f requests buffer) (askedInOrder (askGate km0 acl row) l (records requests)) n e

@@ -218,11 +218,16 @@ module _ (bundle acl aclBuffer hintBuffer : Bytes) where
   unfolding trimReply
   short-refused e d r = rw (fault-short bundle acl aclBuffer hintBuffer e d r)
 
-  -- "on any of these both stay untouched"
-  pub buffers-stand : (f : TrimReply) → trimFault bundle acl aclBuffer hintBuffer ≡ some f
-      → (trimReply bundle acl aclBuffer hintBuffer ≡ f) × (trimAclBuffer bundle acl aclBuffer hintBuffer ≡ aclBuffer) × (trimHintBuffer bundle acl aclBuffer hintBuffer ≡ hintBuffer)
+  -- "on any of these both stay untouched": where the reply is not both lengths
+  pub buffers-stand : ((n m : ℕ) → trimReply bundle acl aclBuffer hintBuffer ≡ trimmed n m → ⊥)
+      → (trimAclBuffer bundle acl aclBuffer hintBuffer ≡ aclBuffer) × (trimHintBuffer bundle acl aclBuffer hintBuffer ≡ hintBuffer)
   unfolding trimReply trimAclBuffer trimHintBuffer
-  buffers-stand f e = (rw e, rw e, rw e)
+  buffers-stand h = pick (trimFault bundle acl aclBuffer hintBuffer) refl
+    where
+      pick : (o : Option TrimReply) → trimFault bundle acl aclBuffer hintBuffer ≡ o
+          → (trimAclBuffer bundle acl aclBuffer hintBuffer ≡ aclBuffer) × (trimHintBuffer bundle acl aclBuffer hintBuffer ≡ hintBuffer)
+      pick none e = absurd (h (length (trimmedAcl (records bundle) acl)) (length (trimHints (records bundle) acl)) (rw e))
+      pick (some f) e = (rw e, rw e)
 
   -- "otherwise the reply is both lengths and bytes past the results stay"
   pub both-written : trimFault bundle acl aclBuffer hintBuffer ≡ none
