@@ -11,17 +11,11 @@ use borrow.Author.Tests.{eqb-true}
 use Rattle.rules.specs.Sizes.{permissionsMax}
 use Rattle.rules.specs.Basics.{Bytes, any}
 use Rattle.rules.specs.Acl.{Action, permissions, makeBlob, makeArchive, Group}
-use Rattle.rules.specs.Request.{Wanted, operation, workingBlob, recoveryBlob, WorkingBlob, RecoveryBlob, BlobFile}
+use Rattle.rules.specs.Request.{WorkingBlob, RecoveryBlob, BlobFile}
 use Rattle.rules.specs.Grant.{admitsWorking, admitsRecovery}
 use Rattle.rules.specs.Desk.{isArchive}
 use Rattle.rules.specs.Prepared.{isBlobAction, Form, useSet, useSets, formOf, sameForm}
 use Rattle.rules.proofs.Laws.{and-left, and-right, same-eq}
-
--- a use is of one of the permissions that there are
-abbrev pub KnownUse : Wanted → Type 0
-KnownUse (operation p) = p < permissionsMax
-KnownUse (workingBlob w f) = Unit {0}
-KnownUse (recoveryBlob w f) = Unit {0}
 
 uses-at : (gs : List Group) (from n p : ℕ) → p < n → getD (useSets gs from n) p 0 ≡ useSet gs (from + p)
 unfolding useSets

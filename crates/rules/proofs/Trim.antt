@@ -7,7 +7,7 @@ use mathlib.Core.List.{List, [], _∷_}
 use mathlib.Core.Option.{none, some}
 use mathlib.Core.Bool.{Bool, true, false, not, _&&_}
 use lib.ListN.{length}
-use lib.Dec.{eqb, leb}
+use lib.Dec.{eqb}
 use borrow.Author.Tests.{ltb-true}
 use Rattle.rules.specs.Sizes.{actionsMax}
 use Rattle.rules.specs.Numbers.{shortBuffer}
@@ -17,7 +17,7 @@ use Rattle.rules.specs.Acl.{AclPlace, hasRoomUnder, afterRecord, aclReco
 use Rattle.rules.specs.Written.{bigEndian, hintBytes}
 use Rattle.rules.specs.Bundle.{policyOf}
 use Rattle.rules.specs.Desk.{Step, beforeAcl, deskFault}
-use Rattle.rules.specs.Trim.{keptBits, withBits, isChecked, actionPasses, stays, trimmedRecord, keptBefore, trimmedFrom, keptPlaces, hintsFrom, trimmedAcl, trimHints, untrimmed, unread, trimFault}
+use Rattle.rules.specs.Trim.{roomy, keptBits, withBits, isChecked, actionPasses, stays, trimmedRecord, keptBefore, trimmedFrom, keptPlaces, hintsFrom, untrimmed, unread, trimFault}
 use Rattle.rules.proofs.Laws.{orNext-first, orNext-next}
 use Rattle.rules.proofs.Rows.{rows-lent, rows-end, lentRecord}
 use Rattle.rules.proofs.Joined.{Whole}
@@ -215,10 +215,6 @@ module _ (b : List Bytes) (place : ℕ) (s : Bytes) (at : ℕ) where
 
 -- The ways that the tool ends: as the desk refuses, at a step before the ACL, with 9, or with both results written.
 module _ (bundle acl aclBuffer hintBuffer : Bytes) where
-  -- both results fit their buffers
-  abbrev pub roomy : Bool
-  roomy = leb (length (trimmedAcl (records bundle) acl)) (length aclBuffer) && leb (length (trimHints (records bundle) acl)) (length hintBuffer)
-
   pub fault-refused : (f : ℕ) → deskFault bundle acl ≡ some f → trimFault bundle acl aclBuffer hintBuffer ≡ some (unread f)
   unfolding trimFault firstFault
   fault-refused f e = rw e
@@ -227,10 +223,10 @@ module _ (bundle acl aclBuffer hintBuffer : Bytes) where
   unfolding trimFault firstFault
   fault-step s e d = rw (e, d)
 
-  pub fault-short : deskFault bundle acl ≡ none → beforeAcl (records bundle) ≡ none → roomy ≡ false → trimFault bundle acl aclBuffer hintBuffer ≡ some (unread shortBuffer)
+  pub fault-short : deskFault bundle acl ≡ none → beforeAcl (records bundle) ≡ none → roomy bundle acl aclBuffer hintBuffer ≡ false → trimFault bundle acl aclBuffer hintBuffer ≡ some (unread shortBuffer)
   unfolding trimFault firstFault
   fault-short e d r = rw (e, d, r)
 
-  pub fault-none : deskFault bundle acl ≡ none → beforeAcl (records bundle) ≡ none → roomy ≡ true → trimFault bundle acl aclBuffer hintBuffer ≡ none
+  pub fault-none : deskFault bundle acl ≡ none → beforeAcl (records bundle) ≡ none → roomy bundle acl aclBuffer hintBuffer ≡ true → trimFault bundle acl aclBuffer hintBuffer ≡ none
   unfolding trimFault firstFault
   fault-none e d r = rw (e, d, r)

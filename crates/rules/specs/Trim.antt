@@ -101,6 +101,11 @@ abbrev pub ofStep : Option Step → Option TrimReply
 ofStep none = none
 ofStep (some s) = some (untrimmed s)
 
+-- both results fit their buffers
+abbrev pub roomy : Bytes → Bytes → Bytes → Bytes → Bool
+roomy bundle acl aclBuffer hintBuffer =
+    leb (length (trimmedAcl (records bundle) acl)) (length aclBuffer) && leb (length (trimHints (records bundle) acl)) (length hintBuffer)
+
 -- The reply where nothing is written: "The tool judges by approach 2 whatever the policy names. Refusals and failing steps before the ACL are reported
 -- as the desk reports them, KV3 and CSRL1 are not judged. If either buffer is short the answer is 9".
 unfoldable pub trimFault : Bytes → Bytes → Bytes → Bytes → Option TrimReply
@@ -108,9 +113,7 @@ trimFault bundle acl aclBuffer hintBuffer =
     firstFault
     (ofRefusal (deskFault bundle acl)
     ∷ ofStep (beforeAcl (records bundle))
-    ∷ unless
-    (leb (length (trimmedAcl (records bundle) acl)) (length aclBuffer) && leb (length (trimHints (records bundle) acl)) (length hintBuffer))
-    (unread shortBuffer)
+    ∷ unless (roomy bundle acl aclBuffer hintBuffer) (unread shortBuffer)
     ∷ [])
 
 -- "otherwise the reply is both lengths"

@@ -13,7 +13,8 @@ use Rattle.theorems.specs.Demands.{outcome}
 use Rattle.theorems.specs.Cabinets.{CabinetCall, clearingAll, cabinetOutcome, cabinetAfter, cabinetAfterAll, lentIn, gateCall, gateOutcome}
 use Rattle.theorems.proofs.Lists.{every-set, every-getD, every-replicate}
 use Rattle.theorems.proofs.Tables.{fresh-sized, call-sized}
-use Rattle.theorems.proofs.Bounds.{Held, fresh-bounded, call-bounded}
+use Rattle.theorems.proofs.Bounds.{fresh-bounded, call-bounded}
+use Rattle.theorems.specs.Tables.{Held, CabinetSized, CabinetBounded}
 use Rattle.theorems.proofs.Slots.{Lands, to-slot, to-none, to-all, lands, slots-kept}
 
 module _ {A : Type 0} (P : A → Type 0) where
@@ -37,17 +38,6 @@ module _ (P : List ℕ → Type 0) (Q : List ℕ → Type 0) (keeps : (l : Ledge
           (every-set (λ s. P (s .counts)) (c .slots) k (countsAndTimes (gateOutcome (ledgerAt c k) x .ledger)) (l .0) (h .0), l .1)
       pick x r (to-none k e b z) = h
       pick x r (to-all n) = (h .0, keeps (ledgerAt c 0) (clearingAll n) (at 0 (omega arith)) (h .1) .1)
-
--- "eight slots", each with its group counts, "and one shared table of named counters"
-pub record CabinetSized (c : Cabinet) : Type 0 where
-  pub eight : length (c .slots) ≡ slotsMax
-  pub groups : Every (λ s. length (s .counts) ≡ groupsMax) (c .slots)
-  pub named : length (c .counters) ≡ countersMax
-
--- every count is one that 32 bits hold
-pub record CabinetBounded (c : Cabinet) : Type 0 where
-  pub groups : Every (λ s. Every Held (s .counts)) (c .slots)
-  pub named : Every Held (c .counters)
 
 pub fresh-cabinet-sized : CabinetSized freshCabinet
 fresh-cabinet-sized =

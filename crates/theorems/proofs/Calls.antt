@@ -22,7 +22,7 @@ use Rattle.theorems.specs.Demands.{Call, requesting, loading, clearing, 
 use Rattle.theorems.specs.Account.{requestAsked, km0Given}
 use Rattle.rules.proofs.Laws.{never, fault-none-every}
 use Rattle.rules.proofs.Few.{narrow-few}
-use Rattle.rules.proofs.Forms.{KnownUse}
+use Rattle.theorems.specs.Safety.{KnownUse}
 use Rattle.theorems.proofs.RequestFile.{known-request, use-wanted}
 use Rattle.theorems.proofs.Permit.{granted-is, called}
 

@@ -32,7 +32,8 @@ use Rattle.rules.proofs.Rows.{records-sized}
 use Rattle.rules.proofs.Written.{wellFormed, TokenFits, parameters-laid-out, blob-whole, blob-time, blob-wanted, blob-alone, part-octets, token-octets, no-token-octets, blob-octets, certificate-octets, joined-octets, records-octets, number-below}
 use Rattle.theorems.proofs.Lists.{zero-at}
 use Rattle.theorems.proofs.AclFile.{ActionRead, GroupRead, acl-read}
-use Rattle.theorems.proofs.Permit.{Permitted, some-grants, permit-comes}
+use Rattle.theorems.proofs.Permit.{some-grants, permit-comes}
+use Rattle.theorems.specs.Permits.{Permitted}
 use Rattle.theorems.proofs.Hints.{tighter-self}
 use Rattle.theorems.proofs.Accepted.{not-faulty, attested-policy, acl-passed, module-trusted}
 

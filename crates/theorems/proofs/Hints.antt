@@ -1,6 +1,6 @@
 -- What hints that show a narrowing are: one for each new group, with sources that rise strictly; and an ACL narrows to itself. Two wrong products that
 -- this rules out: one that lets two new groups share one source, and one whose narrowing check always says 8.
-use Prim.Native.Nat.{ℕ, zero, suc, _+_, _-_, _≤_, _<_}
+use Prim.Native.Nat.{ℕ, zero, suc, _+_, _-_, _<_}
 use native.Mathlib.Omega.{arith}
 use native.Mathlib.Nat.{add-zero, zero-add, suc-add, add-suc}
 use mathlib.Core.Path.{_≡_, refl, ap}
@@ -18,13 +18,9 @@ use Rattle.rules.specs.Grant.{tighter}
 use Rattle.rules.specs.Narrow.{kept, keptNumber, keptParameters, blobNoWider, archiveNoWider, keptDevices, fileNoWider, noWider, noWiderThan, actionsNoWider, answers, isAnswered, groupNarrows, narrowsSource, narrowsFrom, narrows}
 use Rattle.rules.proofs.Laws.{and-left, and-right, and-both, or-right, implication, allBelow-all, same-refl, every-at, any-here}
 use Rattle.theorems.proofs.Lists.{every-all}
+use Rattle.theorems.specs.Narrowings.{Rising, places, ownActions, ownHints}
 
 ruleset conj = (and-left, and-right, and-both)
-
--- "Sources rise strictly.": each from `low` on
-abbrev pub Rising : ℕ → List Hint → Type 0
-Rising low [] = Unit {0}
-Rising low (h ∷ hs) = (low ≤ h .source) × Rising (suc (h .source)) hs
 
 module _ (old : List Group) where
   shown-from : (low : ℕ) (new : List Group) (hints : List Hint) → narrowsFrom old low new hints ≡ true → (length hints ≡ length new) × Rising low hints
@@ -117,19 +113,6 @@ limit-self m =
     let y = eq-eqb (m .counter) (m .counter) refl in
     let z = le-leb (m .maximum) (m .maximum) (omega arith) in
     search conj
-
--- the numbers of a list's places, from `place` on
-unfoldable pub places : {A : Type 0} → ℕ → List A → List ℕ
-places place [] = []
-places place (x ∷ xs) = place ∷ places (suc place) xs
-
--- the hints that name every group and action by its own place; "Unused action bytes are zero."
-abbrev pub ownActions : List Action → List ℕ
-ownActions xs = places 0 xs ++ replicate (actionsMax - length xs) 0
-
-unfoldable pub ownHints : ℕ → List Group → List Hint
-ownHints place [] = []
-ownHints place (g ∷ gs) = record { source = place; actions = ownActions (g .actions) } ∷ ownHints (suc place) gs
 
 -- a list stands in another from a place on
 abbrev pub StandsAt : {A : Type 0} → List A → ℕ → List A → Type 0

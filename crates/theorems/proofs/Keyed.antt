@@ -9,18 +9,9 @@ use mathlib.Core.Bool.{Bool, true, false, false≢true}
 use lib.Dec.{eqb}
 use Rattle.rules.specs.Numbers.{malformed, openArchive}
 use Rattle.rules.specs.Basics.{Bytes, Every, kind, flag, optional, present, scan, records}
-use Rattle.rules.specs.Acl.{FileRule, Action, permissions, makeBlob, makeArchive, actionOf, fileRuleNext, actionsOf, Group, groupOf, groupsOf, aclOf, AclPlace, aclStart, actionLaidOut, actionInPlace, fileRecord, placedUnder, inPlaceUnder, inPlace, keyed, afterRecord, recordFaultUnder, aclRecordFault, aclEnd, aclFaultUnder, aclFault}
+use Rattle.rules.specs.Acl.{FileRule, actionOf, fileRuleNext, actionsOf, groupOf, groupsOf, aclOf, AclPlace, aclStart, actionLaidOut, actionInPlace, fileRecord, placedUnder, inPlaceUnder, inPlace, keyed, afterRecord, recordFaultUnder, aclRecordFault, aclEnd, aclFaultUnder, aclFault}
 use Rattle.rules.proofs.Laws.{never, and-left, implied, unless-passed, orNext-first, orNext-next, fault-none-every}
-
--- a MakeArchiveBlob action that has kahash; an action of another kind needs none
-abbrev pub HasKey : Action → Type 0
-HasKey (permissions bits) = Unit {0}
-HasKey (makeBlob b f) = Unit {0}
-HasKey (makeArchive a f) = present (a .kahash) ≡ true
-
--- "Open means no certifier.": a group without one has no MakeArchiveBlob action that lacks kahash
-abbrev pub Closed : Group → Type 0
-Closed g = g .certifier ≡ none → Every HasKey (g .actions)
+use Rattle.theorems.specs.Narrowings.{HasKey, Closed}
 
 -- a field that is not there is not announced
 unannounced : {A : Type 0} (b : Bool) (a : A) → optional b a ≡ none → b ≡ false

@@ -22,17 +22,7 @@ use Rattle.theorems.specs.Certification.{Member, Presents, Leads, Chain,
 use Rattle.theorems.proofs.Lists.{both-ways}
 use Rattle.theorems.proofs.Certification.{certified-is}
 use Rattle.theorems.proofs.Permit.{called}
-
--- all of one list stand in another
-abbrev pub Among : {A : Type 0} → List A → List A → Type 0
-Among {A} xs ys = (x : A) → Member x xs → Member x ys
-
--- Two requests for the same at the same time; the other presents all that the one does.
-pub record PresentsMore (q r : Request) : Type 0 where
-  pub sameWanted : q .wanted ≡ r .wanted
-  pub sameTime : q .time ≡ r .time
-  pub certificates : Among (q .certificates) (r .certificates)
-  pub delegations : Among (q .delegations) (r .delegations)
+use Rattle.theorems.specs.Presented.{PresentsMore, PresentsSame, NotTo, Straight}
 
 module _ (q r : Request) (h : PresentsMore q r) where
   presents-more : (k : Bytes) (m : Option ℕ) → Presents (q .certificates) k m → Presents (r .certificates) k m
@@ -61,10 +51,6 @@ module _ (q r : Request) (h : PresentsMore q r) where
       pick : Certified q g → Certified r g
       pick (inl x) = inl x
       pick (inr x) = inr (x .0, x .1, vouched-more (x .0) (g .mechanism) (x .2))
-
--- Two requests that present the same, in whatever order and however often.
-abbrev pub PresentsSame : Request → Request → Type 0
-PresentsSame q r = PresentsMore q r × PresentsMore r q
 
 pub certified-same : (q r : Request) (g : Group) → PresentsSame q r → certified q g ≡ certified r g
 certified-same q r g h = both-ways (certified q g) (certified r g) (certified-more q r (h .0) g) (certified-more r q (h .1) g)
@@ -116,14 +102,6 @@ module _ (l : Ledger) (km0 acl req req′ : Bytes) (h : PresentsSame (requestOf 
   unfolding expand
   expand-same new e d =
       called-same l km0 (requestOf req) (requestOf req′) h (expandFiles km0 acl req new) (expandFiles km0 acl req′ new) (aclOf acl) expanded (e ∙ sym d)
-
--- Loops. A chain is straight if no key is come to twice.
-abbrev pub NotTo : Bytes → Delegation → Type 0
-NotTo k d = d .to ≡ k → ⊥
-
-abbrev pub Straight : Bytes → List Delegation → Type 0
-Straight k [] = Unit {0}
-Straight k (d ∷ links) = Every (NotTo k) (d ∷ links) × Straight (d .to) links
 
 module _ (P : Delegation → Type 0) (h : Bytes) where
   -- straight links, no more than n of them, from a key

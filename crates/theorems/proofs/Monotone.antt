@@ -16,7 +16,7 @@ use Rattle.rules.specs.Request.{Token, WorkingBlob, RecoveryBlob, BlobFile, Wan
 use Rattle.rules.specs.Grant.{timeAnswers, tighter, meets, nullKey, admitsDirect, admitsToken, admitsKey, admitsUnder, admitsBlob, admitsArchive, admitsDevice, admitsTemplate, admitsFile, admits, admitsUse, admitsWorking, admitsRecovery}
 use Rattle.rules.specs.Narrow.{kept, keptParameters, blobNoWider, archiveNoWider, keptDevices, fileNoWider, noWider, noWiderThan, actionsNoWider, groupNarrows, narrowsSource, narrowsFrom}
 use Rattle.rules.proofs.Laws.{never, and-left, and-right, and-both, or-cases, or-left, or-right, implied, implication, every-at, allBelow-at, allBelow-all, same-eq, eq-same, bothSame-eq}
-use Rattle.rules.proofs.Forms.{KnownUse}
+use Rattle.theorems.specs.Safety.{KnownUse, Confined, Safe}
 
 pub within-at : (k a b i : ℕ) → i < k → within k a b ≡ true → bit i a ≡ true → bit i b ≡ true
 unfolding within
@@ -172,11 +172,7 @@ admits-wider km0 (recoveryBlob w f) (makeArchive n g) (makeArchive o h) k e d =
 
 -- If all that the source's actions admit is good (of a KM0 and a wanted thing), so is all that the new group's actions admit.
 module _ (Good : Bytes → Wanted → Type 0) where
-  -- all that an action admits is good
-  abbrev pub Confined : Action → Type 0
-  Confined a = (km0 : Bytes) (w : Wanted) → KnownUse w → admits km0 w a ≡ true → Good km0 w
-
-  pub actions-confined : (new : List Action) (hints : List ℕ) (old : List Action) → actionsNoWider new hints old ≡ true → Every Confined old → Every Confined new
+  pub actions-confined : (new : List Action) (hints : List ℕ) (old : List Action) → actionsNoWider new hints old ≡ true → Every (Confined Good) old → Every (Confined Good) new
   unfolding actionsNoWider
   actions-confined [] hints old e h = tt
   actions-confined (a ∷ rest) [] old e h = absurd (false≢true e)
@@ -185,25 +181,22 @@ module _ (Good : Bytes → Wanted → Type 0) where
     actions-confined rest is old (and-right (noWiderThan a (getElem? old i)) (actionsNoWider rest is old) e) h,
   )
     where
-      named : (o : Option Action) → getElem? old i ≡ o → noWiderThan a o ≡ true → Confined a
+      named : (o : Option Action) → getElem? old i ≡ o → noWiderThan a o ≡ true → Confined Good a
       named none q f = absurd (false≢true f)
-      named (some o) q f = λ km0 w k d. every-at Confined old i o h q km0 w k (admits-wider km0 w a o k f d)
+      named (some o) q f = λ km0 w k d. every-at (Confined Good) old i o h q km0 w k (admits-wider km0 w a o k f d)
 
--- A group is safe if the officer's key is its certifier, or all that its actions admit is good. A narrowing keeps groups safe.
+-- A narrowing keeps groups safe.
 module _ (officer : Option Bytes) (Good : Bytes → Wanted → Type 0) where
-  abbrev pub Safe : Group → Type 0
-  Safe g = (bothSame officer (g .certifier) ≡ true) ⊎ Every (Confined Good) (g .actions)
-
   kept-officer : (n o : Option Bytes) → kept n o ≡ true → bothSame officer o ≡ true → bothSame officer n ≡ true
   kept-officer n none e d = let q = bothSame-eq officer none d in absurd (never (cc))
   kept-officer none (some o) e d = absurd (false≢true e)
   kept-officer (some n) (some o) e d = rw (same-eq n o e) d
 
-  group-safe : (n : Group) (hints : List ℕ) (o : Group) → groupNarrows n hints o ≡ true → Safe o → Safe n
+  group-safe : (n : Group) (hints : List ℕ) (o : Group) → groupNarrows n hints o ≡ true → Safe officer Good o → Safe officer Good n
   group-safe n hints o e (inl d) = inl (kept-officer (n .certifier) (o .certifier) (search conj) d)
   group-safe n hints o e (inr h) = inr (actions-confined Good (n .actions) hints (o .actions) (search conj) h)
 
-  pub narrowed-safe : (old : List Group) (low : ℕ) (new : List Group) (hints : List Hint) → narrowsFrom old low new hints ≡ true → Every Safe old → Every Safe new
+  pub narrowed-safe : (old : List Group) (low : ℕ) (new : List Group) (hints : List Hint) → narrowsFrom old low new hints ≡ true → Every (Safe officer Good) old → Every (Safe officer Good) new
   unfolding narrowsFrom
   narrowed-safe old low [] [] e h = tt
   narrowed-safe old low [] (i ∷ is) e h = tt
@@ -211,6 +204,6 @@ module _ (officer : Option Bytes) (Good : Bytes → Wanted → Type 0) where
   narrowed-safe old low (n ∷ ns) (i ∷ is) e h =
       (named (getElem? old (i .source)) refl (search conj), narrowed-safe old (suc (i .source)) ns is (search conj) h)
     where
-      named : (o : Option Group) → getElem? old (i .source) ≡ o → narrowsSource n (i .actions) o ≡ true → Safe n
+      named : (o : Option Group) → getElem? old (i .source) ≡ o → narrowsSource n (i .actions) o ≡ true → Safe officer Good n
       named none q f = absurd (false≢true f)
-      named (some o) q f = group-safe n (i .actions) o f (every-at Safe old (i .source) o h q)
+      named (some o) q f = group-safe n (i .actions) o f (every-at (Safe officer Good) old (i .source) o h q)

@@ -15,13 +15,14 @@ use Rattle.rules.specs.Request.{Request}
 use Rattle.rules.specs.Ledger.{Ledger, charge}
 use Rattle.rules.specs.Grant.{groupAdmits, certified, limitLeft, limitsLeft}
 use Rattle.rules.specs.Gate.{Outcome, Lowest, group, lowest, early, Judgement, granted, denied, tooEarly, admitsCertified, grants, orElse, judge, outcomeUnless, settle}
-use Rattle.rules.specs.Cabinet.{Slot, countsAndTimes, ledgerWith}
+use Rattle.rules.specs.Cabinet.{Slot, ledgerWith}
 use Rattle.rules.proofs.Judging.{ungranted}
 use Rattle.theorems.specs.Demands.{Call, outcome, names, oneOf}
 use Rattle.theorems.specs.Account.{requestAsked, km0Given}
 use Rattle.theorems.specs.Cabinets.{countersNamed, countersIn}
 use Rattle.theorems.proofs.Permit.{called}
 use Rattle.theorems.proofs.Calls.{recounts, Kind, judged, loaded, within, past, kind}
+use Rattle.theorems.specs.Tables.{Alike}
 
 -- two tables read the same at these numbers
 abbrev Agree : List ℕ → List ℕ → List ℕ → Type 0
@@ -79,11 +80,6 @@ module _ (a b : List ℕ) where
     unfolding judge
     judge-agrees gs h =
         ap (λ (r : Lowest). if tooEarly (ledgerWith s a) q then denied early else orElse r granted (ungranted (lowest (λ place. admitsCertified km0 q) 0 gs) (lowest (λ place. groupAdmits km0 q) 0 gs))) (lowest-agrees 0 gs h)
-
--- outcomes with the same answer that leave the same group counts and times
-pub record Alike (o p : Outcome) : Type 0 where
-  pub answers : o .answer ≡ p .answer
-  pub slots : countsAndTimes (o .ledger) ≡ countsAndTimes (p .ledger)
 
 module _ (s : Slot) (a b : List ℕ) where
   called-alike : (fault : Option ℕ) (km0 : Bytes) (gs : List Group) (q : Request) (shown : Bool) (recount : List ℕ → List ℕ) → Agree a b (countersIn gs)

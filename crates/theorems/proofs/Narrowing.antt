@@ -20,10 +20,10 @@ use Rattle.rules.specs.Narrow.{kept, keptNumber, answers, isAnswered, groupNarr
 use Rattle.theorems.specs.Demands.{names}
 use Rattle.theorems.specs.Certification.{Presents, Vouched}
 use Rattle.rules.proofs.Laws.{never, and-left, and-right, and-both, every-map, any-here, any-some, same-eq}
-use Rattle.rules.proofs.Forms.{KnownUse}
+use Rattle.theorems.specs.Safety.{KnownUse, Confined}
 use Rattle.theorems.proofs.Lists.{every-all}
 use Rattle.theorems.proofs.Certification.{vouched-is}
-use Rattle.theorems.proofs.Monotone.{Confined, actions-confined}
+use Rattle.theorems.proofs.Monotone.{actions-confined}
 
 ruleset conj = (and-left, and-right, and-both)
 

@@ -2,7 +2,7 @@
 -- rules out: a run refused with 14 without a form, and a form refused with 9.
 use Prim.Native.Nat.{ℕ, _*_}
 use mathlib.Core.Path.{_≡_, refl, ap}
-use mathlib.Core.List.{List, [], _∷_}
+use mathlib.Core.List.{List}
 use mathlib.Core.Option.{Option, none, some}
 use mathlib.Core.Bool.{true}
 use lib.ListN.{length}
@@ -17,15 +17,8 @@ use Rattle.rules.specs.Runs.{withRow, askGate, Ran, askedInOrder, requestsIn, r
 use Rattle.rules.specs.Prepared.{Form, formOf, sameForm, unprepared, preparationUnless, prepare, preparedFault, preparedRun}
 use Rattle.rules.proofs.Laws.{never}
 use Rattle.theorems.specs.Demands.{oneOf}
-use Rattle.theorems.proofs.Refusals.{FaultIn, unless-in, first-in, acl-in, RefusalIn, requestNumbers, fileNumbers, request-number}
-
--- 1, 3, 2, the ACL's 2, 3 and 12, and 9
-abbrev pub runNumbers : List ℕ
-runNumbers = 1 ∷ 2 ∷ 3 ∷ 12 ∷ 9 ∷ []
-
--- .. and 14
-abbrev pub preparedNumbers : List ℕ
-preparedNumbers = 1 ∷ 2 ∷ 3 ∷ 12 ∷ 9 ∷ 14 ∷ []
+use Rattle.theorems.proofs.Refusals.{FaultIn, unless-in, first-in, acl-in, request-number}
+use Rattle.theorems.specs.Numbers.{RefusalIn, requestNumbers, fileNumbers, runNumbers, preparedNumbers}
 
 module _ (ns : List ℕ) (one : oneOf ns badLength ≡ true) (two : oneOf ns malformed ≡ true) (three : oneOf ns tooMany ≡ true) (twelve : oneOf ns openArchive ≡ true) (nine : oneOf ns shortBuffer ≡ true) where
   run-fault-in : (most : ℕ) (km0 acl : Bytes) (row : List Certificate) (requests buffer : Bytes) → FaultIn ns (runFault most km0 acl row requests buffer)

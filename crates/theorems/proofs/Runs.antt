@@ -8,14 +8,14 @@ use mathlib.Core.Bool.{false}
 use lib.ListN.{length, drop}
 use Rattle.rules.specs.Sizes.{recordBytes, runRecords}
 use Rattle.rules.specs.Numbers.{malformed}
-use Rattle.rules.specs.Basics.{Bytes, records}
+use Rattle.rules.specs.Basics.{Bytes, Every, records}
 use Rattle.rules.specs.Request.{Certificate, standsAlone, requestRecordFault}
 use Rattle.rules.specs.Ledger.{Ledger}
 use Rattle.rules.specs.Gate.{refuse, refused}
-use Rattle.rules.specs.Runs.{withRow, askGate, Ran, answeredFirst, askedInOrder, requestsIn, runFault, ran, refusedWhole, runEnd, run}
+use Rattle.rules.specs.Runs.{Decoded, withRow, askGate, Ran, answeredFirst, askedInOrder, requestsIn, runFault, ran, refusedWhole, runEnd, run}
 use Rattle.rules.specs.Prepared.{Form, preparedFault, preparedRun}
 use Rattle.rules.proofs.Laws.{never}
-use Rattle.rules.proofs.Asking.{Sound, ask-gate}
+use Rattle.rules.proofs.Asking.{ask-gate, run-sound}
 use Rattle.theorems.specs.Demands.{requesting, outcome}
 use Rattle.theorems.proofs.Demand1.{refused-ledger}
 
@@ -36,11 +36,11 @@ refusal-goes-on km0 acl row l r rs n near e =
     let q : askGate km0 acl row l r .ledger ≡ l = refused-ledger (record { ledger = l; acl = acl }) (requesting km0 (withRow r row)) n near e in
     rw (e, q)
 
--- "A malformed request record gets its own answer 2."; one that announces a record of kind 15 is malformed here
-pub malformed-answered : (km0 acl : Bytes) (row : List Certificate) → Sound km0 acl row → (l : Ledger) (r : Bytes) → length r ≡ recordBytes → standsAlone r ≡ false
-    → askGate km0 acl row l r ≡ refused l malformed
+-- "A malformed request record gets its own answer 2.", in a run not refused whole; one that announces a record of kind 15 is malformed here
+pub malformed-answered : (most : ℕ) (km0 acl : Bytes) (row : List Certificate) (requests buffer : Bytes) → Every Decoded row → runFault most km0 acl row requests buffer ≡ none
+    → (l : Ledger) (r : Bytes) → length r ≡ recordBytes → standsAlone r ≡ false → askGate km0 acl row l r ≡ refused l malformed
 unfolding requestRecordFault
-malformed-answered km0 acl row s l r n e = ask-gate km0 acl row s l r n ∙ rw e
+malformed-answered most km0 acl row requests buffer d f l r n e = ask-gate km0 acl row (run-sound most km0 acl row requests buffer d f .0) l r n ∙ rw e
 
 -- "with the buffer untouched": what is refused as a whole hands back ledger and buffer as they were
 refused-whole : (l : Ledger) (requests buffer : Bytes) (fault : Option ℕ) (o : Ran) (n : ℕ) → runEnd l requests buffer fault o .reply ≡ refusedWhole n

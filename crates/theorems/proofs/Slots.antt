@@ -4,7 +4,7 @@
 use Prim.Native.Nat.{ℕ, _≤_, _<_}
 use mathlib.Core.Path.{_≡_, refl, sym, _∙_, ap, subst}
 use mathlib.Core.Logic.{_↔_}
-use mathlib.Core.List.{List, [], _∷_}
+use mathlib.Core.List.{List, []}
 use mathlib.Core.Option.{Option, none, some}
 use mathlib.Core.Bool.{Bool, true, false}
 use lib.ListN.{length, getD, set, length-set}
@@ -12,7 +12,7 @@ use lib.Seq.{getD-set-same, getD-set-other, set-getD}
 use lib.Dec.{eqb, ltb}
 use borrow.Author.Tests.{eqb-false, lt-ltb, le-ltb, ltb-true, ltb-false}
 use Rattle.rules.specs.Sizes.{slotsMax, countersMax}
-use Rattle.rules.specs.Numbers.{outOfRange, noSlot}
+use Rattle.rules.specs.Numbers.{noSlot}
 use Rattle.rules.specs.Basics.{any}
 use Rattle.rules.specs.Ledger.{Ledger}
 use Rattle.rules.specs.Gate.{Outcome, refuse, clear}
@@ -22,7 +22,8 @@ use Rattle.theorems.specs.Cabinets.{CabinetCall, requestingAt, loadingAt
 use Rattle.rules.proofs.Laws.{never, not-both, or-right}
 use Rattle.theorems.proofs.Calls.{ClearsNone}
 use Rattle.theorems.proofs.Demand1.{refused-ledger}
-use Rattle.theorems.proofs.Refusals.{requestNumbers, narrowNumbers, request-number, expand-number, narrow-number, clear-number, Numbered, RefusalIn}
+use Rattle.theorems.proofs.Refusals.{request-number, expand-number, narrow-number, clear-number}
+use Rattle.theorems.specs.Numbers.{Numbered, RefusalIn, gateNumbers, cabinetNumbers}
 
 -- the gate's answer, and of the ledger that it handed back the counters
 abbrev onTable : Cabinet → Outcome → CabinetOutcome
@@ -132,22 +133,6 @@ demand-1-cabinet c x n near e = pick x (cabinetOutcome c x) (lands c x) e
     pick x r (to-slot k d b) e = rw (refused-ledger (record { ledger = ledgerAt c k; acl = lentIn x }) (gateCall x) n near e) (put-back c k)
     pick x r (to-none k d b z) e = refl
     pick x r (to-all m) e = rw (refused-ledger (record { ledger = ledgerAt c 0; acl = [] }) (clearing m) n near e)
-
--- The numbers that the gate gives to a call, which are by kind of call in the papers, too ..
-abbrev pub gateNumbers : CabinetCall → List ℕ
-gateNumbers (requestingAt slot km0 acl req) = requestNumbers
-gateNumbers (loadingAt slot time) = []
-gateNumbers (clearingAll counter) = outOfRange ∷ []
-gateNumbers (narrowingAt slot km0 acl req new hints) = narrowNumbers
-gateNumbers (expandingAt slot km0 acl req new) = requestNumbers
-
--- .. and those that the cabinet gives: 13 besides, where the call has a slot
-abbrev pub slotNumbers : Option ℕ → List ℕ → List ℕ
-slotNumbers none ns = ns
-slotNumbers (some slot) ns = noSlot ∷ ns
-
-abbrev pub cabinetNumbers : CabinetCall → List ℕ
-cabinetNumbers x = slotNumbers (slotIn x) (gateNumbers x)
 
 -- a refusal's number is one of the gate's, and 13 is none of these
 gate-number : (l : Ledger) (x : CabinetCall) → RefusalIn (gateNumbers x) (gateOutcome l x) × (oneOf (gateNumbers x) noSlot ≡ false)

@@ -23,15 +23,16 @@ use Rattle.rules.specs.Gate.{permit, lengthsFit, narrowFiles, narrow}
 use Rattle.rules.specs.Written.{Octets}
 use Rattle.rules.specs.Bundle.{field, policyOf}
 use Rattle.rules.specs.Desk.{Step, classOf, policyAdmits, aclFailure, beforeAcl, afterAcl, fullFailure, deskFault, faulty, failed, desk}
-use Rattle.rules.specs.Trim.{trimmedFrom, hintsFrom, trimmedAcl, trimHints, TrimReply, trimmed, untrimmed, unread, trimFault, trimReply, trimAclBuffer, trimHintBuffer}
+use Rattle.rules.specs.Trim.{trimmedFrom, hintsFrom, trimmedAcl, trimHints, TrimReply, trimmed, untrimmed, unread, trimFault, trimReply, trimAclBuffer, trimHintBuffer, roomy}
 use Rattle.theorems.specs.Trimmed.{Trimmed, LosesBits, KeptAs, ActionsTrimmed, no-action, keeping, removing, GroupTrimmed, GroupsTrimmed, no-group, group}
 use Rattle.rules.proofs.Laws.{never, and-left, and-right, and-both, implication, every-map, chunks-length, allBelow-all, unless-passed, fault-none-every}
 use Rattle.rules.proofs.Rows.{records-sized}
 use Rattle.rules.proofs.Joined.{Whole, joined-records, joined-fits, fits-joined}
 use Rattle.rules.proofs.Written.{joined-octets, records-octets}
-use Rattle.rules.proofs.Trim.{trimmed-whole, trimmed-few, roomy, fault-refused, fault-step, fault-short, fault-none}
+use Rattle.rules.proofs.Trim.{trimmed-whole, trimmed-few, fault-refused, fault-step, fault-short, fault-none}
 use Rattle.theorems.proofs.Hints.{kept-self, kept-number-self, action-self, StandsAt, stands-here, stands-next, all-zero, limits-self}
-use Rattle.theorems.proofs.Permit.{Permitted, narrow-needs, narrow-comes}
+use Rattle.theorems.proofs.Permit.{narrow-needs, narrow-comes}
+use Rattle.theorems.specs.Permits.{Permitted}
 use Rattle.rules.proofs.AclSizes.{acl-fits}
 use Rattle.theorems.proofs.TrimmedAcl.{every-fault-none, trimmed-acl-sound, same-groups, trimmed-passes, passing-untouched, hints-sound, hints-many, trimmed-octets, hints-octets}
 

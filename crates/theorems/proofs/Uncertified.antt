@@ -2,26 +2,22 @@
 -- there is a chain, and one that is led astray by a loop.
 use Prim.Native.Nat.{ℕ}
 use mathlib.Core.Path.{_≡_}
-use mathlib.Core.Logic.{_↔_, _⊎_, inl, inr}
+use mathlib.Core.Logic.{_⊎_, inl, inr}
 use mathlib.Core.List.{List}
 use mathlib.Core.Option.{Option, none, some}
 use mathlib.Core.Bool.{true, false}
-use lib.ListN.{getElem?}
 use Rattle.rules.specs.Numbers.{notCertified}
 use Rattle.rules.specs.Basics.{Bytes, any}
 use Rattle.rules.specs.Acl.{Group, aclOf}
 use Rattle.rules.specs.Request.{Request, requestOf, hintsOf}
 use Rattle.rules.specs.Ledger.{Ledger}
 use Rattle.rules.specs.Grant.{groupAdmits, certified}
-use Rattle.rules.specs.Gate.{refuse, Outcome, tooEarly, admitsCertified, requestFiles, request, narrowFiles, narrow, expandFiles, expand}
+use Rattle.rules.specs.Gate.{Outcome, tooEarly, admitsCertified, requestFiles, request, narrowFiles, narrow, expandFiles, expand}
 use Rattle.rules.proofs.Laws.{never, and-left, and-right, and-both, not-both, decided}
 use Rattle.theorems.specs.Certification.{Uncertified}
 use Rattle.theorems.proofs.Certification.{any-member, member-any, uncertified-is}
-use Rattle.theorems.proofs.Demand2.{RefusedSo, Breach, Reason, a-file, the-time, admission, certification, spending, request-refused, narrow-refused, expand-refused, request-why, narrow-why, expand-why}
-
--- "every admitting group names a certifier and none has such a certificate or chain"
-abbrev pub AllUncertified : Bytes → List Group → Request → Type 0
-AllUncertified km0 gs q = (place : ℕ) (g : Group) → getElem? gs place ≡ some g → groupAdmits km0 q g ≡ true → Uncertified q g
+use Rattle.theorems.proofs.Demand2.{request-refused, narrow-refused, expand-refused, request-why, narrow-why, expand-why}
+use Rattle.theorems.specs.Permits.{a-file, the-time, admission, certification, spending, RefusedSo, Breach, Reason, RefusedBy, AllUncertified, UncertifiedExactly}
 
 module _ (km0 : Bytes) (gs : List Group) (q : Request) where
   all-uncertified : any (admitsCertified km0 q) gs ≡ false → AllUncertified km0 gs q
@@ -41,16 +37,6 @@ module _ (km0 : Bytes) (gs : List Group) (q : Request) where
           let u = f (r .1 .0) g (r .1 .1) (and-left (groupAdmits km0 q g) (certified q g) (r .2)) in
           absurd (not-both (certified q g) (and-right (groupAdmits km0 q g) (certified q g) (r .2)) (uncertified-is q g .1 u))
       pick (inr e) = e
-
--- a refusal with a number, whichever group it carries
-abbrev pub RefusedBy : ℕ → Outcome → Type 0
-RefusedBy n o = (near : Option ℕ) × (o .answer ≡ refuse n near)
-
--- "An admitted use is uncertified exactly when every admitting group names a certifier and none has such a certificate or chain": of a call whose files
--- have no fault and whose time does not go back. (So are a blob request, which no chain certifies, and a replacement, which is a use.)
-abbrev pub UncertifiedExactly : Option ℕ → Ledger → Bytes → List Group → Request → Outcome → Type 0
-UncertifiedExactly fault l km0 gs q o =
-    fault ≡ none → tooEarly l q ≡ false → any (groupAdmits km0 q) gs ≡ true → RefusedBy notCertified o ↔ AllUncertified km0 gs q
 
 module _ (fault : Option ℕ) (l : Ledger) (km0 : Bytes) (gs : List Group) (q : Request) (f : fault ≡ none) (t : tooEarly l q ≡ false) (a : any (groupAdmits km0 q) gs ≡ true) where
   of-reason : (near : Option ℕ) → Reason fault l km0 gs q notCertified near → AllUncertified km0 gs q

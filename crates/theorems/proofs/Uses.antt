@@ -23,7 +23,7 @@ use Rattle.theorems.specs.Demands.{Call, State, outcome, replacement, in
 use Rattle.theorems.specs.Account.{requestAsked, km0Given, PutDownTo, PutDown, AllPutDown, isExpansion}
 use Rattle.rules.proofs.Laws.{never, and-left, and-right, and-both, every-map, there-below}
 use Rattle.theorems.proofs.Lists.{zero-at, every-all}
-use Rattle.rules.proofs.Forms.{KnownUse}
+use Rattle.theorems.specs.Safety.{KnownUse}
 use Rattle.rules.proofs.AclSizes.{acl-fits}
 use Rattle.theorems.proofs.Hints.{limit-self}
 use Rattle.theorems.proofs.Calls.{Way, uses, reduces, expands, Permits, Comes, refuses, loads, zeroes, permits, comes}

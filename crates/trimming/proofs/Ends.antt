@@ -13,12 +13,12 @@ use Rattle.rules.specs.Numbers.{shortBuffer}
 use Rattle.rules.specs.Basics.{Bytes, Every, kind, scan, records}
 use Rattle.rules.specs.Acl.{AclPlace, aclStart, afterRecord, aclRecordFault, aclFaultUnder, aclFault}
 use Rattle.rules.specs.Desk.{Step, beforeAcl, deskFault}
-use Rattle.rules.specs.Trim.{isChecked, keptPlaces, hintsFrom, trimmedAcl, trimHints, TrimReply, trimmed, untrimmed, unread, trimFault, trimReply, trimAclBuffer, trimHintBuffer}
+use Rattle.rules.specs.Trim.{isChecked, keptPlaces, hintsFrom, trimmedAcl, trimHints, TrimReply, trimmed, untrimmed, unread, trimFault, trimReply, trimAclBuffer, trimHintBuffer, roomy}
 use Rattle.rules.proofs.Laws.{and-both, orNext-next, fault-none-every}
 use Rattle.rules.proofs.Joined.{Whole, joined-length}
 use Rattle.rules.proofs.Places.{aclFrom}
 use Rattle.rules.proofs.Written.{hint-whole}
-use Rattle.rules.proofs.Trim.{group-places, roomy, fault-refused, fault-step, fault-short, fault-none}
+use Rattle.rules.proofs.Trim.{group-places, fault-refused, fault-step, fault-short, fault-none}
 use Rattle.subject.specs.Writing.{overwritten}
 
 -- Each hint has 64 bytes.
