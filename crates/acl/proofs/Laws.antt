@@ -1,15 +1,14 @@
 -- The turns of the loops of this crate, and what a key added to those of a group comes to.
-use Prim.Native.Nat.{ℕ, _+_, _-_, _≤_, _<_}
+use Prim.Native.Nat.{ℕ, zero, suc, _+_, _-_, _*_, _/_, _%_, _≤_, _<_}
 use native.Mathlib.Omega.{arith}
-use native.Mathlib.Numerals.{add-one}
-use mathlib.Core.Path.{_≡_, refl, sym, _∙_, ap}
+use mathlib.Core.Path.{_≡_, refl, sym, _∙_, ap, ap₂}
 use mathlib.Core.List.{List, [], _∷_, _++_}
 use mathlib.Core.Option.{Option, none, some}
 use mathlib.Core.Bool.{Bool, true, false, not, _&&_, _||_}
-use lib.ListN.{length, take, drop, getD, set, drop-of-length-le, length-take}
-use lib.Seq.{drop-cons, take-suc-set}
+use lib.ListN.{length, length-append}
+use lib.Arith.{mod-mul}
 use lib.Dec.{eqb, ltb}
-use borrow.Author.Tests.{eq-eqb, ne-eqb, lt-ltb, le-ltb, ltb-true, ltb-false, not-true, not-false}
+use borrow.Author.Tests.{eq-eqb, ne-eqb, ltb-true, not-true, not-false}
 use Rattle.rules.specs.Sizes.{groupsMax, limitsMax, actionsMax}
 use Rattle.rules.specs.Basics.{Bytes, any, kind, flag, orNext, firstFault, scan, recordsFrom}
 use Rattle.rules.specs.Numbers.{malformed, tooMany, openArchive}
@@ -19,39 +18,93 @@ use Rattle.files.specs.declared.Checked.{Checked}
 use Rattle.files.specs.declared.Checked.the-variants.{Sound, Refused}
 use Rattle.files.specs.Faults.{faultAs}
 use Rattle.acl.specs.declared.Place.{Place}
-use Rattle.acl.specs.Places.{aclPlaceAs, begunWith, addedWith, AclReading, stopped, on, readPast, reading, checkedAs}
+use Rattle.acl.specs.Places.{keysOf, aclPlaceAs, begunWith, addedWith, AclReading, stopped, on, readPast, reading, checkedAs}
 
 -- A key among some, by a loop: what is left has the whole's answer.
-module _ (key : ℕ) (keys : List ℕ) (i : ℕ) (inv : among key (drop i keys) ≡ among key keys) where
-  among-at : i < length keys → among key keys ≡ (eqb (getD keys i 0) key || among key (drop (i + 1) keys))
-  unfolding among any
-  among-at h = sym inv ∙ rw (add-one, drop-cons keys i 0)
-
-  pub among-stop : i < length keys → getD keys i 0 ≡ key → true ≡ among key keys
-  among-stop h e = sym (among-at h ∙ rw (eq-eqb _ _ e))
-
-  pub among-next : i < length keys → (getD keys i 0 ≡ key → ⊥) → among key (drop (i + 1) keys) ≡ among key keys
-  among-next h n = sym (among-at h ∙ rw (ne-eqb _ _ n))
-
-  pub among-done : length keys ≤ i → false ≡ among key keys
-  unfolding among any
-  among-done h = rw (drop-of-length-le keys {i = i} h) at inv
-
--- the first n of a row's keys have room for one more exactly if n is below the row's length
-pub room-left : (n k : ℕ) (keys : List ℕ) → length keys ≡ k → ltb n k ≡ ltb (length (take n keys)) k
-room-left n k keys e = pick (ltb n k) refl
+any-last : {A : Type 0} (t : A → Bool) (xs : List A) (x : A) → any t (xs ++ (x ∷ [])) ≡ (t x || any t xs)
+unfolding any
+any-last t [] x = refl
+any-last t (y ∷ xs) x = pick (t y) (t x) (any-last t xs x)
   where
-    pick : (b : Bool) → ltb n k ≡ b → b ≡ ltb (length (take n keys)) k
-    pick true d = let l = ltb-true n k d in sym (lt-ltb (length (take n keys)) k (omega (arith, length-take n keys)))
-    pick false d = let l = ltb-false n k d in sym (le-ltb (length (take n keys)) k (omega (arith, length-take n keys)))
+    pick : (a b : Bool) → any t (xs ++ (x ∷ [])) ≡ (b || any t xs) → (a || any t (xs ++ (x ∷ []))) ≡ (b || (a || any t xs))
+    pick true true e = refl
+    pick true false e = refl
+    pick false true e = e
+    pick false false e = e
 
--- a key stored after the first n
-key-added : (n key : ℕ) (keys : List ℕ) → n < length keys → take (n + 1) (set keys n key) ≡ take n keys ++ (key ∷ [])
-key-added n key keys h = rw add-one (take-suc-set keys n key h)
+module _ (key i left : ℕ) (x : Bool) (inv : among key (keysOf i left) ≡ x) where
+  among-at : 0 < i → (eqb (left % 65536) key || among key (keysOf (i - 1) (left / 65536))) ≡ x
+  unfolding among keysOf
+  among-at h =
+      let e : i ≡ suc (i - 1) = omega arith in
+      sym (ap (λ (n : ℕ). any (λ k. eqb k key) (keysOf n left)) e ∙ any-last (λ k. eqb k key) (keysOf (i - 1) (left / 65536)) (left % 65536)) ∙ inv
 
-pub place-added : (p : Place) (key : ℕ) → p .limits < length (p .keys)
-    → aclPlaceAs (record { groups = p .groups; opened = p .opened; limits = p .limits + 1; actions = p .actions; keys = set (p .keys) (p .limits) key; «file_due» = p .«file_due» }) ≡ limitAdded (aclPlaceAs p) key
-place-added p key h = ap (λ (l : List ℕ). record { groups = p .groups; isOpen = p .opened; limits = l; actions = p .actions; fileDue = p .«file_due» }) (key-added (p .limits) key (p .keys) h)
+  pub among-stop : 0 < i → left % 65536 ≡ key → true ≡ x
+  among-stop h e = rw (eq-eqb (left % 65536) key e) at (among-at h)
+
+  pub among-next : 0 < i → (left % 65536 ≡ key → ⊥) → among key (keysOf (i - 1) (left / 65536)) ≡ x
+  among-next h n = rw (ne-eqb (left % 65536) key n) at (among-at h)
+
+  pub among-done : i ≤ 0 → false ≡ x
+  unfolding among any keysOf
+  among-done h =
+      let e : i ≡ 0 = omega arith in
+      rw e at inv
+
+pub not-is : (r t : Bool) → r ≡ t → not r ≡ not t
+not-is r t e = ap not e
+
+-- as many keys as limits
+keys-length : (n keys : ℕ) → length (keysOf n keys) ≡ n
+unfolding keysOf
+keys-length zero keys = refl
+keys-length (suc n) keys = length-append (keysOf n (keys / 65536)) (keys % 65536 ∷ []) ∙ omega (arith, keys-length n (keys / 65536))
+
+pub room-left : (n k keys : ℕ) → ltb n k ≡ ltb (length (keysOf n keys)) k
+room-left n k keys = ap (λ (m : ℕ). ltb m k) (sym (keys-length n keys))
+
+-- the lowest parts are those of a remainder
+module _ (m k : ℕ) (h : 0 < m) where
+  parts : k % (m * 65536) ≡ (k / 65536 % m) * 65536 + k % 65536
+  parts = mod-mul k h (omega arith)
+
+  last-part : k % (m * 65536) % 65536 ≡ k % 65536
+  last-part = omega (arith, parts)
+
+  other-parts : k % (m * 65536) / 65536 ≡ k / 65536 % m
+  other-parts = omega (arith, parts)
+
+low-step : (n m k : ℕ) → 0 < m → keysOf n (k / 65536 % m) ≡ keysOf n (k / 65536) → keysOf (suc n) (k % (m * 65536)) ≡ keysOf (suc n) k
+unfolding keysOf
+low-step n m k h e =
+    ap₂ (λ (l : List ℕ) (x : ℕ). l ++ (x ∷ [])) (ap (keysOf n) (other-parts m k h) ∙ e) (last-part m k h)
+
+low-none : (m k : ℕ) → keysOf 0 (k % m) ≡ keysOf 0 k
+unfolding keysOf
+low-none m k = refl
+
+low-keys : (n keys : ℕ) → n < limitsMax → keysOf n (keys % 281474976710656) ≡ keysOf n keys
+low-keys zero keys h = low-none 281474976710656 keys
+low-keys (suc zero) keys h = low-step 0 4294967296 keys (omega arith) (low-none 4294967296 (keys / 65536))
+low-keys (suc (suc zero)) keys h =
+    low-step 1 4294967296 keys (omega arith) (low-step 0 65536 (keys / 65536) (omega arith) (low-none 65536 (keys / 65536 / 65536)))
+low-keys (suc (suc (suc zero))) keys h =
+    low-step 2 4294967296 keys (omega arith)
+    (low-step 1 65536 (keys / 65536) (omega arith) (low-step 0 1 (keys / 65536 / 65536) (omega arith) (low-none 1 (keys / 65536 / 65536 / 65536))))
+low-keys (suc (suc (suc (suc n)))) keys h = absurd (omega arith)
+
+-- a key added
+key-added : (n key keys : ℕ) → n < limitsMax → key < 65536 → keysOf (n + 1) (keys % 281474976710656 * 65536 + key) ≡ keysOf n keys ++ (key ∷ [])
+unfolding keysOf
+key-added n key keys h l =
+    let e : n + 1 ≡ suc n = omega arith in
+    let p : (keys % 281474976710656 * 65536 + key) / 65536 ≡ keys % 281474976710656 = omega arith in
+    let q : (keys % 281474976710656 * 65536 + key) % 65536 ≡ key = omega arith in
+    rw (e, p, q, low-keys n keys h)
+
+pub place-added : (p : Place) (key : ℕ) → p .limits < limitsMax → key < 65536
+    → aclPlaceAs (record { groups = p .groups; opened = p .opened; limits = p .limits + 1; actions = p .actions; keys = p .keys % 281474976710656 * 65536 + key; «file_due» = p .«file_due» }) ≡ limitAdded (aclPlaceAs p) key
+place-added p key h l = ap (λ (l : List ℕ). record { groups = p .groups; isOpen = p .opened; limits = l; actions = p .actions; fileDue = p .«file_due» }) (key-added (p .limits) key (p .keys) h l)
 
 -- The fault of a record by its three tests, `if !f(..)`.
 module _ (s : AclPlace) (r : Bytes) (a : Bool) (e : a ≡ inPlace s r) where
@@ -93,23 +146,15 @@ module _ (p : Place) (r : Bytes) (h : hasRoom (aclPlaceAs p) r ≡ true) where
   unfolding hasRoomUnder
   group-fits e = ltb-true (p .groups) groupsMax (rw (eq-eqb (kind r) 1 e) at h)
 
-  pub limit-fits : (kind r ≡ 1 → ⊥) → kind r ≡ 2 → length (p .keys) ≡ limitsMax → p .limits < limitsMax
+  pub limit-fits : (kind r ≡ 1 → ⊥) → kind r ≡ 2 → p .limits < limitsMax
   unfolding hasRoomUnder
-  limit-fits n e l =
-      ltb-true (p .limits) limitsMax (room-left (p .limits) limitsMax (p .keys) l ∙ rw (ne-eqb (kind r) 1 n, eq-eqb (kind r) 2 e) at h)
+  limit-fits n e =
+      ltb-true (p .limits) limitsMax (room-left (p .limits) limitsMax (p .keys) ∙ rw (ne-eqb (kind r) 1 n, eq-eqb (kind r) 2 e) at h)
 
   pub action-fits : (kind r ≡ 1 → ⊥) → (kind r ≡ 2 → ⊥) → (kind r ≡ 15 → ⊥) → p .actions < actionsMax
   unfolding hasRoomUnder
   action-fits n m k =
       ltb-true (p .actions) actionsMax (rw (ne-eqb (kind r) 1 n, ne-eqb (kind r) 2 m, ne-eqb (kind r) 15 k) at h)
-
--- the part of a group's keys that stands for limits
-module _ (n k : ℕ) (keys : List ℕ) (e : length keys ≡ k) (h : n ≤ k) where
-  pub row-holds : n ≤ length keys
-  row-holds = omega arith
-
-  pub row-part : n ≡ length (take n keys)
-  row-part = omega (arith, length-take n keys)
 
 -- a limit's key, as `be16` read it
 module _ (s : AclPlace) (r : Bytes) (key : ℕ) (e : key ≡ limitKey r) where

@@ -1,9 +1,8 @@
 -- Where reading an ACL stands, and what reading records comes to, as the definitions have it.
-use Prim.Native.Nat.{ℕ, _+_, _≤_}
-use mathlib.Core.List.{List, [], _∷_}
+use Prim.Native.Nat.{ℕ, zero, suc, _+_, _/_, _%_, _≤_}
+use mathlib.Core.List.{List, [], _∷_, _++_}
 use mathlib.Core.Option.{Option, none, some}
 use mathlib.Core.Bool.{Bool, false}
-use lib.ListN.{take}
 use Rattle.rules.specs.Sizes.{limitsMax}
 use Rattle.rules.specs.Basics.{Bytes}
 use Rattle.rules.specs.Acl.{AclPlace, aclRecordFault, afterRecord}
@@ -13,13 +12,18 @@ use Rattle.files.specs.declared.Checked.{Checked}
 use Rattle.files.specs.declared.Checked.the-variants.{Sound, Refused}
 use Rattle.acl.specs.declared.Read.{Read}
 
--- the first `limits` keys are those of the limits read
+-- the lowest n parts of sixteen bits of a number, the lowest last
+unfoldable pub keysOf : ℕ → ℕ → List ℕ
+keysOf zero keys = []
+keysOf (suc n) keys = keysOf n (keys / 65536) ++ (keys % 65536 ∷ [])
+
+-- the lowest `limits` parts of the keys are those of the limits read
 abbrev pub aclPlaceAs : Place → AclPlace
 aclPlaceAs p =
     record {
       groups = p .groups;
       isOpen = p .opened;
-      limits = take (p .limits) (p .keys);
+      limits = keysOf (p .limits) (p .keys);
       actions = p .actions;
       fileDue = p .«file_due»;
     }

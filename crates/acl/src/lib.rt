@@ -8,20 +8,20 @@ ghost use Rattle.rules.specs.Basics.{records};
 ghost use Rattle.rules.specs.Acl.{aclStart, among, limitInPlace, actionLaidOut, fileRecord, placedByKind, inPlace, hasRoom, keyed, limitAdded, filePassed, afterRecord, aclEnd, aclFault, aclFileFault};
 ghost use Rattle.refusals.specs.Refusals.{refusalNumber};
 ghost use Rattle.files.specs.Faults.{faultAs};
-ghost use Rattle.acl.specs.Places.{aclPlaceAs, begunWith, addedWith, stopped, reading, readingAs, Kept};
+ghost use Rattle.acl.specs.Places.{keysOf, aclPlaceAs, begunWith, addedWith, stopped, reading, readingAs, Kept};
 use files::Checked;
 use refusals::Refusal;
 
 // Where reading stands: groups begun; of the last group whether it is open (it has no certifier), the limits, the actions; whether a record of kind 15 is
-// due; and the sort and counter of each limit. The fields leave no gap, for a gap's bytes would be carried along with them, and the row stands last: what
-// follows it would be kept in memory with it.
+// due; and the sort and counter of each limit, sixteen bits for each, the last limit's lowest: one number, which stays in a register, where a row would be
+// stored by two bytes and loaded again by eight. The fields leave no gap, for a gap's bytes would be carried along with them.
 pub struct Place {
     pub groups: u16,
     pub limits: u16,
     pub actions: u16,
     pub opened: bool,
     pub file_due: bool,
-    pub keys: [u16; sizes::LIMITS],
+    pub keys: u64,
 }
 
 // What reading records comes to: the first fault, or none and where reading then stands.
@@ -30,16 +30,18 @@ pub struct Read {
     pub found: Checked,
 }
 
-// Whether a number is among some.
-fn is_among(key: u16, keys: &[u16]) -> bool
-    ensures { λ r. ⌜ r ≡ among key (now (keys .entry)) ⌝ }
+// Whether a number is among the lowest n of a number's parts of sixteen bits.
+fn is_among(key: u16, n: u16, keys: u64) -> bool
+    ensures { λ r. ⌜ r ≡ among key (keysOf n keys) ⌝ }
 {
-    let mut i = 0;
-    while i < keys.len() {
-        if keys[i] == key {
+    let mut left = keys;
+    let mut i = n;
+    while 0 < i {
+        if left % 65536 == (key as u64) {
             return true;
         }
-        i += 1;
+        left = left / 65536;
+        i -= 1;
     }
     false
 }
@@ -80,7 +82,7 @@ impl Place {
             limits: 0,
             actions: 0,
             file_due: false,
-            keys: [0u16; sizes::LIMITS],
+            keys: 0,
         }
     }
 
@@ -89,9 +91,13 @@ impl Place {
         requires { ⌜ self .limits ≤ limitsMax ⌝ }
         ensures { λ r. ⌜ r ≡ limitInPlace (aclPlaceAs self) key ⌝ }
     {
-        let keys = self.keys;
-        let n = self.limits as usize;
-        (0 < self.groups) & (self.actions == 0) & !is_among(key, &keys[..n])
+        if !(0 < self.groups) {
+            return false;
+        }
+        if !(self.actions == 0) {
+            return false;
+        }
+        !is_among(key, self.limits, self.keys)
     }
 
     // Whether a record is well formed and may stand here: kind 15 where it is due, and only there.
@@ -158,8 +164,7 @@ impl Place {
         requires { ⌜ self .limits < limitsMax ⌝ }
         ensures { λ r. ⌜ (aclPlaceAs r ≡ limitAdded (aclPlaceAs self) key) × (r .limits ≤ limitsMax) ⌝ }
     {
-        let n = self.limits as usize;
-        self.keys[n] = key;
+        self.keys = self.keys % 281474976710656 * 65536 + (key as u64);
         self.limits += 1;
         self
     }
