@@ -2,23 +2,25 @@
 use Prim.Native.Nat.{ℕ, _+_, _-_, _≤_, _<_}
 use native.Mathlib.Numerals.{add-one}
 use native.Mathlib.Omega.{arith}
-use mathlib.Core.Path.{_≡_, sym, _∙_, ap}
-use mathlib.Core.List.{List, _∷_}
+use mathlib.Core.Path.{_≡_, refl, sym, _∙_, ap}
+use mathlib.Core.List.{List, [], _∷_}
 use mathlib.Core.Bool.{Bool, true, false}
 use borrow.Author.Tests.{eq-eqb, ne-eqb}
 use lib.ListN.{length, take, drop, getD, List·getD-eq-default}
 use lib.Dec.{ltb}
-use Rattle.rules.specs.Basics.{Bytes, any, number, byte, records, recordsFrom}
+use Rattle.rules.specs.Basics.{Bytes, any, same, number, byte, records, recordsFrom}
 use Rattle.rules.specs.Acl.{limitOf, Action, Group, groupOf, groupsOf}
 use Rattle.rules.specs.Request.{Wanted, blobFileNext, wantedOf, Request, requestOf}
-use Rattle.rules.specs.Grant.{admits, counterLeft, limitLeft}
+use Rattle.rules.specs.Grant.{admits, groupAdmits, certified, counterLeft, limitLeft, unspentWith}
+use Rattle.rules.proofs.Laws.{same-eq}
 use Rattle.rules.proofs.Rows.{wanted-first, rows-lent, rows-end, rows-rest, lentRecord, lentRest, lent-record, lent-rest, kind-at}
 use Rattle.judging.specs.declared.Standing.{Standing}
+use Rattle.judging.specs.declared.Standing.the-variants.{NotAdmitting, Admitting, Certified, Granting}
 use Rattle.judging.specs.declared.Nearest.{Nearest}
 use Rattle.refusals.specs.declared.Denial.{Denial}
 use Rattle.judging.specs.declared.Judged.{Judged}
 use Rattle.judging.specs.declared.Judged.the-variants.{Granted, Denied}
-use Rattle.judging.specs.Standings.{isGranting, nearer, denialOf, judgedFrom, standingWith, standing, recordStanding, NextGroup}
+use Rattle.judging.specs.Standings.{isGranting, nearer, denialOf, standingOf, judgedFrom, standingWith, standing, recordStanding, seenAfter, someAfter, heldAfter, Remembered, NextGroup}
 
 -- a count past a table
 pub past-table : (t : List ℕ) (i : ℕ) → length t ≤ i → 0 ≡ getD t i 0
@@ -101,3 +103,37 @@ standing-at counts counters own elapsed km0 q place s at t o e =
 pub admits-asked : (km0 s : Bytes) (acts : List Action) (r : Bool) → r ≡ any (admits km0 (wantedOf (take 64 s) (blobFileNext (records (take (length s - 64) (drop 64 s)))))) acts → 64 ≤ length s
     → r ≡ any (admits km0 (requestOf s .wanted)) acts
 admits-asked km0 s acts r e h = e ∙ ap (λ (w : Wanted). any (admits km0 w) acts) (wanted-first s (lentRest s 64) (lent-rest s 64) h)
+
+-- What is remembered of the last group that was looked at: its answer serves a group whose first record is the same, ..
+pub told-again : (q : Request) (old new : Bytes) (some held : Bool) → Remembered q old some held → some ≡ true → (r : Bool) → r ≡ same new old → r ≡ true → held ≡ certified q (groupOf new [])
+told-again q old new some held m s r e y =
+    m .told s ∙ ap (λ (x : Bytes). certified q (groupOf x [])) (sym (same-eq new old (sym e ∙ y)))
+
+-- .. nothing is at first, ..
+pub told-none : (q : Request) (old : Bytes) (held : Bool) → Remembered q old false held
+told-none q old held = record { told = λ e. absurd (never e) }
+  where
+    never : false ≡ true → ⊥
+    never e = let z : _≡_ {A = ℕ} 0 1 = cc in omega arith
+
+-- .. and after a group more it is of that group, if it was looked at.
+remember : (q : Request) (s : Bytes) (at seen : ℕ) (some held a c u : Bool) → c ≡ certified q (groupOf (lentRecord s at) []) → Remembered q (lentRecord s seen) some held
+    → Remembered q (lentRecord s (seenAfter (standingOf a c u) seen at)) (someAfter (standingOf a c u) some) (heldAfter (standingOf a c u) held)
+remember q s at seen some held false c u e m = m
+remember q s at seen some held true false u e m = record { told = λ y. e }
+remember q s at seen some held true true false e m = record { told = λ y. e }
+remember q s at seen some held true true true e m = record { told = λ y. e }
+
+pub told-next : (counters : List ℕ) (own elapsed : ℕ) (km0 : Bytes) (q : Request) (s : Bytes) (at seen : ℕ) (some held : Bool) (rest : List Bytes) (t : Standing)
+    → Remembered q (lentRecord s seen) some held → t ≡ recordStanding counters own elapsed km0 q (lentRecord s at) rest
+    → (r : ℕ) (b h : Bool) → r ≡ seenAfter t seen at → b ≡ someAfter t some → h ≡ heldAfter t held → Remembered q (lentRecord s r) b h
+unfolding recordStanding
+told-next counters own elapsed km0 q s at seen some held rest t m d r b h e f g =
+    let w = groupOf (lentRecord s at) rest in
+    rw (e, f, g, d) (remember q s at seen some held (groupAdmits km0 q w) (certified q w) (unspentWith counters own elapsed (w .limits)) refl m)
+
+pub seen-before : (t : Standing) (seen at r : ℕ) → seen ≤ at → r ≡ seenAfter t seen at → r ≤ at
+seen-before NotAdmitting seen at r h e = omega arith
+seen-before Admitting seen at r h e = omega arith
+seen-before Certified seen at r h e = omega arith
+seen-before Granting seen at r h e = omega arith

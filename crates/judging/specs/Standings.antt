@@ -66,6 +66,30 @@ standing counts counters elapsed km0 q place g = standingWith counters (getD cou
 unfoldable pub recordStanding : List ℕ → ℕ → ℕ → Bytes → Request → Bytes → List Bytes → Standing
 recordStanding counters own elapsed km0 q r rest = standingWith counters own elapsed km0 q (groupOf r rest)
 
+-- What is remembered of the last group that was looked at for a certificate: where it stands, whether there is one, and whether it is certified; after
+-- one group more, by its standing.
+abbrev pub seenAfter : Standing → ℕ → ℕ → ℕ
+seenAfter NotAdmitting seen at = seen
+seenAfter Admitting seen at = at
+seenAfter Certified seen at = at
+seenAfter Granting seen at = at
+
+abbrev pub someAfter : Standing → Bool → Bool
+someAfter NotAdmitting some = some
+someAfter Admitting some = true
+someAfter Certified some = true
+someAfter Granting some = true
+
+abbrev pub heldAfter : Standing → Bool → Bool
+heldAfter NotAdmitting held = held
+heldAfter Admitting held = false
+heldAfter Certified held = true
+heldAfter Granting held = true
+
+-- .. it is true of that group's first record
+pub record Remembered (q : Request) (r : Bytes) (some held : Bool) : Type 0 where
+  pub told : some ≡ true → held ≡ certified q (groupOf r [])
+
 -- the denial and the judgement of the definitions, as the code answers them
 abbrev pub denialFor : Denial → code.Denial
 denialFor early = Early

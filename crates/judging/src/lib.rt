@@ -1,15 +1,16 @@
 // Judging a request on an ACL: whether a group is unspent, the lowest group that admits, is certified and unspent, and else how far the groups come.
 // The functions take the ledger's tables and times, not the ledger; they decode whatever bytes stand there.
 ghost use mathlib.Core.Path.{_≡_};
+ghost use mathlib.Core.List.{[]};
 ghost use Prim.Native.Nat.{_≤_};
 ghost use lib.ListN.{length, getD};
 ghost use Rattle.rules.specs.Sizes.{recordBytes};
 ghost use Rattle.rules.specs.Basics.{records};
-ghost use Rattle.rules.specs.Acl.{limitOf, limitsOf, aclOf};
+ghost use Rattle.rules.specs.Acl.{limitOf, limitsOf, groupOf, aclOf};
 ghost use Rattle.rules.specs.Request.{requestOf};
-ghost use Rattle.rules.specs.Grant.{counterLeft, limitLeft, limitsLeft, unspentWith};
+ghost use Rattle.rules.specs.Grant.{certified, counterLeft, limitLeft, limitsLeft, unspentWith};
 ghost use Rattle.rules.specs.Gate.{judge};
-ghost use Rattle.judging.specs.Standings.{isGranting, nearer, denialOf, judgedFrom, standing, recordStanding, judgedFor, ledgerOfTables, NextGroup};
+ghost use Rattle.judging.specs.Standings.{isGranting, nearer, denialOf, judgedFrom, standing, recordStanding, seenAfter, someAfter, heldAfter, Remembered, judgedFor, ledgerOfTables, NextGroup};
 ghost use Rattle.request.specs.Parts.{Sound};
 use refusals::Denial;
 
@@ -95,6 +96,20 @@ pub fn is_unspent(counters: &[u32], own: u32, elapsed: u64, body: &[u8]) -> bool
     (own < FULL) & limits_left(counters, own, elapsed, body)
 }
 
+// Whether a group is certified, by its first record; a record that is the same as that of the last group that was looked at has the same answer, `held`,
+// and no chain is searched for it again. `some` is whether there is such a group.
+fn certified_as(group: &[u8], req: &[u8], last: &[u8], some: bool, held: bool) -> bool
+    requires { ⌜ Sound (now req) × (length (now group) ≡ recordBytes) × Remembered (requestOf (now req)) (now last) some held ⌝ }
+    ensures { λ r. ⌜ r ≡ certified (requestOf (now (req .entry))) (groupOf (now (group .entry)) []) ⌝ }
+{
+    if some {
+        if fields::same_bytes(group, last) {
+            return held;
+        }
+    }
+    chains::is_certified(group, req)
+}
+
 // How far a group comes with a request: its first record, the records that follow it, and its own count.
 fn group_standing(
     counters: &[u32],
@@ -104,21 +119,60 @@ fn group_standing(
     req: &[u8],
     group: &[u8],
     body: &[u8],
+    last: &[u8],
+    some: bool,
+    held: bool,
 ) -> Standing
-    requires { ⌜ Sound (now req) × (length (now group) ≡ recordBytes) ⌝ }
+    requires { ⌜ Sound (now req) × (length (now group) ≡ recordBytes) × Remembered (requestOf (now req)) (now last) some held ⌝ }
     ensures { λ r. ⌜ r ≡ recordStanding (now (counters .entry)) own elapsed (now (km0 .entry)) (requestOf (now (req .entry))) (now (group .entry)) (records (now (body .entry))) ⌝ }
 {
     let rest = &req[sizes::RECORD..];
     if !gate_actions::group_admits(km0, &req[0..sizes::RECORD], rest, body) {
         return Standing::NotAdmitting;
     }
-    if !chains::is_certified(group, req) {
+    if !certified_as(group, req, last, some, held) {
         return Standing::Admitting;
     }
     if !is_unspent(counters, own, elapsed, body) {
         return Standing::Certified;
     }
     Standing::Granting
+}
+
+// What is remembered after a group that stands at the byte `at`: where the last one stands that was looked at for a certificate.
+fn seen_after(s: Standing, seen: usize, at: usize) -> usize
+    ensures { λ r. ⌜ r ≡ seenAfter s seen at ⌝ }
+{
+    match s {
+        Standing::NotAdmitting => seen,
+        Standing::Admitting => at,
+        Standing::Certified => at,
+        Standing::Granting => at,
+    }
+}
+
+// .. that there is one.
+fn some_after(s: Standing, some: bool) -> bool
+    ensures { λ r. ⌜ r ≡ someAfter s some ⌝ }
+{
+    match s {
+        Standing::NotAdmitting => some,
+        Standing::Admitting => true,
+        Standing::Certified => true,
+        Standing::Granting => true,
+    }
+}
+
+// .. and whether it is certified.
+fn held_after(s: Standing, held: bool) -> bool
+    ensures { λ r. ⌜ r ≡ heldAfter s held ⌝ }
+{
+    match s {
+        Standing::NotAdmitting => held,
+        Standing::Admitting => false,
+        Standing::Certified => true,
+        Standing::Granting => true,
+    }
 }
 
 // Whether a standing grants.
@@ -208,16 +262,34 @@ fn judge_groups(
 {
     let mut near = Nearest::Nothing;
     let mut place = 0;
+    let mut seen = 0;
+    let mut some = false;
+    let mut held = false;
     let mut at = next_group(acl, 0);
     while sizes::RECORD <= acl.len() - at {
         let own = count_at(counts, place);
         let group = &acl[at..at + sizes::RECORD];
         let body = &acl[at + sizes::RECORD..];
-        let s = group_standing(counters, own, elapsed, km0, req, group, body);
+        let last = &acl[seen..seen + sizes::RECORD];
+        let s = group_standing(
+            counters,
+            own,
+            elapsed,
+            km0,
+            req,
+            group,
+            body,
+            last,
+            some,
+            held,
+        );
         if grants(s) {
             return Judged::Granted(place);
         }
         near = near_with(near, s, place);
+        seen = seen_after(s, seen, at);
+        some = some_after(s, some);
+        held = held_after(s, held);
         place += 1;
         at = next_group(acl, at + sizes::RECORD);
     }

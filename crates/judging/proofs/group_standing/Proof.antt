@@ -31,21 +31,21 @@ returns : tie.Need-returns
 unfolding recordStanding
 returns c =
     let g = c .before in
-    let s = g .before .before .before .before .before .before .before .before in
+    let s = g .before .before .before .before .before .before .before .before .before in
     let a = admits-asked _ (s .args .req .now) _ _ (g .group-admits .ensures) (s .pre .0 .0) in
     via-not-true _ _ _ _ _ a (c .if1 .taken) refl
 
-is-certified-requires : tie.Need-is-certified-requires
-is-certified-requires c κs = search needs
+certified-as-requires : tie.Need-certified-as-requires
+certified-as-requires c κs = search needs
 
 returns-2 : tie.Need-returns-2
 unfolding recordStanding
 returns-2 c =
     let f = c .before .before in
     let g = f .before in
-    let s = g .before .before .before .before .before .before .before .before in
+    let s = g .before .before .before .before .before .before .before .before .before in
     let a = admits-asked _ (s .args .req .now) _ _ (g .group-admits .ensures) (s .pre .0 .0) in
-    via-not-false _ _ _ _ _ a (f .if1 .left) (via-not-true _ _ _ _ _ (c .before .is-certified .ensures) (c .if2 .taken) refl)
+    via-not-false _ _ _ _ _ a (f .if1 .left) (via-not-true _ _ _ _ _ (c .before .certified-as .ensures) (c .if2 .taken) refl)
 
 is-unspent-requires : tie.Need-is-unspent-requires
 is-unspent-requires c κs = search needs
@@ -56,10 +56,10 @@ returns-3 c =
     let e = c .before .before in
     let f = e .before .before in
     let g = f .before in
-    let s = g .before .before .before .before .before .before .before .before in
+    let s = g .before .before .before .before .before .before .before .before .before in
     let a = admits-asked _ (s .args .req .now) _ _ (g .group-admits .ensures) (s .pre .0 .0) in
     via-not-false _ _ _ _ _ a (f .if1 .left)
-    (via-not-false _ _ _ _ _ (e .before .is-certified .ensures) (e .if2 .left)
+    (via-not-false _ _ _ _ _ (e .before .certified-as .ensures) (e .if2 .left)
     (via-not-true _ _ _ _ _ (c .before .is-unspent .ensures) (c .if3 .taken) refl))
 
 returns-4 : tie.Need-returns-4
@@ -68,10 +68,10 @@ returns-4 c =
     let e = c .before .before in
     let f = e .before .before in
     let g = f .before in
-    let s = g .before .before .before .before .before .before .before .before in
+    let s = g .before .before .before .before .before .before .before .before .before in
     let a = admits-asked _ (s .args .req .now) _ _ (g .group-admits .ensures) (s .pre .0 .0) in
     via-not-false _ _ _ _ _ a (f .if1 .left)
-    (via-not-false _ _ _ _ _ (e .before .is-certified .ensures) (e .if2 .left)
+    (via-not-false _ _ _ _ _ (e .before .certified-as .ensures) (e .if2 .left)
     (via-not-false _ _ _ _ _ (c .before .is-unspent .ensures) (c .if3 .left) refl))
 
 pub group-standing-spec : {M : Type 1} → statement M
@@ -86,7 +86,7 @@ group-standing-spec =
     part-group-admits-end
     group-admits-requires
     returns
-    is-certified-requires
+    certified-as-requires
     returns-2
     is-unspent-requires
     returns-3
