@@ -5,7 +5,8 @@ ghost use Prim.Native.Nat.{_≤_, _<_, _+_, _-_, _*_, _/_};
 ghost use lib.ListN.{length, getD, drop};
 ghost use Rattle.rules.specs.Sizes.{recordBytes, answerBytes, groupsMax, countersMax, fullCount, preparedRecords};
 ghost use Rattle.rules.specs.Numbers.{malformed};
-ghost use Rattle.rules.specs.Basics.{records};
+ghost use lib.Dec.{leb};
+ghost use Rattle.rules.specs.Basics.{if_then_else_, number, records};
 ghost use Rattle.rules.specs.Acl.{limitsOf, aclOf};
 ghost use Rattle.rules.specs.Request.{standsAlone};
 ghost use Rattle.rules.specs.Ledger.{raised, raisedBy};
@@ -15,7 +16,8 @@ ghost use Rattle.asking.specs.Written.{overAt, writing, Wrote};
 ghost use Rattle.prepared.specs.Places.{Inside};
 ghost use Rattle.judging.specs.Standings.{ledgerOfTables};
 ghost use Rattle.choosing.specs.Deciding.{Ready, askSets};
-ghost use Rattle.choosing.specs.Opening.{OpenFrom};
+ghost use Rattle.choosing.specs.Members.{leftAt};
+ghost use Rattle.choosing.specs.Opening.{OpenFrom, Closes, OpenAt};
 ghost use Rattle.refusals.specs.Refusals.{denialGroup};
 ghost use Rattle.charging.specs.Charges.{Chargeable};
 ghost use Rattle.asking.specs.Answers.{grantedPlace, judgedNumber, placeOr, deniedGroup, shownGroup, IsOutcome};
@@ -42,11 +44,21 @@ fn charge_at(
 // No group is named: all ones.
 const NO_GROUP: u32 = 4294967295;
 
-// What becomes of one request: its answer, and the last time after it.
+// What becomes of one request: its answer, and the last time after it; and the groups that were looked at without those found spent.
 struct Answered {
     number: u32,
     group: u32,
     last: u64,
+    still: u64,
+}
+
+// .. and the groups that need a look from a time on.
+struct Turn {
+    number: u32,
+    group: u32,
+    last: u64,
+    still: u64,
+    from: u64,
 }
 
 // The group that grants; past the last place where none does.
@@ -102,34 +114,46 @@ fn shown(near: usize) -> u32
 }
 
 // A refusal: the last time stands.
-fn refusal(number: u32, near: usize, last: u64) -> Answered
-    ensures { λ r. ⌜ (r .number ≡ number) × (r .group ≡ shownGroup near) × (r .last ≡ last) ⌝ }
+fn refusal(number: u32, near: usize, last: u64, still: u64) -> Answered
+    ensures { λ r. ⌜ (r .number ≡ number) × (r .group ≡ shownGroup near) × (r .last ≡ last) × (r .still ≡ still) ⌝ }
 {
     Answered {
         number,
         group: shown(near),
         last,
+        still,
     }
 }
 
 // The answer of a malformed record: 2, and no group.
-fn bad_record(last: u64) -> Answered
-    ensures { λ r. ⌜ (r .number ≡ malformed) × (r .group ≡ shownGroup groupsMax) × (r .last ≡ last) ⌝ }
+fn bad_record(last: u64, still: u64) -> Answered
+    ensures { λ r. ⌜ (r .number ≡ malformed) × (r .group ≡ shownGroup groupsMax) × (r .last ≡ last) × (r .still ≡ still) ⌝ }
 {
     let number = refusals::number(Refusal::Malformed) as u32;
-    refusal(number, sizes::GROUPS, last)
+    refusal(number, sizes::GROUPS, last, still)
 }
 
 // A permit: the last time is the request's.
-fn permit(k: usize, time: u64) -> Answered
+fn permit(k: usize, time: u64, still: u64) -> Answered
     requires { ⌜ k < groupsMax ⌝ }
-    ensures { λ r. ⌜ (r .number ≡ 0) × (r .group ≡ k) × (r .last ≡ time) ⌝ }
+    ensures { λ r. ⌜ (r .number ≡ 0) × (r .group ≡ k) × (r .last ≡ time) × (r .still ≡ still) ⌝ }
 {
     Answered {
         number: 0,
         group: k as u32,
         last: time,
+        still,
     }
+}
+
+// One of two numbers, by two others: the first where these are in order.
+fn pick(low: u64, high: u64, first: u64, other: u64) -> u64
+    ensures { λ r. ⌜ r ≡ (if leb low high then first else other) ⌝ }
+{
+    if low <= high {
+        return first;
+    }
+    other
 }
 
 // Whether a record is a well-formed request that announces no record of kind 15. It says what `request::stands_alone` says, which tests all kinds and is a
@@ -144,7 +168,50 @@ fn stands_alone(rec: &[u8]) -> bool
     request::stands_alone(rec)
 }
 
-// One request of a run: the tables are charged in place.
+// One request of a run by the groups that need a look at its time: the tables are charged in place.
+fn answer_used(
+    counts: &mut [u32; sizes::GROUPS],
+    counters: &mut [u32; sizes::COUNTERS],
+    loaded: u64,
+    last: u64,
+    km0: &[u8],
+    acl: &[u8],
+    bodies: &[usize; sizes::GROUPS],
+    uses: &[u64; sizes::PERMISSIONS],
+    sets: Sets,
+    used: u64,
+    rec: &[u8],
+) -> Answered
+    requires { ⌜ Ready (now acl) (now bodies) (now uses) (sets .working) (sets .recovery) × (length (now counts) ≡ groupsMax) × (length (now counters) ≡ countersMax) × (length (now rec) ≡ recordBytes) × OpenAt (now counts) (now counters) loaded last (number 56 8 (now rec)) (now acl) (now bodies) (sets .certified) used ⌝ }
+    ensures { λ r. ⌜ IsOutcome (askSets (now (km0 .entry)) (aclOf (now (acl .entry))) (sets .certified) (ledgerOfTables (now (counts .entry)) (now (counters .entry)) loaded last) (now (rec .entry))) (now (counts .exit)) (now (counters .exit)) loaded (r .number) (r .group) (r .last) × Closes (leftAt (now (counts .entry)) (now (counters .entry)) (number 56 8 (now (rec .entry)) - loaded) (now (acl .entry)) (now (bodies .entry))) used (r .still) ⌝ }
+{
+    if !stands_alone(rec) {
+        return bad_record(last, used);
+    }
+    let chosen = choosing::judge_record(
+        counts,
+        counters,
+        loaded,
+        last,
+        km0,
+        acl,
+        bodies,
+        uses,
+        sets,
+        used,
+        rec,
+    );
+    let judged = chosen.judged;
+    let k = group_of(judged);
+    if sizes::GROUPS <= k {
+        return refusal(number_of(judged), near_of(judged), last, chosen.still);
+    }
+    charge_at(counts, counters, acl, bodies, k);
+    permit(k, fields::be64(rec, 56), chosen.still)
+}
+
+// One request of a run. From the time `from` on no group needs a look but those of `still`, before it none but those of `unspent`; what is found spent at
+// the request's time is left out from then on.
 fn answer_one(
     counts: &mut [u32; sizes::GROUPS],
     counters: &mut [u32; sizes::COUNTERS],
@@ -156,15 +223,16 @@ fn answer_one(
     uses: &[u64; sizes::PERMISSIONS],
     sets: Sets,
     unspent: u64,
+    still: u64,
+    from: u64,
     rec: &[u8],
-) -> Answered
-    requires { ⌜ Ready (now acl) (now bodies) (now uses) (sets .working) (sets .recovery) × (length (now counts) ≡ groupsMax) × (length (now counters) ≡ countersMax) × (length (now rec) ≡ recordBytes) × OpenFrom (now counts) (now counters) (last - loaded) (now acl) (now bodies) (sets .certified) unspent ⌝ }
-    ensures { λ r. ⌜ IsOutcome (askSets (now (km0 .entry)) (aclOf (now (acl .entry))) (sets .certified) (ledgerOfTables (now (counts .entry)) (now (counters .entry)) loaded last) (now (rec .entry))) (now (counts .exit)) (now (counters .exit)) loaded (r .number) (r .group) (r .last) ⌝ }
+) -> Turn
+    requires { ⌜ Ready (now acl) (now bodies) (now uses) (sets .working) (sets .recovery) × (length (now counts) ≡ groupsMax) × (length (now counters) ≡ countersMax) × (length (now rec) ≡ recordBytes) × OpenFrom (now counts) (now counters) (last - loaded) (now acl) (now bodies) (sets .certified) unspent × OpenFrom (now counts) (now counters) («from» - loaded) (now acl) (now bodies) (sets .certified) still ⌝ }
+    ensures { λ r. ⌜ IsOutcome (askSets (now (km0 .entry)) (aclOf (now (acl .entry))) (sets .certified) (ledgerOfTables (now (counts .entry)) (now (counters .entry)) loaded last) (now (rec .entry))) (now (counts .exit)) (now (counters .exit)) loaded (r .number) (r .group) (r .last) × OpenFrom (now (counts .entry)) (now (counters .entry)) (r .«from» - loaded) (now (acl .entry)) (now (bodies .entry)) (sets .certified) (r .still) ⌝ }
 {
-    if !stands_alone(rec) {
-        return bad_record(last);
-    }
-    let judged = choosing::judge_record(
+    let time = fields::be64(rec, 56);
+    let used = pick(from, time, still, unspent);
+    let a = answer_used(
         counts,
         counters,
         loaded,
@@ -174,15 +242,25 @@ fn answer_one(
         bodies,
         uses,
         sets,
-        unspent,
+        used,
         rec,
     );
-    let k = group_of(judged);
-    if sizes::GROUPS <= k {
-        return refusal(number_of(judged), near_of(judged), last);
+    if a.still == used {
+        return Turn {
+            number: a.number,
+            group: a.group,
+            last: a.last,
+            still,
+            from,
+        };
     }
-    charge_at(counts, counters, acl, bodies, k);
-    permit(k, fields::be64(rec, 56))
+    Turn {
+        number: a.number,
+        group: a.group,
+        last: a.last,
+        still: pick(last, time, a.still, still),
+        from: pick(last, time, time, from),
+    }
 }
 
 // Four bytes of a buffer, the greatest place first.
@@ -224,6 +302,8 @@ fn ask_records(
     ensures { λ r. ⌜ Wrote (now (counts .exit)) (now (counters .exit)) loaded r (now (buf .exit)) (writing (askSets (now (km0 .entry)) (aclOf (now (acl .entry))) (sets .certified)) (ledgerOfTables (now (counts .entry)) (now (counters .entry)) loaded before) (now (buf .entry)) 0 (records (now (requests .entry)))) ⌝ }
 {
     let mut last = before;
+    let mut still = unspent;
+    let mut from = before;
     let mut at = 0;
     while sizes::RECORD <= requests.len() - at {
         let a = answer_one(
@@ -237,10 +317,14 @@ fn ask_records(
             uses,
             sets,
             unspent,
+            still,
+            from,
             &requests[at..at + sizes::RECORD],
         );
         put_answer(buf, at / sizes::RECORD * sizes::ANSWER, a.number, a.group);
         last = a.last;
+        still = a.still;
+        from = a.from;
         at += sizes::RECORD;
     }
     last

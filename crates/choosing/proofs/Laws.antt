@@ -54,7 +54,7 @@ pub walk-done : (test : ℕ → Bool) (set left : ℕ) → firstIn test 64 left 
 walk-done test set left inv z = let e : left ≡ 0 = omega arith in sym (first-done test 64) ∙ ap (firstIn test 64) (sym e) ∙ inv
 
 -- The members that pass: the lowest, and the others.
-low-le : (w n : ℕ) → 0 < n → n < 2 ^ w → 2 ^ trailingZeros w n ≤ n
+pub low-le : (w n : ℕ) → 0 < n → n < 2 ^ w → 2 ^ trailingZeros w n ≤ n
 unfolding trailingZeros
 low-le zero n p h = absurd (omega arith)
 low-le (suc w) n p h = pick (two n) (low-le w (n / 2))

@@ -1,8 +1,8 @@
 -- The groups that a run need not walk: once a group is spent it stays so for the rest of the run, since counts only grow and no time goes back.
-use Prim.Native.Nat.{ℕ, _≤_}
+use Prim.Native.Nat.{ℕ, _-_, _≤_}
 use mathlib.Core.List.{List}
 use mathlib.Core.Path.{_≡_}
-use mathlib.Core.Bool.{Bool}
+use mathlib.Core.Bool.{Bool, false}
 use lib.ListN.{getD}
 use lib.Bits.{bitAnd}
 use Rattle.rules.specs.Sizes.{setBits}
@@ -23,3 +23,13 @@ unfoldable pub OpenFrom : List ℕ → List ℕ → ℕ → Bytes → List ℕ �
 OpenFrom counts counters since acl bodies certified unspent =
     (counts′ counters′ : List ℕ) (elapsed : ℕ) → NoLess counts counts′ → NoLess counters counters′ → since ≤ elapsed
     → Opened (leftAt counts′ counters′ elapsed acl bodies) certified unspent
+
+-- a set without members that are spent: whatever test they all fail gives, of any set walked, the same group by it
+unfoldable pub Closes : (ℕ → Bool) → ℕ → ℕ → Type 0
+Closes left unspent still =
+    (test : ℕ → Bool) → ((k : ℕ) → left k ≡ false → test k ≡ false) → (set : ℕ) → firstIn test setBits (bitAnd set still) ≡ firstIn test setBits (bitAnd set unspent)
+
+-- the groups to walk at a request that does not come too early
+unfoldable pub OpenAt : List ℕ → List ℕ → ℕ → ℕ → ℕ → Bytes → List ℕ → ℕ → ℕ → Type 0
+OpenAt counts counters loaded last time acl bodies certified unspent =
+    last ≤ time → Opened (leftAt counts counters (time - loaded) acl bodies) certified unspent

@@ -14,7 +14,9 @@ ghost use Rattle.prepared.specs.Places.{Inside};
 ghost use Rattle.judging.specs.Standings.{judgedFor, ledgerOfTables};
 ghost use Rattle.choosing.specs.Members.{leftAt, admitsAt, membersIn};
 ghost use Rattle.choosing.specs.Deciding.{Ready, admittingSet, candidates, setJudge};
-ghost use Rattle.choosing.specs.Opening.{Opened, OpenFrom};
+ghost use lib.Bits.{bitAnd};
+ghost use Rattle.rules.specs.Basics.{number};
+ghost use Rattle.choosing.specs.Opening.{Opened, Closes, OpenAt};
 use judging::Judged;
 use refusals::Denial;
 
@@ -24,6 +26,19 @@ pub struct Sets {
     pub working: u64,
     pub recovery: u64,
     pub certified: u64,
+}
+
+// What a walk over groups finds: the place of the lowest that is unspent, past the last place where none is; and the unspent groups without those that it
+// found spent.
+struct First {
+    place: usize,
+    still: u64,
+}
+
+// A judgement, and the unspent groups without those that it found spent.
+pub struct Chosen {
+    pub judged: Judged,
+    pub still: u64,
 }
 
 // The lowest member of a set.
@@ -51,7 +66,15 @@ fn left_at(
     judging::is_unspent(counters, own, elapsed, &acl[at..])
 }
 
-// The lowest group of a set that is unspent; past the last place where none is.
+// A set without the member by which two others differ.
+fn without(still: u64, left: u64, rest: u64) -> u64
+    requires { ⌜ rest ≤ left ⌝ }
+    ensures { λ r. ⌜ r ≡ bitAnd still (18446744073709551615 - (left - rest)) ⌝ }
+{
+    still & (18446744073709551615 - (left - rest))
+}
+
+// The lowest group of a set that is unspent.
 fn first_unspent(
     counts: &[u32; sizes::GROUPS],
     counters: &[u32; sizes::COUNTERS],
@@ -59,19 +82,26 @@ fn first_unspent(
     acl: &[u8],
     bodies: &[usize; sizes::GROUPS],
     set: u64,
-) -> usize
+    unspent: u64,
+) -> First
     requires { ⌜ (set < 2 ^ groupsMax) × Inside (now acl) (now bodies) ⌝ }
-    ensures { λ r. ⌜ r ≡ firstIn (leftAt (now (counts .entry)) (now (counters .entry)) elapsed (now (acl .entry)) (now (bodies .entry))) setBits set ⌝ }
+    ensures { λ r. ⌜ (r .place ≡ firstIn (leftAt (now (counts .entry)) (now (counters .entry)) elapsed (now (acl .entry)) (now (bodies .entry))) setBits set) × Closes (leftAt (now (counts .entry)) (now (counters .entry)) elapsed (now (acl .entry)) (now (bodies .entry))) unspent (r .still) ⌝ }
 {
     let mut left = set;
+    let mut still = unspent;
     while 0 < left {
         let k = lowest(left);
         if left_at(counts, counters, elapsed, acl, bodies, k) {
-            return k;
+            return First { place: k, still };
         }
-        left = left & (left - 1);
+        let rest = left & (left - 1);
+        still = without(still, left, rest);
+        left = rest;
     }
-    sizes::GROUPS
+    First {
+        place: sizes::GROUPS,
+        still,
+    }
 }
 
 // Whether the group at a place admits what a request record asks for. No record of kind 15 follows it.
@@ -154,22 +184,43 @@ fn judge_sets(
     admitting: u64,
     certified: u64,
     unspent: u64,
-) -> Judged
+) -> Chosen
     requires { ⌜ (admitting < 2 ^ length (aclOf (now acl))) × (length (aclOf (now acl)) ≤ groupsMax) × Inside (now acl) (now bodies) × Opened (leftAt (now counts) (now counters) elapsed (now acl) (now bodies)) certified unspent ⌝ }
-    ensures { λ r. ⌜ r ≡ judgedFor (judgedBySets (aclOf (now (acl .entry))) admitting certified (leftAt (now (counts .entry)) (now (counters .entry)) elapsed (now (acl .entry)) (now (bodies .entry)))) ⌝ }
+    ensures { λ r. ⌜ (r .judged ≡ judgedFor (judgedBySets (aclOf (now (acl .entry))) admitting certified (leftAt (now (counts .entry)) (now (counters .entry)) elapsed (now (acl .entry)) (now (bodies .entry))))) × Closes (leftAt (now (counts .entry)) (now (counters .entry)) elapsed (now (acl .entry)) (now (bodies .entry))) unspent (r .still) ⌝ }
 {
     if admitting < 1 {
-        return Judged::Denied(Denial::Unadmitted);
+        return Chosen {
+            judged: Judged::Denied(Denial::Unadmitted),
+            still: unspent,
+        };
     }
     let both = admitting & certified;
     if both < 1 {
-        return Judged::Denied(Denial::Uncertified(lowest(admitting)));
+        return Chosen {
+            judged: Judged::Denied(Denial::Uncertified(lowest(admitting))),
+            still: unspent,
+        };
     }
-    let k = first_unspent(counts, counters, elapsed, acl, bodies, admitting & unspent);
+    let first = first_unspent(
+        counts,
+        counters,
+        elapsed,
+        acl,
+        bodies,
+        admitting & unspent,
+        unspent,
+    );
+    let k = first.place;
     if sizes::GROUPS <= k {
-        return Judged::Denied(Denial::Exhausted(lowest(both)));
+        return Chosen {
+            judged: Judged::Denied(Denial::Exhausted(lowest(both))),
+            still: first.still,
+        };
     }
-    Judged::Granted(k)
+    Chosen {
+        judged: Judged::Granted(k),
+        still: first.still,
+    }
 }
 
 // The groups with an action that sets the bit of a permission.
@@ -210,8 +261,8 @@ fn admitting_set(
     admitting_of(km0, rec, acl, bodies, set)
 }
 
-// The judgement of a request record: a time that does not go back, then the groups. `unspent` are the certified groups that were not spent when the run
-// began: counts only grow and no time goes back, so that the others need no look.
+// The judgement of a request record: a time that does not go back, then the groups. `unspent` are certified groups, without
+// some that are known to be spent at the request's time: counts only grow and no time goes back, so that the others need no look.
 pub fn judge_record(
     counts: &[u32; sizes::GROUPS],
     counters: &[u32; sizes::COUNTERS],
@@ -224,16 +275,22 @@ pub fn judge_record(
     sets: Sets,
     unspent: u64,
     rec: &[u8],
-) -> Judged
-    requires { ⌜ Ready (now acl) (now bodies) (now uses) (sets .working) (sets .recovery) × (length (now rec) ≡ recordBytes) × (requestLaidOut (now rec) ≡ true) × OpenFrom (now counts) (now counters) (last - loaded) (now acl) (now bodies) (sets .certified) unspent ⌝ }
-    ensures { λ r. ⌜ r ≡ judgedFor (setJudge (ledgerOfTables (now (counts .entry)) (now (counters .entry)) loaded last) (now (km0 .entry)) (aclOf (now (acl .entry))) (sets .certified) (now (rec .entry))) ⌝ }
+) -> Chosen
+    requires { ⌜ Ready (now acl) (now bodies) (now uses) (sets .working) (sets .recovery) × (length (now rec) ≡ recordBytes) × (requestLaidOut (now rec) ≡ true) × OpenAt (now counts) (now counters) loaded last (number 56 8 (now rec)) (now acl) (now bodies) (sets .certified) unspent ⌝ }
+    ensures { λ r. ⌜ (r .judged ≡ judgedFor (setJudge (ledgerOfTables (now (counts .entry)) (now (counters .entry)) loaded last) (now (km0 .entry)) (aclOf (now (acl .entry))) (sets .certified) (now (rec .entry)))) × Closes (leftAt (now (counts .entry)) (now (counters .entry)) (number 56 8 (now (rec .entry)) - loaded) (now (acl .entry)) (now (bodies .entry))) unspent (r .still) ⌝ }
 {
     let time = fields::be64(rec, 56);
     if time < loaded {
-        return Judged::Denied(Denial::Early);
+        return Chosen {
+            judged: Judged::Denied(Denial::Early),
+            still: unspent,
+        };
     }
     if time < last {
-        return Judged::Denied(Denial::Early);
+        return Chosen {
+            judged: Judged::Denied(Denial::Early),
+            still: unspent,
+        };
     }
     let admitting = admitting_set(km0, acl, bodies, uses, sets, rec);
     judge_sets(

@@ -1,62 +1,37 @@
-use Rattle.choosing.proofs.Deciding.{ready-inside}
-use Rattle.asking.proofs.Granting.{is-laid-out, granted-count, granted-able, answered-permit, answered-denied, answered-malformed}
+use Rattle.asking.proofs.Opening.{open-used, open-after}
 use borrow.Author.Needs.{needs}
 use Rattle.asking.proofs.answer_one.Statement.{statement}
 use Rattle.asking.proofs.answer_one.Tie as tie
 
-stands-alone-requires : tie.Need-stands-alone-requires
-stands-alone-requires c κs = search needs
-
-bad-record-requires : tie.Need-bad-record-requires
-bad-record-requires c κs = search needs
-
-returns : tie.Need-returns
-returns c = search (needs, answered-malformed)
-
-judge-record-requires : tie.Need-judge-record-requires
-judge-record-requires c κs = (search needs, search needs, search (needs, is-laid-out), search needs)
-
-group-of-requires : tie.Need-group-of-requires
-group-of-requires c κs = search needs
-
-number-of-requires : tie.Need-number-of-requires
-number-of-requires c κs = search needs
-
-near-of-requires : tie.Need-near-of-requires
-near-of-requires c κs = search needs
-
-refusal-requires : tie.Need-refusal-requires
-refusal-requires c κs = search needs
-
-returns-2 : tie.Need-returns-2
-returns-2 c = search (needs, answered-denied)
-
-charge-at-requires : tie.Need-charge-at-requires
-charge-at-requires c κs = (search needs, search needs, search needs, search (needs, granted-count), search (needs, ready-inside), search (needs, granted-able))
-
 be64-requires : tie.Need-be64-requires
 be64-requires c κs = search needs
 
-permit-requires : tie.Need-permit-requires
-permit-requires c κs = search needs
+pick-requires : tie.Need-pick-requires
+pick-requires c κs = search needs
 
-returns-3 : tie.Need-returns-3
-returns-3 c = search (needs, answered-permit)
+answer-used-requires : tie.Need-answer-used-requires
+answer-used-requires c κs = (search needs, search needs, search needs, search needs, search (needs, open-used))
+
+returns : tie.Need-returns
+returns c = (search needs, search needs)
+
+pick-requires-2 : tie.Need-pick-requires-2
+pick-requires-2 c κs = search needs
+
+pick-requires-3 : tie.Need-pick-requires-3
+pick-requires-3 c κs = search needs
+
+returns-2 : tie.Need-returns-2
+returns-2 c = (search needs, search (needs, open-after))
 
 pub answer-one-spec : {M : Type 1} → statement M
 answer-one-spec =
     tie.close
     (tie.spec
-    stands-alone-requires
-    bad-record-requires
-    returns
-    judge-record-requires
-    group-of-requires
-    number-of-requires
-    near-of-requires
-    refusal-requires
-    returns-2
-    charge-at-requires
     be64-requires
-    permit-requires
-    returns-3)
+    pick-requires
+    answer-used-requires
+    returns
+    pick-requires-2
+    pick-requires-3
+    returns-2)

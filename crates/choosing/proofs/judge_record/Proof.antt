@@ -1,5 +1,5 @@
 use Rattle.choosing.proofs.Deciding.{ready-inside, ready-few, admitting-below, judged-early, judged-late, judged-sets}
-use Rattle.choosing.proofs.Opening.{open-now}
+use Rattle.choosing.proofs.Opening.{open-timed, closes-start, closes-then}
 use borrow.Author.Needs.{needs}
 use Rattle.choosing.proofs.judge_record.Statement.{statement}
 use Rattle.choosing.proofs.judge_record.Tie as tie
@@ -8,19 +8,19 @@ be64-requires : tie.Need-be64-requires
 be64-requires c κs = search needs
 
 returns : tie.Need-returns
-returns c = search (needs, judged-early)
+returns c = (search (needs, judged-early), search (needs, closes-start))
 
 returns-2 : tie.Need-returns-2
-returns-2 c = search (needs, judged-late)
+returns-2 c = (search (needs, judged-late), search (needs, closes-start))
 
 admitting-set-requires : tie.Need-admitting-set-requires
 admitting-set-requires c κs = search needs
 
 judge-sets-requires : tie.Need-judge-sets-requires
-judge-sets-requires c κs = (search (needs, admitting-below), search (needs, ready-few), search (needs, ready-inside), search (needs, open-now))
+judge-sets-requires c κs = (search (needs, admitting-below), search (needs, ready-few), search (needs, ready-inside), search (needs, open-timed))
 
 returns-3 : tie.Need-returns-3
-returns-3 c = search (needs, judged-sets)
+returns-3 c = (search (needs, judged-sets), search (needs, closes-then))
 
 pub judge-record-spec : {M : Type 1} → statement M
 judge-record-spec =
