@@ -17,7 +17,8 @@ use Rattle.rules.proofs.Laws.{never}
 use Rattle.rules.specs.Desk.{Step, KV3, Acceptance, approach1, approach2, actionProtection, softParameters, smallest, officersGroup, keyProtection, recoverableKey, beforeAcl, aclFailure, fullFailure, basicFailure, gradeOf, acceptedUnless, attested, deskFault, desk}
 use Rattle.steps.specs.declared.Failure.{Failure}
 use Rattle.steps.specs.declared.Failure.the-variants.{Nothing, At}
-use Rattle.steps.specs.Steps.{failureAs, csrFailure}
+use Rattle.steps.specs.declared.Step as codeStep
+use Rattle.steps.specs.Steps.{stepAs, failureAs, csrFailure}
 use Rattle.suites.specs.Calls.{Calls, SuiteAnswer, calls, refuses, calledFor}
 use Rattle.suites.proofs.Laws.{suiteIn, suite-found, suite-measured}
 use Rattle.desk.specs.Replies as replies
@@ -142,9 +143,23 @@ module _ (b : List Bytes) (gs : List Group) (g : Graded) (e : g ≡ aclGraded b 
   pub protection-bounds : (1 ≤ g .protection) × (g .protection ≤ 4)
   protection-bounds = let p = protection-is in let l = protection-least b gs in let m = protection-most b gs in (omega arith, omega arith)
 
-  pub full-from : (o : Option Step) → o ≡ orNext (beforeAcl b) (orNext (g .failure) (gradeFailure b (g .protection))) → o ≡ fullFailure b gs
+  full-from : (o : Option Step) → o ≡ orNext (beforeAcl b) (orNext (g .failure) (gradeFailure b (g .protection))) → o ≡ fullFailure b gs
   full-from o q = q ∙ rw (failure-is, protection-is) (full-is b gs)
+
+  -- .. where no step before the ACL fails
+  pub full-passed : beforeAcl b ≡ none → (o : Option Step) → o ≡ orNext (g .failure) (gradeFailure b (g .protection)) → o ≡ fullFailure b gs
+  full-passed n o q = full-from o (q ∙ sym (ap (λ (x : Option Step). orNext x (orNext (g .failure) (gradeFailure b (g .protection)))) n))
 
   pub named-from : (p : Protection) → protectionNumber p ≡ g .protection
       → acceptanceAs (record { approach = 2; protection = p; recoverable = g .recoverable }) ≡ acceptanceFor (approach2 (gradeOf b gs))
   named-from p q = rw (q, protection-is, recoverable-is)
+
+-- a step before the ACL fails, or none does
+pub failed-early : (b : List Bytes) (gs : List Group) (f : Failure) (s : codeStep.Step) (a : Acceptance) → failureAs f ≡ beforeAcl b → f ≡ At s → replies.failing (stepAs s) ≡ verdictFor (acceptedUnless (fullFailure b gs) a)
+unfolding fullFailure firstFault
+failed-early b gs f s a e d =
+    let p : beforeAcl b ≡ some (stepAs s) = sym e ∙ ap failureAs d in
+    sym (rw p)
+
+pub passed-early : (b : List Bytes) (f : Failure) → failureAs f ≡ beforeAcl b → f ≡ Nothing → beforeAcl b ≡ none
+passed-early b f e d = sym e ∙ ap failureAs d

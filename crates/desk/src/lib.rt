@@ -117,22 +117,21 @@ fn grade_steps(
     steps::csr_step(policy, places, bundle)
 }
 
-// Approach 2, whole: the first failing step, for an ACL that comes to that grade.
-fn full_steps(
+// Approach 2 from the ACL on: the first failing step, for an ACL that comes to that grade.
+fn acl_steps(
     policy: Policy,
     places: &[usize; facts::ENTRIES],
     bundle: &[u8],
     grade: Grade,
 ) -> Failure
     requires { ⌜ (policyAs policy ≡ policyOf (records (now bundle))) × Found (now bundle) (now places) ⌝ }
-    ensures { λ r. ⌜ failureAs r ≡ orNext (beforeAcl (records (now (bundle .entry)))) (orNext (failureAs (grade .failure)) (gradeFailure (records (now (bundle .entry))) (grade .protection))) ⌝ }
+    ensures { λ r. ⌜ failureAs r ≡ orNext (failureAs (grade .failure)) (gradeFailure (records (now (bundle .entry))) (grade .protection)) ⌝ }
 {
     let of_acl = grade.failure;
-    let after = steps::first_of(
+    steps::first_of(
         of_acl,
         grade_steps(policy, places, bundle, grade.protection),
-    );
-    steps::first_of(steps::bundle_steps(places, bundle), after)
+    )
 }
 
 // The acceptance, unless a step fails.
@@ -145,7 +144,22 @@ fn unless_failed(f: Failure, a: Acceptance) -> Verdict
     }
 }
 
-// Approach 2. The policy is the bundle's, and not looked for again.
+// Approach 2, for a bundle of which no step before the ACL fails.
+fn judge_acl(policy: Policy, places: &[usize; facts::ENTRIES], bundle: &[u8], acl: &[u8]) -> Verdict
+    requires { ⌜ (policyAs policy ≡ policyOf (records (now bundle))) × Found (now bundle) (now places) × (beforeAcl (records (now bundle)) ≡ none) ⌝ }
+    ensures { λ r. ⌜ verdictAs r ≡ verdictFor (acceptedUnless (fullFailure (records (now (bundle .entry))) (aclOf (now (acl .entry)))) (approach2 (gradeOf (records (now (bundle .entry))) (aclOf (now (acl .entry)))))) ⌝ }
+{
+    let grade = grading::acl_grade(policy, places, bundle, acl);
+    let failure = acl_steps(policy, places, bundle, grade);
+    let acceptance = Acceptance {
+        approach: 2,
+        protection: protection_of(grade.protection),
+        recoverable: grade.recoverable,
+    };
+    unless_failed(failure, acceptance)
+}
+
+// Approach 2. The policy is the bundle's, and not looked for again. The ACL is graded only if no step before it fails.
 fn judge_policy(
     policy: Policy,
     places: &[usize; facts::ENTRIES],
@@ -155,14 +169,11 @@ fn judge_policy(
     requires { ⌜ (policyAs policy ≡ policyOf (records (now bundle))) × Found (now bundle) (now places) ⌝ }
     ensures { λ r. ⌜ verdictAs r ≡ verdictFor (acceptedUnless (fullFailure (records (now (bundle .entry))) (aclOf (now (acl .entry)))) (approach2 (gradeOf (records (now (bundle .entry))) (aclOf (now (acl .entry)))))) ⌝ }
 {
-    let grade = grading::acl_grade(policy, places, bundle, acl);
-    let failure = full_steps(policy, places, bundle, grade);
-    let acceptance = Acceptance {
-        approach: 2,
-        protection: protection_of(grade.protection),
-        recoverable: grade.recoverable,
-    };
-    unless_failed(failure, acceptance)
+    let early = steps::bundle_steps(places, bundle);
+    match early {
+        Failure::At(s) => Verdict::Failed(s),
+        Failure::Nothing => judge_acl(policy, places, bundle, acl),
+    }
 }
 
 // Approach 1.

@@ -1,41 +1,33 @@
-use mathlib.Core.Path.{_∙_, ap}
-use Rattle.rules.specs.Basics.{records}
-use Rattle.rules.specs.Acl.{aclOf}
-use Rattle.rules.specs.Desk.{approach2, gradeOf}
-use Rattle.desk.specs.Replies.{verdictAs}
-use Rattle.desk.proofs.Laws.{protection-bounds, verdict-of, full-from, named-from}
+use Rattle.desk.proofs.Laws.{failed-early, passed-early}
 use borrow.Author.Needs.{needs}
 use Rattle.desk.proofs.judge_policy.Statement.{statement}
 use Rattle.desk.proofs.judge_policy.Tie as tie
 
-acl-grade-requires : tie.Need-acl-grade-requires
-acl-grade-requires c κs = search needs
+bundle-steps-requires : tie.Need-bundle-steps-requires
+bundle-steps-requires c κs = search needs
 
-full-steps-requires : tie.Need-full-steps-requires
-full-steps-requires c κs = search needs
+enum-known-early : tie.Need-enum-known-early
+enum-known-early c = search needs
 
-protection-of-requires : tie.Need-protection-of-requires
-protection-of-requires c κs = let bounds = protection-bounds _ _ _ (c .before .acl-grade .ensures) in search needs
+enum-told : tie.Need-enum-told
+enum-told c = search needs
 
-unless-failed-requires : tie.Need-unless-failed-requires
-unless-failed-requires c κs = search needs
+judge-acl-requires : tie.Need-judge-acl-requires
+judge-acl-requires c κs = (search needs, search needs, passed-early _ _ (c .before .before .bundle-steps .ensures) (c .enum-told .given .1))
 
 returns : tie.Need-returns
-returns c =
-    let s = c .before .before .before .before .before .before in
-    let b = records (s .args .bundle .now) in
-    let gs = aclOf (s .args .acl .now) in
-    let e = c .before .before .before .acl-grade .ensures in
-    ap verdictAs (c .unless-failed .ensures)
-    ∙ verdict-of (c .before .before .full-steps .result) _ (approach2 (gradeOf b gs)) _ (full-from b gs _ e _ (c .before .before .full-steps .ensures))
-    (named-from b gs _ e (c .before .protection-of .result) (c .before .protection-of .ensures))
+returns c = failed-early _ _ _ _ _ (c .before .before .before .bundle-steps .ensures) (c .before .early .given .1)
+
+returns-2 : tie.Need-returns-2
+returns-2 c = search needs
 
 pub judge-policy-spec : {M : Type 1} → statement M
 judge-policy-spec =
     tie.close
     (tie.spec
-    acl-grade-requires
-    full-steps-requires
-    protection-of-requires
-    unless-failed-requires
-    returns)
+    bundle-steps-requires
+    enum-known-early
+    enum-told
+    judge-acl-requires
+    returns
+    returns-2)
