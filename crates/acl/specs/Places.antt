@@ -1,4 +1,4 @@
--- Where reading an ACL stands, and what reading records comes to, as the definitions have it.
+-- The state of the ACL reader, and the result of reading records, in terms of the definitions.
 use Prim.Native.Nat.{ℕ, zero, suc, _+_, _/_, _%_, _≤_}
 use mathlib.Core.List.{List, [], _∷_, _++_}
 use mathlib.Core.Option.{Option, none, some}
@@ -35,12 +35,12 @@ begunWith s isOpen = record { groups = s .groups + 1; isOpen = isOpen; limits = 
 abbrev pub addedWith : AclPlace → Bool → AclPlace
 addedWith s due = record { groups = s .groups; isOpen = s .isOpen; limits = s .limits; actions = s .actions + 1; fileDue = due }
 
--- Reading records from a place: stopped by the first fault, or where it then stands.
+-- Reading records from a state on: the first fault, or the state after them.
 pub data AclReading : Type 0 where
   stopped : ℕ → AclReading
   on : AclPlace → AclReading
 
--- .. by the fault of the next record, and what reading comes to after it
+-- the result by the fault of the next record, and the result of reading those after it
 abbrev pub readPast : Option ℕ → AclReading → AclReading
 readPast none x = x
 readPast (some f) x = stopped f

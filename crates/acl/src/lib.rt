@@ -1,4 +1,4 @@
-// An ACL file: its first fault. Reading goes record by record and carries where it stands.
+// An ACL file: its first fault. Records are read one by one, with a state that says what may come next.
 ghost use mathlib.Core.Path.{_≡_};
 ghost use mathlib.Core.Bool.{true};
 ghost use Prim.Native.Nat.{_≤_, _<_};
@@ -12,8 +12,8 @@ ghost use Rattle.acl.specs.Places.{keysOf, aclPlaceAs, begunWith, addedW
 use files::Checked;
 use refusals::Refusal;
 
-// Where reading stands: groups begun; of the last group whether it is open (it has no certifier), the limits, the actions; whether a record of kind 15 is
-// due; and the sort and counter of each limit, sixteen bits for each, the last limit's lowest: one number, which stays in a register, where a row would be
+// The reader's state: groups begun; of the last group whether it is open (it has no certifier), the limits, the actions; whether a record of kind 15 must
+// come next; and the sort and counter of each limit, sixteen bits for each, the last limit's lowest: one number, which stays in a register, where a row would be
 // stored by two bytes and loaded again by eight. The fields leave no gap, for a gap's bytes would be carried along with them.
 pub struct Place {
     pub groups: u16,
@@ -24,7 +24,7 @@ pub struct Place {
     pub keys: u64,
 }
 
-// What reading records comes to: the first fault, or none and where reading then stands.
+// The result of reading records: the first fault, or none and the state after them.
 pub struct Read {
     pub place: Place,
     pub found: Checked,
@@ -86,7 +86,7 @@ impl Place {
         }
     }
 
-    // Whether a limit of this sort and counter may stand here.
+    // Whether a limit of this sort and counter may come next.
     fn takes_limit(self, key: u16) -> bool
         requires { ⌜ self .limits ≤ limitsMax ⌝ }
         ensures { λ r. ⌜ r ≡ limitInPlace (aclPlaceAs self) key ⌝ }
@@ -100,7 +100,7 @@ impl Place {
         !is_among(key, self.limits, self.keys)
     }
 
-    // Whether a record is well formed and may stand here: kind 15 where it is due, and only there.
+    // Whether a record is well formed and may come next: kind 15 if the last action announced it, and only then.
     fn in_place(self, rec: &[u8]) -> bool
         requires { ⌜ (self .limits ≤ limitsMax) × (length (now rec) ≡ recordBytes) ⌝ }
         ensures { λ r. ⌜ r ≡ inPlace (aclPlaceAs self) (now (rec .entry)) ⌝ }
@@ -111,7 +111,7 @@ impl Place {
         self.placed_by_kind(rec)
     }
 
-    // Whether a group, a limit or an action is well formed and may stand here.
+    // Whether a group, a limit or an action is well formed and may come next.
     fn placed_by_kind(self, rec: &[u8]) -> bool
         requires { ⌜ (self .limits ≤ limitsMax) × (length (now rec) ≡ recordBytes) ⌝ }
         ensures { λ r. ⌜ r ≡ placedByKind (aclPlaceAs self) (now (rec .entry)) ⌝ }
@@ -159,7 +159,7 @@ impl Place {
         !(self.opened & (kind == 5)) | fields::flag_of(0, rec)
     }
 
-    // Where reading stands after a limit for which there is room.
+    // The state after a limit that is not one too many.
     fn after_limit(mut self, key: u16) -> Self
         requires { ⌜ self .limits < limitsMax ⌝ }
         ensures { λ r. ⌜ (aclPlaceAs r ≡ limitAdded (aclPlaceAs self) key) × (r .limits ≤ limitsMax) ⌝ }
@@ -169,7 +169,7 @@ impl Place {
         self
     }
 
-    // Where reading stands after a group record, which may be open.
+    // The state after a group record, which may be open.
     fn after_group(mut self, opened: bool) -> Self
         requires { ⌜ (self .limits ≤ limitsMax) × (self .groups < groupsMax) ⌝ }
         ensures { λ r. ⌜ (aclPlaceAs r ≡ begunWith (aclPlaceAs self) opened) × (r .limits ≤ limitsMax) ⌝ }
@@ -182,7 +182,7 @@ impl Place {
         self
     }
 
-    // Where reading stands after an action, which may announce a record of kind 15.
+    // The state after an action, which may announce a record of kind 15.
     fn after_action(mut self, file_due: bool) -> Self
         requires { ⌜ (self .limits ≤ limitsMax) × (self .actions < actionsMax) ⌝ }
         ensures { λ r. ⌜ (aclPlaceAs r ≡ addedWith (aclPlaceAs self) «file_due») × (r .limits ≤ limitsMax) ⌝ }
@@ -192,7 +192,7 @@ impl Place {
         self
     }
 
-    // Where reading stands after a record of kind 15.
+    // The state after a record of kind 15.
     fn after_file(mut self) -> Self
         requires { ⌜ self .limits ≤ limitsMax ⌝ }
         ensures { λ r. ⌜ (aclPlaceAs r ≡ filePassed (aclPlaceAs self)) × (r .limits ≤ limitsMax) ⌝ }
@@ -201,7 +201,7 @@ impl Place {
         self
     }
 
-    // Where reading stands after a record for which there is room.
+    // The state after a record that is not one too many.
     fn after(self, rec: &[u8]) -> Self
         requires { ⌜ (hasRoom (aclPlaceAs self) (now rec) ≡ true) × (self .limits ≤ limitsMax) × (length (now rec) ≡ recordBytes) ⌝ }
         ensures { λ r. ⌜ (aclPlaceAs r ≡ afterRecord (aclPlaceAs self) (now (rec .entry))) × (r .limits ≤ limitsMax) ⌝ }
@@ -219,7 +219,7 @@ impl Place {
         self.after_action(fields::flag_of(6, rec))
     }
 
-    // The fault of an end here: kind 15 is due.
+    // The fault of a file that ends here: 2 if a record of kind 15 is missing.
     fn end(self) -> Checked
         ensures { λ r. ⌜ faultAs r ≡ aclEnd (aclPlaceAs self) ⌝ }
     {
@@ -269,7 +269,7 @@ impl Place {
     }
 }
 
-// The first fault of an ACL's records; it may end anywhere but where kind 15 is due.
+// The first fault of an ACL's records; it may end anywhere but before a record of kind 15 that an action announced.
 pub fn acl_records(acl: &[u8]) -> Checked
     ensures { λ r. ⌜ faultAs r ≡ aclFault (records (now (acl .entry))) ⌝ }
 {

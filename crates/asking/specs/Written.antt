@@ -1,4 +1,4 @@
--- A run as a loop does it, and what its requests have come to: the tables, the last time and the buffer.
+-- A run as a loop: the tables, the last time and the buffer after some of its requests.
 use Prim.Native.Nat.{ℕ, _+_}
 use mathlib.Core.List.{List, [], _∷_, _++_}
 use mathlib.Core.Path.{_≡_}
@@ -10,7 +10,7 @@ use Rattle.rules.specs.Gate.{Outcome}
 use Rattle.rules.specs.Runs.{bytesOfAnswer}
 use Rattle.judging.specs.Standings.{ledgerOfTables}
 
--- what a loop hands on: the ledger, and the answer buffer as it stands
+-- what a loop passes on: the ledger, and the answer buffer so far
 pub record Running : Type 0 where
   pub ledger : Ledger
   pub buffer : Bytes

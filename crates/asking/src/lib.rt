@@ -52,7 +52,7 @@ struct Answered {
     still: u64,
 }
 
-// .. and the groups that need a look from a time on.
+// The state between two requests: the last answer, the last time, and the groups that still have to be looked at, from which time on.
 struct Turn {
     number: u32,
     group: u32,
@@ -93,7 +93,7 @@ fn denial_near(denial: Denial) -> usize
     }
 }
 
-// .. of a judgement.
+// The group that a judgement names as nearest; past the last one if it names none.
 fn near_of(judged: Judged) -> usize
     ensures { λ r. ⌜ r ≡ deniedGroup judged ⌝ }
 {
@@ -113,7 +113,7 @@ fn shown(near: usize) -> u32
     NO_GROUP
 }
 
-// A refusal: the last time stands.
+// A refusal: the last time is unchanged.
 fn refusal(number: u32, near: usize, last: u64, still: u64) -> Answered
     ensures { λ r. ⌜ (r .number ≡ number) × (r .group ≡ shownGroup near) × (r .last ≡ last) × (r .still ≡ still) ⌝ }
 {

@@ -13,7 +13,7 @@ unfoldable pub carriedFrom : List ℕ → ℕ → List Hint → List ℕ → Lis
 carriedFrom counts i [] table = table
 carriedFrom counts i (h ∷ hs) table = carriedFrom counts (i + 1) hs (set table i (getD counts (h .source) 0))
 
--- .. over a table of zeros
+-- the counts of all new groups, zero past the last
 abbrev pub carriedOf : List Hint → List ℕ → List ℕ
 carriedOf hs counts = carriedFrom counts 0 hs (replicate groupsMax 0)
 

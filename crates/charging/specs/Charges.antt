@@ -1,4 +1,4 @@
--- A reply by document 01's numbers, what a judgement comes to, and what a reply charges, by the limits alone.
+-- A reply by document 01's numbers, the reply to a judgement, and what a reply charges, by the limits alone.
 use Prim.Native.Nat.{ℕ, _<_}
 use mathlib.Core.List.{List}
 use mathlib.Core.Path.{_≡_}
@@ -31,11 +31,11 @@ answerAs (Deny d) = rulesGate.refuse (denialNumber d) (denialGroup d)
 abbrev pub counterNotFull : List ℕ → ℕ → ℕ → Bool
 counterNotFull before sort counter = implies (eqb sort 2) (ltb (getD before counter 0) fullCount)
 
--- .. of every limit
+-- the counter that a limit names, if it names one, is not full
 unfoldable pub limitNotFull : List ℕ → Limit → Bool
 limitNotFull before m = counterNotFull before (m .sort) (m .counter)
 
--- limits that a charge can raise counters for where they stand: none is full, and no two limits name the same one
+-- limits whose counters can be raised in place: none is full, and no two limits name the same one
 pub record Chargeable (counters : List ℕ) (ms : List Limit) : Type 0 where
   pub room : all (limitNotFull counters) ms ≡ true
   pub apart : Apart ms
@@ -48,7 +48,7 @@ raisedOnce table sort counter = if eqb sort 2 then rules.raised table counter ta
 unfoldable pub permitIf : Bool → ℕ → rulesGate.Answer
 permitIf shown place = if shown then rulesGate.permit place else rulesGate.refuse notNarrower none
 
--- .. of a judgement
+-- the answer to a judgement
 abbrev pub decided : Bool → Judged → rulesGate.Answer
 decided shown (Granted place) = permitIf shown place
 decided shown (Denied d) = rulesGate.refuse (denialNumber d) (denialGroup d)
@@ -59,7 +59,7 @@ isPermit rulesGate.done = false
 isPermit (rulesGate.permit place) = true
 isPermit (rulesGate.refuse n near) = false
 
--- the limits of a permitting group name counters that can be raised where they stand, and its own count is not full
+-- the limits of a permitting group name counters that can be raised in place, and its own count is not full
 abbrev pub CountersRoom : List ℕ → List Group → rulesGate.Answer → Type 0
 CountersRoom counters gs a = (place : ℕ) → a ≡ rulesGate.permit place → Chargeable counters (firstLimits (drop place gs))
 

@@ -1,4 +1,4 @@
-// Replies: what a judgement comes to, and what a reply charges, on tables lent to be changed where they stand.
+// Replies: the reply to a judgement, and what a reply charges, on lent tables that are changed in place.
 ghost use mathlib.Core.Path.{_≡_};
 ghost use mathlib.Core.Bool.{true};
 ghost use Prim.Native.Nat.{_<_};
@@ -35,7 +35,7 @@ fn raise_one(table: &mut [u32; sizes::COUNTERS], sort: u8, counter: u8)
     table[i] = table[i] + 1;
 }
 
-// Each counter that the limits of a group name, of the records that follow the group's first one, is raised where it stands: no two of them name the
+// Raises, in place, each counter that the limits of a group name. `body` is the records after the group's first one; no two limits name the
 // same one.
 fn raise_named(table: &mut [u32; sizes::COUNTERS], body: &[u8])
     requires { ⌜ (length (now table) ≡ countersMax) × Chargeable (now table) (limitsOf (records (now body))) ⌝ }
@@ -62,7 +62,7 @@ fn raise_count(counts: &mut [u32; sizes::GROUPS], place: usize)
     counts[place] = counts[place] + 1;
 }
 
-// A charge of the group at a place, on lent tables: own count and each named counter plus 1 where they stand. The group is unspent, so that no count is
+// Charges the group at an index, in lent tables: its own count and each named counter plus 1. The group is unspent, so that no count is
 // full. `body` is what follows the group's first record.
 pub fn charge(
     counts: &mut [u32; sizes::GROUPS],
@@ -77,7 +77,7 @@ pub fn charge(
     raise_count(counts, place);
 }
 
-// What a grant comes to: a permit, but 8 where hints are to show a narrowing and do not.
+// The reply to a grant: a permit, or 8 if hints have to show a narrowing and do not.
 fn grant(place: usize, shown: bool) -> Reply
     ensures { λ r. ⌜ answerAs r ≡ permitIf shown place ⌝ }
 {
@@ -87,7 +87,7 @@ fn grant(place: usize, shown: bool) -> Reply
     Reply::Permit(place)
 }
 
-// What a judgement comes to: a grant as above, or the denial. `shown` is whether the hints show a narrowing, true where there are none.
+// The reply to a judgement: that to a grant, or the denial. `shown` is whether the hints show a narrowing, true if there are no hints.
 pub fn decide(judged: Judged, shown: bool) -> Reply
     ensures { λ r. ⌜ answerAs r ≡ decided shown judged ⌝ }
 {
@@ -97,7 +97,7 @@ pub fn decide(judged: Judged, shown: bool) -> Reply
     }
 }
 
-// The counters after a reply: where it permits, each that the group names is raised where it stands. The group is unspent, so that none is full.
+// The counters after a reply: a permit raises each one that its group names, in place. The group is unspent, so that none is full.
 pub fn charge_counters(counters: &mut [u32; sizes::COUNTERS], reply: Reply, acl: &[u8])
     requires { ⌜ (length (now counters) ≡ countersMax) × CountersRoom (now counters) (aclOf (now acl)) (answerAs reply) ⌝ }
     ensures { λ _. ⌜ now (counters .exit) ≡ countersCharged (aclOf (now (acl .entry))) (answerAs reply) (now (counters .entry)) ⌝ }

@@ -20,12 +20,12 @@ unfoldable pub firstIn : (ℕ → Bool) → ℕ → ℕ → ℕ
 firstIn test zero n = 0
 firstIn test (suc w) n = if eqb (n % 2) 1 && test 0 then 0 else suc (firstIn (λ k. test (suc k)) w (n / 2))
 
--- the group at a place, if there is one
+-- an optional group, with its index
 abbrev pub placedAt : ℕ → Option Group → Lowest
 placedAt place none = notFound
 placedAt place (some g) = group place g
 
--- .. of the groups of an ACL
+-- the group of an ACL at an index, if there is one
 abbrev pub placed : List Group → ℕ → Lowest
 placed gs k = placedAt k (getElem? gs k)
 
@@ -38,6 +38,6 @@ judgedBySets gs admitting certifying left =
     (orElse (placed gs (trailingZeros setBits admitting)) (λ place g. denied (uncertified place g))
     (denied unadmitted)))
 
--- a group that stands at a place, and is unspent
+-- there is a group at an index, and it is unspent
 abbrev pub unspentAt : Ledger → Request → List Group → ℕ → Bool
 unspentAt l q gs k = holdsAt (unspent l k q) (getElem? gs k)

@@ -18,7 +18,7 @@ NoLess before now = (i : ℕ) → getD before i 0 ≤ getD now i 0
 unfoldable pub Opened : (ℕ → Bool) → ℕ → ℕ → Type 0
 Opened left certified unspent = (set : ℕ) → firstIn left setBits (bitAnd set unspent) ≡ firstIn left setBits (bitAnd set certified)
 
--- .. however much is used from here on, and whatever the time since load, from `since` on
+-- whatever is used from now on, and whatever the time since load, if that is at least `since`
 unfoldable pub OpenFrom : List ℕ → List ℕ → ℕ → Bytes → List ℕ → ℕ → ℕ → Type 0
 OpenFrom counts counters since acl bodies certified unspent =
     (counts′ counters′ : List ℕ) (elapsed : ℕ) → NoLess counts counts′ → NoLess counters counters′ → since ≤ elapsed

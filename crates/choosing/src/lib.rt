@@ -20,7 +20,7 @@ ghost use Rattle.choosing.specs.Opening.{Opened, Closes, OpenAt};
 use judging::Judged;
 use refusals::Denial;
 
-// The sets of groups that a run goes by, beside those of the permissions: the groups with an action for working blobs and for recovery blobs, by the
+// The sets of groups that a run uses, beside those of the permissions: the groups with an action for working blobs and for recovery blobs, by the
 // form, and those that are certified.
 pub struct Sets {
     pub working: u64,

@@ -1,4 +1,4 @@
-// What a bundle gives evidence of: fields that are there and equal, signatures that are good, and the keys that world certificates vouch for. A hash that
+// What a bundle gives evidence of: fields that are present and equal, signatures that are good, and the keys that world certificates vouch for. A hash that
 // may be absent is a part of the bundle, empty where there is none.
 ghost use mathlib.Core.Path.{_≡_};
 ghost use mathlib.Core.Bool.{_&&_, _||_};
@@ -12,7 +12,7 @@ ghost use Rattle.evidence.specs.Given.{given};
 use facts::Policy;
 use facts::Signature;
 
-// Whether a part is there. A hash has twenty bytes, so that an empty part stands for an absent one.
+// Whether a part is present. A hash has twenty bytes, so an empty part means an absent one.
 pub fn is_there(hash: &[u8]) -> bool
     ensures { λ r. ⌜ r ≡ present (given (now (hash .entry))) ⌝ }
 {
@@ -72,7 +72,7 @@ pub fn field_of<'a>(n: u8, places: &[usize; facts::ENTRIES], bundle: &'a [u8]) -
     facts::content(n, places, bundle)
 }
 
-// Whether field n is there.
+// Whether field n is present.
 pub fn has_field(n: u8, places: &[usize; facts::ENTRIES], bundle: &[u8]) -> bool
     requires { ⌜ (n < 16) × Found (now bundle) (now places) ⌝ }
     ensures { λ r. ⌜ r ≡ hasField n (records (now (bundle .entry))) ⌝ }
@@ -156,7 +156,7 @@ pub fn recovery_key<'a>(places: &[usize; facts::ENTRIES], bundle: &'a [u8]) -> &
     &bundle[0..0]
 }
 
-// Whether the module key, if it is there, is listed.
+// Whether the module key, if it is present, is listed.
 pub fn module_key_listed(places: &[usize; facts::ENTRIES], bundle: &[u8]) -> bool
     requires { ⌜ Found (now bundle) (now places) ⌝ }
     ensures { λ r. ⌜ r ≡ isListed (field 6 (records (now (bundle .entry)))) (records (now (bundle .entry))) ⌝ }

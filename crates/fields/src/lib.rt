@@ -204,7 +204,7 @@ pub fn bit_of(b: u16, n: u16) -> bool
     (n >> b) % 2 == 1
 }
 
-// Flag f of a record's flags, which stand in bytes 2 and 3.
+// Flag f of a record's flags, which are bytes 2 and 3.
 pub fn flag_of(f: u16, s: &[u8]) -> bool
     requires { ⌜ (f < 16) × (4 ≤ length (now s)) ⌝ }
     ensures { λ r. ⌜ r ≡ flag f (now (s .entry)) ⌝ }
@@ -219,7 +219,7 @@ pub fn subset16(a: u16, b: u16) -> bool
     a & b == a
 }
 
-// .. of numbers of 32 bits.
+// The same for numbers of 32 bits.
 pub fn subset32(few: u32, many: u32) -> bool
     ensures { λ r. ⌜ r ≡ within 32 few many ⌝ }
 {

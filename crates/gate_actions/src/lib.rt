@@ -1,4 +1,4 @@
-// Whether an action admits a request, and whether a group does: one of its actions has to. Each function decodes whatever bytes stand there.
+// Whether an action admits a request, and whether a group does: one of its actions has to. Each function decodes any bytes.
 ghost use mathlib.Core.Path.{_≡_};
 ghost use mathlib.Core.Option.{Option};
 ghost use lib.ListN.{length};
@@ -185,8 +185,8 @@ fn admits_some_blob(km0: &[u8], rec: &[u8], rest: &[u8], body: &[u8]) -> bool
     false
 }
 
-// Whether a group admits a use of permission p. What is passed over on the way to an action is of another kind and admits none, so that this loop goes by
-// every record and asks nothing of it but its own tests.
+// Whether a group admits a use of permission p. Records that are no action are of another kind and admit nothing, so this loop
+// tests every record.
 fn admits_some_use(p: u8, body: &[u8]) -> bool
     ensures { λ r. ⌜ r ≡ any (admitsUse p) (actionsOf (records (now (body .entry)))) ⌝ }
 {

@@ -1,4 +1,4 @@
--- What an ACL comes to at the desk, part by part.
+-- The grade of an ACL at the desk, part by part.
 use Prim.Native.Nat.{ℕ, min}
 use mathlib.Core.List.{List, [], _∷_}
 use mathlib.Core.Option.{Option, none}
@@ -44,7 +44,7 @@ unfoldable pub actionGraded : Policy → Option Bytes → Option Bytes → Actio
 actionGraded policy hkm hkre a =
     record { failure = failureUnder policy hkm hkre a; protection = actionProtection a; recoverable = isArchive a }
 
--- .. and all of a group's
+-- the grade of a group's actions
 unfoldable pub actionsGraded : Policy → Option Bytes → Option Bytes → List Action → Graded
 actionsGraded policy hkm hkre list = allGraded (actionGraded policy hkm hkre) list
 
@@ -53,7 +53,7 @@ unfoldable pub groupGraded : Option Bytes → Policy → Option Bytes → Option
 groupGraded officer policy hkm hkre g =
     if bothSame officer (g .certifier) then noActions true else actionsGraded policy hkm hkre (g .actions)
 
--- .. and all of an ACL's
+-- the grade of an ACL's groups
 unfoldable pub groupsGraded : Option Bytes → Policy → Option Bytes → Option Bytes → List Group → Graded
 groupsGraded officer policy hkm hkre gs = allGraded (groupGraded officer policy hkm hkre) gs
 

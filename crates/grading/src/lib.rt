@@ -14,7 +14,7 @@ ghost use Rattle.grading.specs.Grades.{gradedAs, gradedTogether, noActio
 use facts::Policy;
 use steps::Failure;
 
-// What an ACL, or a part of it, comes to.
+// The grade of an ACL, or of a part of it.
 pub struct Grade {
     pub failure: Failure,
     pub protection: u8,
@@ -31,7 +31,7 @@ fn weaker(a: u8, b: u8) -> u8
     b
 }
 
-// What two parts come to, one after the other. The key's protection is the weakest of all MakeBlob actions that are checked, not of the first.
+// The grade of two parts, one after the other. The key's protection is the weakest of all MakeBlob actions that are checked, not of the first.
 fn joined(a: Grade, b: Grade) -> Grade
     ensures { λ r. ⌜ gradedAs r ≡ gradedTogether (gradedAs a) (gradedAs b) ⌝ }
 {
@@ -44,7 +44,7 @@ fn joined(a: Grade, b: Grade) -> Grade
     }
 }
 
-// What an action comes to, under a policy and the keys that are trusted; an empty part for one that is not. Only a MakeBlob protects, only a
+// The grade of an action, under a policy and the keys that are trusted; that of an empty part if it is not checked. Only a MakeBlob protects, only a
 // MakeArchiveBlob makes the key recoverable. The kind is looked at once for all three.
 fn action_grade(policy: Policy, hkm: &[u8], hkre: &[u8], rec: &[u8]) -> Grade
     requires { ⌜ length (now rec) ≡ recordBytes ⌝ }
@@ -72,7 +72,7 @@ fn action_grade(policy: Policy, hkm: &[u8], hkre: &[u8], rec: &[u8]) -> Grade
     }
 }
 
-// What no action comes to: the protection that stands where nothing is kept.
+// The grade of no action: the protection of a key that is not kept.
 fn no_actions(recoverable: bool) -> Grade
     ensures { λ r. ⌜ gradedAs r ≡ noActions recoverable ⌝ }
 {
@@ -83,7 +83,7 @@ fn no_actions(recoverable: bool) -> Grade
     }
 }
 
-// What the groups of an ACL come to, by one walk over groups and actions. `checked` says whether actions that stand here are checked: not before the first
+// The grade of an ACL's groups, by one walk over groups and actions. `checked` is whether the actions at this point are checked: not before the first
 // group, and not in a group that the officer's key certifies, which marks the key recoverable. The certifier's mechanism does not matter.
 fn groups_grade(officer: &[u8], policy: Policy, hkm: &[u8], hkre: &[u8], acl: &[u8]) -> Grade
     ensures { λ r. ⌜ gradedAs r ≡ groupsGraded (given (now (officer .entry))) (policyAs policy) (given (now (hkm .entry))) (given (now (hkre .entry))) (aclOf (now (acl .entry))) ⌝ }
@@ -110,7 +110,7 @@ fn groups_grade(officer: &[u8], policy: Policy, hkm: &[u8], hkre: &[u8], acl: &[
     found
 }
 
-// What an ACL comes to by a bundle and its policy. The keys are looked for once, not for each action.
+// The grade of an ACL by a bundle and its policy. The keys are looked for once, not for each action.
 pub fn acl_grade(
     policy: Policy,
     places: &[usize; facts::ENTRIES],

@@ -1,4 +1,4 @@
--- Parts of an ACL: where one of its groups stands, and where a group's next action does.
+-- Parts of an ACL: the offset of one of its groups, and that of a group's next action.
 use Prim.Native.Nat.{ℕ, _+_, _-_, _≤_}
 use mathlib.Core.Path.{_≡_}
 use mathlib.Core.List.{List, [], _∷_}
@@ -15,12 +15,12 @@ use Rattle.rules.specs.Request.{BlobFile, blobFileOf, blobFileNext}
 abbrev pub passedOver : ℕ → Bool
 passedOver k = eqb k 2 || eqb k 15
 
--- Where the next group or action stands among records, the first of which begins at the byte `at`; where they end if there is none.
+-- The offset of the next group or action among records, the first of which begins at the byte `at`; their end if there is none.
 unfoldable pub partPlace : List Bytes → ℕ → ℕ
 partPlace [] at = at
 partPlace (r ∷ rs) at = if passedOver (kind r) then partPlace rs (at + recordBytes) else at
 
--- Where the next action stands among a group's records, the first of which begins at the byte `at`; the file's end where the group has no more.
+-- The offset of the next action among a group's records, the first of which begins at the byte `at`; the file's end if the group has no more.
 unfoldable pub actionPlace : List Bytes → ℕ → ℕ → ℕ
 actionPlace [] at end = end
 actionPlace (r ∷ rs) at end = if eqb (kind r) 1 then end else if passedOver (kind r) then actionPlace rs (at + recordBytes) end else at
@@ -32,16 +32,16 @@ groupPlace g (r ∷ rs) at end =
     if eqb (kind r) 1 then if eqb g 0 then at else groupPlace (g - 1) rs (at + recordBytes) end
     else groupPlace g rs (at + recordBytes) end
 
--- Each answer below is one place, or one part of the file: `exact`. What else is said of it follows from that, and is what callers go by.
+-- Each answer below is one offset, or one part of the file: `exact`. The other facts follow from it, and are those that callers use.
 
--- The action whose record stands at a place, with the record of kind 15 that may follow it; then the actions that are left after it.
+-- The action whose record begins at an offset, with the record of kind 15 that may follow it; then the actions after it.
 abbrev pub actionFrom : Bytes → ℕ → Action
 actionFrom s at = actionOf (part at recordBytes s) (fileRuleNext (records (drop (at + recordBytes) s)))
 
 abbrev pub actionsFrom : Bytes → ℕ → List Action
 actionsFrom s at = actionFrom s at ∷ actionsOf (records (drop (at + recordBytes) s))
 
--- The place of the next group or action, from `at` on: the same groups and actions are left from there, and a record that stands there begins a group
+-- The offset of the next group or action, from `at` on: the same groups and actions follow from there, and a record that begins there is that of a group
 -- or is an action.
 pub record NextPart (s : Bytes) (at r : ℕ) : Type 0 where
   pub exact : r ≡ partPlace (records (drop at s)) at
@@ -52,7 +52,7 @@ pub record NextPart (s : Bytes) (at r : ℕ) : Type 0 where
   pub inside : r ≤ length s
   pub stands : recordBytes ≤ length s - r → passedOver (getD s r 0) ≡ false
 
--- The place of a group's next action, from `at` on: the same actions are left from there, and a record that stands there is the first of them.
+-- The offset of a group's next action, from `at` on: the same actions follow from there, and a record that begins there is the first of them.
 pub record NextAction (s : Bytes) (at r : ℕ) : Type 0 where
   pub exact : r ≡ actionPlace (records (drop at s)) at (length s)
   pub same : actionsOf (records (drop r s)) ≡ actionsOf (records (drop at s))
@@ -60,7 +60,7 @@ pub record NextAction (s : Bytes) (at r : ℕ) : Type 0 where
   pub inside : r ≤ length s
   pub action : recordBytes ≤ length s - r → actionsOf (records (drop r s)) ≡ actionsFrom s r
 
--- The place of group g, of those from `at` on: what is left from there are the groups without the first g, and a record that stands there begins one.
+-- The offset of group g, of those from `at` on: the groups from there on are all but the first g, and a record that begins there is a group's.
 pub record GroupAt (acl : Bytes) (at g r : ℕ) : Type 0 where
   pub exact : r ≡ groupPlace g (records (drop at acl)) at (length acl)
   pub same : groupsOf (records (drop r acl)) ≡ drop g (groupsOf (records (drop at acl)))
@@ -71,7 +71,7 @@ pub record GroupAt (acl : Bytes) (at g r : ℕ) : Type 0 where
 abbrev pub fromGroup : Bytes → ℕ → Bytes
 fromGroup acl g = drop (groupPlace g (records acl) 0 (length acl)) acl
 
--- .. as answered: the same groups are left, and the first record is that group's
+-- the part of the file that is answered: the same groups, and the first record is that group's
 pub record FromGroup (acl : Bytes) (g : ℕ) (r : Bytes) : Type 0 where
   pub exact : r ≡ fromGroup acl g
   pub same : groupsOf (records r) ≡ drop g (groupsOf (records acl))
@@ -92,7 +92,7 @@ abbrev pub fileIn : Bytes → Option FileRule
 fileIn [] = none
 fileIn (b ∷ bs) = some (fileRuleOf (b ∷ bs))
 
--- .. as a request has it
+-- the record of kind 15 of a request as a part; none where the part is empty
 abbrev pub blobIn : Bytes → Option BlobFile
 blobIn [] = none
 blobIn (b ∷ bs) = some (blobFileOf (b ∷ bs))
@@ -102,7 +102,7 @@ unfoldable pub filePart : List Bytes → Bytes
 filePart [] = []
 filePart (r ∷ rs) = if eqb (kind r) 15 then r else []
 
--- .. as answered: it says what blobfile says of the action, or of the request, before it
+-- the part that is answered: it says what blobfile says of the action, or of the request, before it
 pub record FilePart (rest r : Bytes) : Type 0 where
   pub exact : r ≡ filePart (records rest)
   pub file : fileIn r ≡ fileRuleNext (records rest)

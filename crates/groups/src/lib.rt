@@ -1,12 +1,12 @@
-// Finding one's way in an ACL: a group by its number, the group's own records, its limits, its actions one after the other. Each is total: it goes
-// by whatever bytes stand there, and the file may or may not have been tested. Which kinds are neither a group nor an action is known here alone: other
+// Finding one's way in an ACL: a group by its number, the group's own records, its limits, its actions one after the other. Each is total: it
+// decodes any bytes, and the file may or may not have been tested. Which kinds are neither a group nor an action is known here alone: other
 // crates walk by next_part and next_action, or ask is_passed_over.
 ghost use Prim.Native.Nat.{_≤_};
 ghost use lib.ListN.{length};
 ghost use mathlib.Core.Path.{_≡_};
 ghost use Rattle.groups.specs.Parts.{passedOver, NextPart, NextAction, GroupAt, FromGroup, GroupBody, FilePart};
 
-// Where group g stands, of those from the byte `at` on; the end of the file where there are fewer. A search can so go on where one before it ended.
+// The offset of group g, of those from the byte `at` on; the end of the file if there are fewer. So a search can go on where one before it ended.
 pub fn group_at(acl: &[u8], at: usize, g: usize) -> usize
     requires { ⌜ at ≤ length (now acl) ⌝ }
     ensures { λ r. ⌜ GroupAt (now (acl .entry)) at g r ⌝ }
@@ -53,7 +53,7 @@ pub fn is_passed_over(kind: u8) -> bool
     (kind == 2) | (kind == 15)
 }
 
-// Where the next group or action stands, from the byte `at` on; where fewer bytes than a record are left if there is none.
+// The offset of the next group or action, from the byte `at` on; if there is none, an offset with fewer bytes left than a record has.
 pub fn next_part(s: &[u8], at: usize) -> usize
     requires { ⌜ at ≤ length (now s) ⌝ }
     ensures { λ r. ⌜ NextPart (now (s .entry)) at r ⌝ }
@@ -68,7 +68,7 @@ pub fn next_part(s: &[u8], at: usize) -> usize
     i
 }
 
-// Where the next action of a group stands, from the byte `at` on; the end of the file where the group has no more. From the end of an action's own
+// The offset of the next action of a group, from the byte `at` on; the end of the file if the group has no more. From the end of an action's own
 // record it leads past the record of kind 15 that may follow, to where the next action begins: a loop over a group's actions steps by this alone.
 pub fn next_action(s: &[u8], at: usize) -> usize
     requires { ⌜ at ≤ length (now s) ⌝ }

@@ -19,22 +19,22 @@ use Rattle.hinting.specs.declared.Hint.{Hint}
 unfoldable pub begunHint : ℕ → Hint
 begunHint source = record { bytes = hintBytes source []; count = 0; place = 0 }
 
--- .. after an action that stays: "a source action for each action of the new group"
+-- the hint after an action that stays: "a source action for each action of the new group"
 abbrev pub named : Hint → Hint
 named h = record { bytes = set (h .bytes) (8 + h .count) (h .place); count = h .count + 1; place = h .place + 1 }
 
--- .. and after one that does not
+-- the hint after an action that is dropped
 abbrev pub unnamed : Hint → Hint
 unnamed h = record { bytes = h .bytes; count = h .count; place = h .place + 1 }
 
 unfoldable pub actionHinted : Hint → Bool → Hint
 actionHinted h kept = if kept then named h else unnamed h
 
--- .. and after a record that begins no group, which may be an action with that fate
+-- the hint after a record that begins no group, which may be an action with that fate
 unfoldable pub recordHinted : Hint → Fate → Bytes → Hint
 recordHinted h fate r = if eqb (kind r) 2 then h else if eqb (kind r) 15 then h else actionHinted h (isKept fate)
 
--- "naming each kept .. action by its old place": those of the group whose first record stands at a place of the ACL
+-- "naming each kept .. action by its old place": those of the group whose first record begins at an offset of the ACL
 unfoldable pub placesAt : List Bytes → Bytes → ℕ → List ℕ
 placesAt b acl at = keptPlaces b (isChecked b (part at recordBytes acl)) 0 (records (drop (at + recordBytes) acl))
 

@@ -52,7 +52,7 @@ impl Hint {
         self
     }
 
-    // The hint after a record that begins no group. A limit or a record of kind 15 has no place among the actions: it is told here, and not by the walk
+    // The hint after a record that begins no group. A limit or a record of kind 15 is no action and has no index: this is decided here, not by the walk
     // over actions, for the trimming tool asks of each record of an ACL what becomes of it.
     fn after(
         self,
@@ -76,7 +76,7 @@ impl Hint {
     }
 }
 
-// The hint of the group whose first record stands at a place: the group's number, and the old places of its actions that stay.
+// The hint of the group whose first record begins at an offset: the group's number, and the old indexes of its actions that stay.
 fn hint_of(
     places: &[usize; facts::ENTRIES],
     bundle: &[u8],

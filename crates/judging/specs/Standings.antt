@@ -19,7 +19,7 @@ use Rattle.refusals.specs.declared.Denial.the-variants.{Early, Unadmitted, Unce
 use Rattle.judging.specs.declared.Judged.{Judged}
 use Rattle.judging.specs.declared.Judged.the-variants.{Granted, Denied}
 
--- a group's standing, by whether it admits, is certified and is unspent
+-- the last test that a group passes: it admits, is certified, is unspent
 abbrev pub standingOf : Bool → Bool → Bool → Standing
 standingOf admitting certifying left =
     if admitting then (if certifying then (if left then Granting else Certified) else Admitting) else NotAdmitting
@@ -54,20 +54,20 @@ judgedFrom standing n place [] = Denied (denialOf n)
 judgedFrom standing n place (g ∷ gs) =
     if isGranting (standing place g) then Granted place else judgedFrom standing (nearer n (standing place g) place) (suc place) gs
 
--- a group's standing for a request by the ledger's named counters, its own count and the seconds since load
+-- the last test that a group passes for a request, by the ledger's named counters, its own count and the seconds since load
 abbrev pub standingWith : List ℕ → ℕ → ℕ → Bytes → Request → Group → Standing
 standingWith counters own elapsed km0 q g = standingOf (groupAdmits km0 q g) (certified q g) (unspentWith counters own elapsed (g .limits))
 
--- .. of a group at its place
+-- the same for the group at an index, whose own count is in the table
 unfoldable pub standing : List ℕ → List ℕ → ℕ → Bytes → Request → ℕ → Group → Standing
 standing counts counters elapsed km0 q place g = standingWith counters (getD counts place 0) elapsed km0 q g
 
--- .. of a group by its first record and those that follow
+-- the same for a group given by its first record and those that follow
 unfoldable pub recordStanding : List ℕ → ℕ → ℕ → Bytes → Request → Bytes → List Bytes → Standing
 recordStanding counters own elapsed km0 q r rest = standingWith counters own elapsed km0 q (groupOf r rest)
 
--- What is remembered of the last group that was looked at for a certificate: where it stands, whether there is one, and whether it is certified; after
--- one group more, by its standing.
+-- What the loop remembers of the last group whose certification was decided: its offset, whether there was one, and whether it is certified; after
+-- one group more, by the last test that this group passes.
 abbrev pub seenAfter : Standing → ℕ → ℕ → ℕ
 seenAfter NotAdmitting seen at = seen
 seenAfter Admitting seen at = at
@@ -86,7 +86,7 @@ heldAfter Admitting held = false
 heldAfter Certified held = true
 heldAfter Granting held = true
 
--- .. it is true of that group's first record
+-- What is remembered is true of that group's first record.
 pub record Remembered (q : Request) (r : Bytes) (some held : Bool) : Type 0 where
   pub told : some ≡ true → held ≡ certified q (groupOf r [])
 
@@ -105,7 +105,7 @@ judgedFor (denied d) = Denied (denialFor d)
 abbrev pub ledgerOfTables : List ℕ → List ℕ → ℕ → ℕ → Ledger
 ledgerOfTables counts counters loaded last = record { counts = counts; counters = counters; loaded = loaded; last = last }
 
--- Where the next group stands from `at` on: the same groups are left from there, and a record that stands there begins one. (Where there are no more
+-- The offset of the next group from `at` on: the same groups follow from there, and a record that begins there is a group's. (If there are no more
 -- groups the file's end serves.)
 pub record NextGroup (acl : Bytes) (at r : ℕ) : Type 0 where
   pub same : groupsOf (records (drop r acl)) ≡ groupsOf (records (drop at acl))

@@ -1,5 +1,5 @@
 // Judging a request on an ACL: whether a group is unspent, the lowest group that admits, is certified and unspent, and else how far the groups come.
-// The functions take the ledger's tables and times, not the ledger; they decode whatever bytes stand there.
+// The functions take the ledger's tables and times, not the ledger; they decode any bytes.
 ghost use mathlib.Core.Path.{_≡_};
 ghost use mathlib.Core.List.{[]};
 ghost use Prim.Native.Nat.{_≤_};
@@ -139,7 +139,7 @@ fn group_standing(
     Standing::Granting
 }
 
-// What is remembered after a group that stands at the byte `at`: where the last one stands that was looked at for a certificate.
+// The offset of the last group whose certification was decided, after the group at the byte `at`.
 fn seen_after(s: Standing, seen: usize, at: usize) -> usize
     ensures { λ r. ⌜ r ≡ seenAfter s seen at ⌝ }
 {
@@ -151,7 +151,7 @@ fn seen_after(s: Standing, seen: usize, at: usize) -> usize
     }
 }
 
-// .. that there is one.
+// Whether the certification of any group was decided, after one group more.
 fn some_after(s: Standing, some: bool) -> bool
     ensures { λ r. ⌜ r ≡ someAfter s some ⌝ }
 {
@@ -163,7 +163,7 @@ fn some_after(s: Standing, some: bool) -> bool
     }
 }
 
-// .. and whether it is certified.
+// Whether the last group whose certification was decided is certified, after one group more.
 fn held_after(s: Standing, held: bool) -> bool
     ensures { λ r. ⌜ r ≡ heldAfter s held ⌝ }
 {
@@ -175,7 +175,7 @@ fn held_after(s: Standing, held: bool) -> bool
     }
 }
 
-// Whether a standing grants.
+// Whether a group that passed these tests grants the request.
 fn grants(s: Standing) -> bool
     ensures { λ r. ⌜ r ≡ isGranting s ⌝ }
 {
@@ -232,7 +232,7 @@ fn why_not(n: Nearest) -> Denial
     }
 }
 
-// Where the next group stands, from the byte `at` on; the end of the file where there is none. A loop of its own, for it is most of the way through an
+// The offset of the next group, from the byte `at` on; the end of the file if there is none. A loop of its own, for it is most of the way through an
 // ACL.
 fn next_group(acl: &[u8], at: usize) -> usize
     requires { ⌜ at ≤ length (now acl) ⌝ }

@@ -28,7 +28,7 @@ actionFate b checked r =
 abbrev pub fileFate : Bool → Fate
 fileFate kept = if kept then Copied else Dropped
 
--- .. of a record of any kind
+-- what becomes of a record of any kind
 unfoldable pub recordFate : List Bytes → Bool → Bool → Bytes → Fate
 recordFate b checked kept r =
     if eqb (kind r) 1 then Copied
@@ -48,7 +48,7 @@ sizeOf Copied = recordBytes
 sizeOf Fewer = recordBytes
 sizeOf Dropped = 0
 
--- .. and what they are
+-- the bytes that are left
 unfoldable pub leftOf : List Bytes → Fate → Bytes → Bytes
 leftOf b Copied r = r
 leftOf b Fewer r = withBits (keptBits (policyOf b) (number 4 2 r)) r

@@ -1,5 +1,5 @@
-// What the trimming tool does with one record of an ACL: it is copied, copied with fewer permissions, or dropped. Each function decodes whatever bytes
-// stand in the record; the file may or may not have been tested.
+// What the trimming tool does with one record of an ACL: it is copied, copied with fewer permissions, or dropped. Each function decodes any bytes;
+// the file may or may not have been tested.
 ghost use mathlib.Core.Path.{_≡_};
 ghost use mathlib.Core.Option.{none};
 ghost use Prim.Native.Nat.{_+_, _-_, _^_, _≤_, _<_};
@@ -126,7 +126,7 @@ fn file_fate(kept: bool) -> Fate
     Fate::Dropped
 }
 
-// What becomes of a record, limits and records of kind 15 among them: they are copied or dropped, so that the tool goes by every record and not by the
+// What becomes of a record. Limits and records of kind 15 are copied or dropped too, so the tool looks at every record instead of using the
 // walk over actions. `checked` says whether actions are checked here, `kept` whether the last one stayed.
 pub fn record_fate(
     places: &[usize; facts::ENTRIES],

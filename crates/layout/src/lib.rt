@@ -14,7 +14,7 @@ fn low_flags(flags: u8, listed: u16) -> bool
     fields::subset16(flags as u16, listed)
 }
 
-// Byte 1 is zero, and no flag is set but those listed, which stand in byte 3; so byte 2 is zero too.
+// Byte 1 is zero, and no flag is set but those listed, which are bits of byte 3; so byte 2 is zero too.
 fn plain_header(listed: u16, s: &[u8]) -> bool
     requires { ⌜ (listed < 256) × (4 ≤ length (now s)) ⌝ }
     ensures { λ r. ⌜ r ≡ header listed (now (s .entry)) ⌝ }
@@ -262,7 +262,7 @@ pub fn file(s: &[u8]) -> bool
     fields::zero_part(s, 28, 36)
 }
 
-// .. in a request: exactly one device is stated.
+// A record of kind 15 in a request: it states exactly one device.
 pub fn file_request(s: &[u8]) -> bool
     requires { ⌜ length (now s) ≡ recordBytes ⌝ }
     ensures { λ r. ⌜ r ≡ fileRequestLaidOut (now (s .entry)) ⌝ }

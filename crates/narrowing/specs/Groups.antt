@@ -12,15 +12,15 @@ use Rattle.rules.specs.Acl.{Action, actionsOf, groupOf}
 use Rattle.rules.specs.Narrow.{groupNarrows}
 use Rattle.groups.specs.Parts.{actionFrom}
 
--- The action whose record stands at a place of a group's records, with the record of kind 15 that may follow it; none where no record does.
+-- The action whose record begins at an offset of a group's records, with the record of kind 15 that may follow it; none if no record begins there.
 unfoldable pub actionIn : Bytes → ℕ → Option Action
 actionIn s at = if leb recordBytes (length s - at) then some (actionFrom s at) else none
 
--- Where a search for action h goes on, `low` being the next action there: where that stands, or from the start if it is past h.
+-- The offset from which a search for action h goes on, `low` being the next action at n: n itself, or the start if that action is past h.
 unfoldable pub resumedFrom : ℕ → ℕ → ℕ → ℕ
 resumedFrom low h n = if ltb h low then 0 else n
 
--- The place of action h of a group: what stands there is that action, and what is left after it are the actions from the next one on.
+-- The offset of action h of a group: the record there is that action, and the actions after it are those from h + 1 on.
 pub record ActionAt (s : Bytes) (h r : ℕ) : Type 0 where
   pub found : actionIn s r ≡ getElem? (actionsOf (records s)) h
   pub next : recordBytes ≤ length s - r → actionsOf (records (drop (r + recordBytes) s)) ≡ drop (h + 1) (actionsOf (records s))

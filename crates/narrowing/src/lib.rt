@@ -1,4 +1,4 @@
-// Whether hints show that a new ACL is a narrowing of an old one. Each function decodes whatever bytes stand there.
+// Whether hints show that a new ACL is a narrowing of an old one. Each function decodes any bytes; the files need not have been tested.
 ghost use mathlib.Core.Path.{_≡_};
 ghost use Prim.Native.Nat.{_-_, _≤_, _<_};
 ghost use mathlib.Core.Bool.{true};
@@ -21,7 +21,7 @@ fn resumed(low: usize, h: usize, n: usize) -> usize
     n
 }
 
-// Where action h of a group stands, of the records that follow the group's first one; the end where there is none. The actions from the byte `from` on
+// The offset of action h of a group, in the records after the group's first one; the end if it has fewer. The actions from the byte `from` on
 // are those from action `low` on: hints mostly rise, and then the search goes on where the one before it ended.
 fn action_at(body: &[u8], low: usize, from: usize, h: usize) -> usize
     requires { ⌜ (from ≤ length (now body)) × (actionsOf (records (drop from (now body))) ≡ drop low (actionsOf (records (now body)))) ⌝ }
@@ -39,7 +39,7 @@ fn action_at(body: &[u8], low: usize, from: usize, h: usize) -> usize
     body.len()
 }
 
-// The new action at a place against the old one that its hint names, which stands at `place`; nothing where no record does.
+// Whether the new action at offset `at` is no wider than the old one at offset `place`, which its hint names; false if no record begins there.
 fn hinted_no_wider(new: &[u8], at: usize, old: &[u8], place: usize) -> bool
     requires { ⌜ (recordBytes ≤ length (now new) - at) × (place ≤ length (now old)) ⌝ }
     ensures { λ r. ⌜ (r ≡ noWiderThan (actionFrom (now (new .entry)) at) (actionIn (now (old .entry)) place)) × (r ≡ true → recordBytes ≤ length (now (old .entry)) - place) ⌝ }

@@ -20,7 +20,7 @@ refusalNumber OpenArchive = numbers.openArchive
 refusalNumber NoSlot = numbers.noSlot
 refusalNumber OtherForm = numbers.otherForm
 
--- .. 4 to 7
+-- "Refusal numbers": 4 to 7
 abbrev pub denialNumber : Denial → ℕ
 denialNumber Early = numbers.clockBack
 denialNumber Unadmitted = numbers.notAdmitted

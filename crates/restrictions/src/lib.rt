@@ -1,5 +1,5 @@
-// Restrictions of a new record against an old one: what the old one restricts is kept, tightened or added to. Each function decodes whatever bytes stand
-// there.
+// Restrictions of a new record against an old one: what the old one restricts is kept, tightened or added to. Each function decodes any
+// bytes.
 ghost use mathlib.Core.Path.{_≡_};
 ghost use Prim.Native.Nat.{_+_, _≤_, _<_};
 ghost use mathlib.Core.Option.{Option};

@@ -93,7 +93,7 @@ fn presented(row: &[Certificate], acl: &[u8], end: usize) -> bool
     found
 }
 
-// Where the making of the set of certified groups stands: the end of the record of the group that is next, from the last to the first, 0 where there is
+// The state of the loop that makes the set of certified groups, from the last group to the first: the end of the next group's record, 0 if there is
 // none; and the set of those after it.
 struct Marking {
     end: usize,

@@ -113,12 +113,12 @@ kind r = byte 0 r
 abbrev pub flag : ℕ → Bytes → Bool
 flag f r = bit f (number 2 2 r)
 
--- a field that a flag says is there
+-- an optional field, present if its flag is set
 abbrev pub optional : {A : Type 0} → Bool → A → Option A
 optional true a = some a
 optional false a = none
 
--- whether it is there
+-- an optional field is present
 abbrev pub present : {A : Type 0} → Option A → Bool
 present none = false
 present (some a) = true
@@ -129,12 +129,12 @@ bothSame none b = false
 bothSame (some x) none = false
 bothSame (some x) (some y) = same x y
 
--- what has to equal a hash, or a number, if that is there
+-- a hash that equals the given one, if one is given
 abbrev pub matches : Option Bytes → Bytes → Bool
 matches none h = true
 matches (some k) h = same k h
 
--- .. a number
+-- a number that equals the given one, if one is given
 abbrev pub matchesNumber : Option ℕ → ℕ → Bool
 matchesNumber none n = true
 matchesNumber (some m) n = eqb m n
@@ -148,7 +148,7 @@ chunks (suc n) bs = take recordBytes bs ∷ chunks n (drop recordBytes bs)
 unfoldable pub records : Bytes → List Bytes
 records bs = chunks (length bs / recordBytes) bs
 
--- .. from a place on
+-- the records of a file from an offset on
 unfoldable pub recordsFrom : Bytes → ℕ → List Bytes
 recordsFrom s at = records (drop at s)
 
@@ -161,7 +161,7 @@ joined (r ∷ rs) = r ++ joined rs
 unfoldable pub fits : ℕ → Bytes → Bool
 fits most bs = eqb (length bs % recordBytes) 0 && leb (length bs) (most * recordBytes)
 
--- a test of what stands at a place; nothing stands past the end
+-- a test of an element that may be missing; a missing one fails
 abbrev pub holdsAt : {A : Type 0} → (A → Bool) → Option A → Bool
 holdsAt test none = false
 holdsAt test (some a) = test a
@@ -181,7 +181,7 @@ unfoldable pub firstFault : {F : Type 0} → List (Option F) → Option F
 firstFault [] = none
 firstFault (t ∷ ts) = orNext t (firstFault ts)
 
--- "within one record 2 before 3": a record that is good as it stands there, and for which there is room
+-- "within one record 2 before 3": `good` is whether the record is well formed and in place, `room` whether it is not one too many
 unfoldable pub recordFault : Bool → Bool → Option ℕ
 recordFault good room = firstFault (unless good malformed ∷ unless room tooMany ∷ [])
 

@@ -38,7 +38,7 @@ freshSlot = countsAndTimes freshLedger
 abbrev pub freshCabinet : Cabinet
 freshCabinet = record { slots = replicate slotsMax freshSlot; counters = freshLedger .counters }
 
--- what stands past the eight slots, where no call reads
+-- the value of a slot past the eight, which no call reads
 abbrev pub emptySlot : Slot
 emptySlot = record { counts = []; loaded = 0; last = 0 }
 
@@ -50,11 +50,11 @@ slotAt c slot = getD (c .slots) slot emptySlot
 abbrev pub ledgerAt : Cabinet → ℕ → Ledger
 ledgerAt c slot = ledgerWith (slotAt c slot) (c .counters)
 
--- the cabinet with the ledger that the gate handed back for a slot
+-- the cabinet after the gate has returned a ledger for a slot
 abbrev pub putBack : Cabinet → ℕ → Ledger → Cabinet
 putBack c slot l = record { slots = set (c .slots) slot (countsAndTimes l); counters = l .counters }
 
--- what the cabinet answers, and the cabinet handed back
+-- the cabinet's answer, and the cabinet afterwards
 pub record CabinetOutcome : Type 0 where
   pub answer : Answer
   pub cabinet : Cabinet
@@ -63,7 +63,7 @@ pub record CabinetOutcome : Type 0 where
 abbrev pub cabinetRefused : Cabinet → ℕ → CabinetOutcome
 cabinetRefused c f = record { answer = refuse f none; cabinet = c }
 
--- "A slot answers and is charged as the gate would": the gate's answer, and the ledger that it handed back put into its places
+-- "A slot answers and is charged as the gate would": the gate's answer, with the slot and the counters of the ledger that it returns
 abbrev pub asGate : Cabinet → ℕ → Outcome → CabinetOutcome
 asGate c slot o = record { answer = o .answer; cabinet = putBack c slot (o .ledger) }
 

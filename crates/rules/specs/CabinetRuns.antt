@@ -10,13 +10,13 @@ use Rattle.rules.specs.Runs.{RunReply, refusedWhole, RunOutcome, run}
 use Rattle.rules.specs.Prepared.{Form, preparedRun}
 use Rattle.rules.specs.Cabinet.{Cabinet, ledgerAt, putBack}
 
--- The reply of a run in a slot, the cabinet handed back and the answer buffer afterwards.
+-- The reply of a run in a slot, the cabinet and the answer buffer afterwards.
 pub record CabinetRan : Type 0 where
   pub reply : RunReply
   pub cabinet : Cabinet
   pub buffer : Bytes
 
--- the gate's own run, and the ledger that it handed back put into its places
+-- the gate's own run, with the slot and the counters of the ledger that it returns
 abbrev pub ranAsGate : Cabinet → ℕ → RunOutcome → CabinetRan
 ranAsGate c slot o = record { reply = o .reply; cabinet = putBack c slot (o .ledger); buffer = o .buffer }
 

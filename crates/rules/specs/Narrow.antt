@@ -20,7 +20,7 @@ keptBy test (some n) (some o) = test n o
 abbrev pub kept : Option Bytes → Option Bytes → Bool
 kept new old = keptBy same new old
 
--- .. of a mechanism
+-- "restrictions kept equal or added": a mechanism
 abbrev pub keptNumber : Option ℕ → Option ℕ → Bool
 keptNumber new old = keptBy eqb new old
 
@@ -42,7 +42,7 @@ blobNoWider n o =
 abbrev pub archiveNoWider : ArchiveRule → ArchiveRule → Bool
 archiveNoWider n o = eqb (n .mechanism) (o .mechanism) && kept (n .kahash) (o .kahash)
 
--- "may add or tighten the mask": what is there is a subset
+-- "may add or tighten the mask": a mask that is kept is a subset
 abbrev pub keptDevices : Option ℕ → Option ℕ → Bool
 keptDevices new old = keptBy (within 32) new old
 
@@ -65,7 +65,7 @@ noWider (makeArchive n f) (permissions o) = false
 noWider (makeArchive n f) (makeBlob o h) = false
 noWider (makeArchive n f) (makeArchive o h) = archiveNoWider n o && fileNoWider f h
 
--- an action against the one that its hint names, if that is there
+-- an action against the one that its hint names; "one naming nothing gives 8"
 abbrev pub noWiderThan : Action → Option Action → Bool
 noWiderThan n none = false
 noWiderThan n (some o) = noWider n o
@@ -80,7 +80,7 @@ actionsNoWider (a ∷ rest) (h ∷ hs) old = noWiderThan a (getElem? old h) && a
 unfoldable pub answers : Limit → Limit → Bool
 answers o n = eqb (n .sort) (o .sort) && eqb (n .counter) (o .counter) && leb (n .maximum) (o .maximum)
 
--- .. an old limit is answered by one of the new
+-- an old limit is answered by one of the new limits
 unfoldable pub isAnswered : List Limit → Limit → Bool
 isAnswered new o = any (answers o) new
 

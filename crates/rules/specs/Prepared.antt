@@ -30,7 +30,7 @@ pub record Form : Type 0 where
 abbrev pub useSet : List Group → ℕ → ℕ
 useSet gs p = setOf (λ g. any (admitsUse p) (g .actions)) gs
 
--- .. for each of n permissions from `from` on
+-- the groups for each of n permissions from `from` on
 unfoldable pub useSets : List Group → ℕ → ℕ → List ℕ
 useSets gs from zero = []
 useSets gs from (suc n) = useSet gs from ∷ useSets gs (suc from) n

@@ -29,7 +29,7 @@ withRow r row = joined (r ∷ map certificateBytes row)
 abbrev pub requestWith : Bytes → List Certificate → Request
 requestWith r row = record { wanted = wantedOf r none; time = timeOf r; certificates = row; delegations = [] }
 
--- .. one request of a run, asked of the gate
+-- one request of a run, asked of the gate
 abbrev pub askGate : Bytes → Bytes → List Certificate → Ledger → Bytes → Outcome
 askGate km0 acl row l r = request l km0 acl (withRow r row)
 
@@ -48,7 +48,7 @@ bytesOfAnswer done = answerWith 0 noGroup
 bytesOfAnswer (permit place) = answerWith 0 place
 bytesOfAnswer (refuse f near) = answerWith f (groupOr near)
 
--- What is handed back of requests: the answers, one after the other, and the ledger.
+-- The results of requests: the answers, one after the other, and the ledger.
 pub record Ran : Type 0 where
   pub answers : Bytes
   pub ledger : Ledger
@@ -57,7 +57,7 @@ pub record Ran : Type 0 where
 abbrev pub answeredFirst : Answer → Ran → Ran
 answeredFirst a rest = record { answers = bytesOfAnswer a ++ rest .answers; ledger = rest .ledger }
 
--- "asking one by one in order": each request on the ledger that the one before it hands back; "a refusal in the middle changes nothing and the run
+-- "asking one by one in order": each request on the ledger that the one before it returns; "a refusal in the middle changes nothing and the run
 -- goes on"
 unfoldable pub askedInOrder : (Ledger → Bytes → Outcome) → Ledger → List Bytes → Ran
 askedInOrder ask l [] = record { answers = []; ledger = l }
@@ -92,13 +92,13 @@ pub data RunReply : Type 0 where
   ran : ℕ → RunReply
   refusedWhole : ℕ → RunReply
 
--- The reply of a run, the ledger handed back and the answer buffer afterwards.
+-- The reply of a run, the ledger and the answer buffer afterwards.
 pub record RunOutcome : Type 0 where
   pub reply : RunReply
   pub ledger : Ledger
   pub buffer : Bytes
 
--- what a run comes to, by the refusal of it as a whole: "bytes past the last answer stay"; a refusal leaves "the buffer untouched"
+-- the outcome of a run, by the refusal of it as a whole: "bytes past the last answer stay"; a refusal leaves "the buffer untouched"
 abbrev pub runEnd : Ledger → Bytes → Bytes → Option ℕ → Ran → RunOutcome
 runEnd l requests buffer none o =
     record { reply = ran (requestsIn requests); ledger = o .ledger; buffer = writtenOver {F = ℕ} (o .answers) buffer none }

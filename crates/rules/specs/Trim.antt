@@ -39,7 +39,7 @@ actionPasses b r = not (present (actionFailure b (actionOf r none)))
 unfoldable pub stays : List Bytes → Bool → Bytes → Bool
 stays b checked r = implies checked (actionPasses b r || eqb (kind r) 3)
 
--- .. as it was, or without the bits that fail
+-- the record of an action that stays: unchanged, or without the bits that fail
 unfoldable pub trimmedRecord : List Bytes → Bool → Bytes → Bytes
 trimmedRecord b checked r = if checked && not (actionPasses b r) then withBits (keptBits (policyOf b) (permissionBits r)) r else r
 
@@ -48,7 +48,7 @@ abbrev pub keptBefore : Bool → Bytes → List Bytes → List Bytes
 keptBefore true r rs = r ∷ rs
 keptBefore false r rs = rs
 
--- the trimmed ACL's records, of records that stand in a group which is checked or not; `kept` says whether the last action stayed, "with its kind 15
+-- the trimmed ACL's records, of records in a group which is checked or not; `kept` is whether the last action stayed, "with its kind 15
 -- record"
 unfoldable pub trimmedFrom : List Bytes → Bool → Bool → List Bytes → List Bytes
 trimmedFrom b checked kept [] = []
@@ -96,7 +96,7 @@ abbrev pub ofRefusal : Option ℕ → Option TrimReply
 ofRefusal none = none
 ofRefusal (some f) = some (unread f)
 
--- .. "and failing steps before the ACL"
+-- "failing steps before the ACL" are reported as the desk reports them
 abbrev pub ofStep : Option Step → Option TrimReply
 ofStep none = none
 ofStep (some s) = some (untrimmed s)

@@ -1,4 +1,4 @@
-// The sizes of document 01 that code goes by, each named once. The definitions have the same names in crates/rules/specs/Sizes.antt.
+// The sizes of document 01 that the code uses, each named once. The definitions have the same names in crates/rules/specs/Sizes.antt.
 
 // Bytes of a record.
 pub const RECORD: usize = 64;

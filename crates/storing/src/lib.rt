@@ -1,5 +1,5 @@
 // What blobfile, the record of kind 15, says of an action: against what a request's says, and against what that of an older action says. Each function
-// decodes whatever bytes stand there.
+// decodes any bytes.
 ghost use mathlib.Core.Path.{_≡_};
 ghost use lib.ListN.{length};
 ghost use Rattle.rules.specs.Sizes.{recordBytes};
@@ -49,7 +49,7 @@ fn admits_file(file: &[u8], stored: &[u8]) -> bool
     admits_device(file, stored) & admits_template(file, stored)
 }
 
-// .. of the records that follow the request record, and of those that follow the action.
+// The same, from the records after the request record and the records after the action.
 pub fn admits_place(rest: &[u8], after: &[u8]) -> bool
     ensures { λ r. ⌜ r ≡ admitsFile (fileRuleNext (records (now (after .entry)))) (blobFileNext (records (now (rest .entry)))) ⌝ }
 {
@@ -84,7 +84,7 @@ fn kept_template(new: &[u8], old: &[u8]) -> bool
     fields::same_bytes(&new[8..28], &old[8..28])
 }
 
-// Kind 15 of a new action against that of the old one, as parts: it is there exactly if it was.
+// Kind 15 of a new action against that of the old one, as parts: the new one has it exactly if the old one has.
 fn file_no_wider(new: &[u8], old: &[u8]) -> bool
     requires { ⌜ ((length (now new) ≡ 0 → ⊥) → length (now new) ≡ recordBytes) × ((length (now old) ≡ 0 → ⊥) → length (now old) ≡ recordBytes) ⌝ }
     ensures { λ r. ⌜ r ≡ fileNoWider (fileIn (now (new .entry))) (fileIn (now (old .entry))) ⌝ }
@@ -98,7 +98,7 @@ fn file_no_wider(new: &[u8], old: &[u8]) -> bool
     kept_devices(new, old) & kept_template(new, old)
 }
 
-// .. of the records that follow two actions.
+// The same, from the records that follow two actions.
 pub fn place_no_wider(new: &[u8], old: &[u8]) -> bool
     ensures { λ r. ⌜ r ≡ fileNoWider (fileRuleNext (records (now (new .entry)))) (fileRuleNext (records (now (old .entry)))) ⌝ }
 {

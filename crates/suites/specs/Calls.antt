@@ -21,7 +21,7 @@ pub record Calls : Type 0 where
   pub moduleKeysBytes : ℕ
   pub moduleSetupBytes : ℕ
 
--- .. "other numbers give refusal 11"
+-- "other numbers give refusal 11"
 pub data SuiteAnswer : Type 0 where
   calls : Calls → SuiteAnswer
   refuses : ℕ → SuiteAnswer
@@ -34,7 +34,7 @@ keysText Dlf3072Rijndael = "Module keys: suite = DLf3072s256mRijndael\0"
 keysText Dlf3072Aes = "Module keys: suite = DLf3072s256mAEScSP800131Ar1\0"
 keysText Ecp521Aes = "Module keys: suite = ECp521mAES\0"
 
--- .. of certificate 4
+-- the header text of certificate 4, by the choice
 abbrev pub setupText : Header → String
 setupText Plain = "Module setup, FIPS3\0"
 setupText TypeRijndael = "Module setup, FIPS3; KM type Rijndael\0"
@@ -42,7 +42,7 @@ setupText Dlf3072Rijndael = "Module setup, FIPS3; suite = DLf3072s256mRijndael\0
 setupText Dlf3072Aes = "Module setup, FIPS3; suite = DLf3072s256mAEScSP800131Ar1\0"
 setupText Ecp521Aes = "Module setup, FIPS3; suite = ECp521mAES\0"
 
--- the suite that the code's struct stands for
+-- the code's struct as a suite of the definitions
 abbrev pub suiteAs : Suite → rules.Suite
 suiteAs s = record { mechanism = s .mechanism; moduleKeys = keysText (s .header); moduleSetup = setupText (s .header) }
 
@@ -61,7 +61,7 @@ lookupFor (some s) =
       moduleSetupBytes = length (ascii (s .moduleSetup)) + 4 * hashBytes;
     })
 
--- .. the suite of a number
+-- what the suite of a number calls for
 unfoldable pub calledFor : ℕ → SuiteAnswer
 calledFor n = lookupFor (rules.suite n)
 
