@@ -1,4 +1,4 @@
--- The turns of the loops of this crate, and what a key added to those of a group comes to.
+-- The turns of the loops of this crate, and a key added to those of a group.
 use Prim.Native.Nat.{ℕ, zero, suc, _+_, _-_, _*_, _/_, _%_, _≤_, _<_}
 use native.Mathlib.Omega.{arith}
 use mathlib.Core.Path.{_≡_, refl, sym, _∙_, ap, ap₂}
@@ -133,7 +133,7 @@ group-begun s t r b e d = d ∙ ap (λ (x : Bool). begunWith s (not x)) e
 pub action-added : (s t : AclPlace) (r : Bytes) (b : Bool) → b ≡ flag 6 r → t ≡ addedWith s b → t ≡ actionAdded s r
 action-added s t r b e d = d ∙ ap (addedWith s) e
 
--- the end: kind 15 is due or not
+-- the end: a record of kind 15 is missing or not
 pub end-due : (s : AclPlace) → s .fileDue ≡ true → some malformed ≡ aclEnd s
 end-due s e = rw e
 
@@ -168,7 +168,7 @@ module _ (s : AclPlace) (r : Bytes) (key : ℕ) (e : key ≡ limitKey r) where
 pub was-true : (r t : Bool) → r ≡ t → not r ≡ false → t ≡ true
 was-true r t e h = sym e ∙ not-false r h
 
--- an action that is laid out stands where a group has begun
+-- a well-formed action comes where a group has begun
 pub action-placed : (r t g : Bool) → r ≡ t → not r ≡ false → g ≡ (t && g)
 action-placed r t g e h = sym (ap (λ (x : Bool). x && g) (sym e ∙ not-false r h))
 
@@ -188,7 +188,7 @@ module _ (s : Bytes) (at : ℕ) (st : AclPlace) (x : AclReading) (inv : reading 
   unfolding reading
   read-done h = sym (ap (reading st) (rows-end s at h)) ∙ inv
 
--- the first fault of records, by what reading them comes to
+-- the first fault of records, by the result of reading them
 abbrev ended : AclReading → Option ℕ
 ended (stopped f) = some f
 ended (on s) = aclEnd s

@@ -1,4 +1,4 @@
--- From a judgement by sets to the answer: the group that grants stands at its place, is not full, names no counter twice, and is charged; a denial keeps
+-- From a judgement by sets to the answer: the group that grants is at its index, is not full, names no counter twice, and is charged; a denial keeps
 -- the tables.
 use Prim.Native.Nat.{ℕ, zero, suc, _-_, _/_, _%_, _≤_, _<_}
 use native.Mathlib.Omega.{arith}
@@ -58,12 +58,12 @@ none-ungranted k notFound notFound f = never (cc)
 none-ungranted k notFound (group p g) f = never (cc)
 none-ungranted k (group p g) y f = never (cc)
 
--- a group that is found stands among those there are
+-- a group that is found is one of the ACL's groups
 abbrev FoundIn : ℕ → Lowest → Type 0
 FoundIn n notFound = Unit {0}
 FoundIn n (group p g) = p < n
 
--- .. and one that a denial names
+-- a group that a denial names is one of the ACL's groups
 abbrev NamedIn : ℕ → Denial → Type 0
 NamedIn n early = Unit {0}
 NamedIn n unadmitted = Unit {0}

@@ -1,4 +1,4 @@
--- The loop over the requests of a run comes to what asking one by one comes to.
+-- The loop over the requests of a run answers as asking one by one does.
 use Prim.Native.Nat.{ℕ, _+_, _*_, _≤_}
 use native.Mathlib.Omega.{arith}
 use native.Mathlib.Nat.{add-zero}
@@ -55,7 +55,7 @@ length-over at new old h =
     let t : length (take at old) ≡ at = length-take-le at old (omega arith) in
     omega (arith, length-append (take at old) (new ++ drop (at + length new) old), length-append new (drop (at + length new) old), length-drop (at + length new) old)
 
--- The loop comes to what asking one by one comes to: so a loop's invariant is that what is left has the whole's answer.
+-- The loop answers as asking one by one does: a loop's invariant is that what is left has the whole's answer.
 pub writing-is : (ask : Ledger → Bytes → Outcome) (l : Ledger) (buffer : Bytes) (at : ℕ) (rs : List Bytes) → at + length rs * answerBytes ≤ length buffer
     → writing ask l buffer at rs ≡ record { ledger = askedInOrder ask l rs .ledger; buffer = overAt at (askedInOrder ask l rs .answers) buffer }
 unfolding writing askedInOrder

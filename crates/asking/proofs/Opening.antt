@@ -88,7 +88,7 @@ open-next km0 gs c o r acl bodies counts counters counts′ counters′ loaded b
     let t = g .later in
     open-on counts counts′ counters counters′ (before - loaded) (last - loaded) acl bodies c o (g .counts) (g .counters) (omega arith) h
 
--- .. and so does what needs a look from a time on
+-- the groups that need a look from a time on are still right after a charge
 pub open-kept : (km0 : Bytes) (gs : List Group) (c o : ℕ) (r acl : Bytes) (bodies counts counters counts′ counters′ : List ℕ) (loaded before n place last since : ℕ)
     → IsOutcome (askSets km0 gs c (ledgerOfTables counts counters loaded before) r) counts′ counters′ loaded n place last
     → OpenFrom counts counters (since - loaded) acl bodies c o → OpenFrom counts′ counters′ (since - loaded) acl bodies c o

@@ -37,7 +37,7 @@ module _ (ask : Ledger → Bytes → Outcome) (requests : Bytes) (x : Running) (
   unfolding writing
   writing-done h = sym (ap (writing ask l buf (at / 64 * 8)) (rows-end requests at h)) ∙ inv
 
--- Bytes that are stored one by one, and two parts that stand together.
+-- Bytes that are stored one by one, and two parts side by side.
 pub stored-four : (buf : Bytes) (at n : ℕ) → at + 4 ≤ length buf
     → set (set (set (set buf at (n / 16777216)) (at + 1) (n / 65536 % 256)) (at + 2) (n / 256 % 256)) (at + 3) (n % 256) ≡ overAt at (bigEndian 4 n) buf
 unfolding overAt bigEndian

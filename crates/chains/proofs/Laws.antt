@@ -1,4 +1,4 @@
--- What the tests of this crate come to in the definitions' terms.
+-- The tests of this crate in the definitions' terms.
 use Prim.Native.Nat.{ℕ, _+_, _-_, _/_, _^_, _≤_, _<_}
 use native.Mathlib.Omega.{arith}
 use native.Mathlib.Nat.{div-eq-of-lt}

@@ -1,4 +1,4 @@
--- The search by levels finds a chain exactly where the definition does; and what the levels come to, one after the other.
+-- The search by levels finds a chain exactly where the definition does; and the levels, one after the other.
 use Prim.Native.Nat.{ℕ, zero, suc, _+_, _≤_}
 use native.Mathlib.Omega.{arith}
 use native.Mathlib.Numerals.{add-one}
@@ -57,7 +57,7 @@ reaches p ds zero k t = false
 reaches p ds (suc n) k t = any (λ d. holds p d && same (d .from) k && (t d || reaches p ds n (d .to) t)) ds
 
 module _ (p : ℕ) (ds : List Delegation) where
-  -- .. by its last, as the levels go
+  -- a chain by its last link, as the levels have it
   abbrev ended : ℕ → Bytes → (Delegation → Bool) → Delegation → Bool
   ended n k t d = holds p d && (same (d .from) k || reaches p ds n k (leadsTo (d .from))) && t d
 
@@ -95,7 +95,7 @@ module _ (p : ℕ) (ds : List Delegation) where
             let h : reaches p ds (suc n) k (leadsTo (e .from)) ≡ true = i (λ d. holds p d && same (d .from) k && (leadsTo (e .from) d || reaches p ds n (d .to) (leadsTo (e .from)))) (and-both (holds p d && same (d .from) k) _ (and-both (holds p d) (same (d .from) k) a b) g) in
             y .1 (ended (suc n) k t) (and-both (holds p e && (same (e .from) k || reaches p ds (suc n) k (leadsTo (e .from)))) (t e) (and-both (holds p e) _ (and-left (holds p e) _ c) (or-right (same (e .from) k) _ h)) f)
 
-    -- .. and back
+    -- the other way
     last-first : any (ended (suc n) k t) ds ≡ true → reaches p ds (suc (suc n)) k t ≡ true
     unfolding reaches leadsTo
     last-first e =
@@ -158,7 +158,7 @@ pub chained-none : (p : ℕ) (k : Bytes) (m : Option ℕ) (cs : List Certificate
 chained-none p k m cs ds a e z =
     sym (sym (level-chained chainMax p k m cs ds) ∙ ap (λ (n : ℕ). anyIn n (leadsToPresented m cs) ds) (level-none p k ds chainMax (sym e ∙ z)) ∙ any-in-none (leadsToPresented m cs) ds)
 
--- .. and else the levels, one after the other, up to that of the longest chains.
+-- Otherwise the levels, one after the other, up to that of the longest chains.
 pub level-first : (p : ℕ) (k : Bytes) (ds : List Delegation) (a : ℕ) → a ≡ nextLevel p k ds 0 → a ≡ level 1 p k ds
 unfolding level
 level-first p k ds a e = e

@@ -1,4 +1,4 @@
--- Sets of delegations, as numbers: what a loop that reads one, or makes one, goes by (specs/Levels.antt).
+-- Sets of delegations, as numbers: laws for loops that read a set or make one (specs/Levels.antt).
 use Prim.Native.Nat.{ℕ, _+_, _-_, _*_, _/_, _%_, _^_, _<_, _≤_}
 use native.Mathlib.Omega.{arith}
 use mathlib.Core.Path.{_≡_, refl, sym, _∙_, ap}

@@ -1,4 +1,4 @@
--- The reading of a reply loses nothing: a reply is the one that its answer reads back as.
+-- The reading of a reply loses nothing: two replies with one answer are one reply.
 use mathlib.Core.Path.{_≡_, refl}
 use Rattle.rules.specs.Basics.{if_then_else_}
 use Rattle.rules.specs.Gate as rulesGate

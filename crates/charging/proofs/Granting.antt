@@ -1,4 +1,4 @@
--- The group that grants stands at its place, is not full, and names no counter twice: where the answer permits, the tables can be charged.
+-- The group that grants is at its index, is not full, and names no counter twice: where the answer permits, the tables can be charged.
 use Prim.Native.Nat.{ℕ, zero, suc, _+_, _-_, _<_}
 use native.Mathlib.Omega.{arith}
 use mathlib.Core.Path.{_≡_, refl, sym, _∙_, ap}
@@ -33,7 +33,7 @@ first-apart (suc k) [] f = λ i j m n l d e. absurd (never (cc))
 first-apart zero (g ∷ gs) f = f .0 .apart
 first-apart (suc k) (g ∷ gs) f = first-apart k gs (f .1)
 
--- the lowest group stands at its place, counted from `place`, and passes
+-- the lowest group is at its index, counted from `place`, and passes
 lowest-at : (test : ℕ → Group → Bool) (place : ℕ) (gs : List Group) (k : ℕ) (g : Group) → lowest test place gs ≡ group k g
     → (i : ℕ) × (k ≡ place + i) × (firstLimits (drop i gs) ≡ g .limits) × (test k g ≡ true)
 unfolding lowest
@@ -78,7 +78,7 @@ module _ (l : Ledger) (km0 : Bytes) (gs : List Group) (q : Request) where
       pick (granted p g) d = let c : Granted k ≡ Granted p = e ∙ ap judgedFor d in let n : p ≡ k = cc in (g, ap (λ (z : ℕ). granted z g) n)
       pick (denied x) d = let c : Granted k ≡ Denied (denialFor x) = e ∙ ap judgedFor d in absurd (never (cc))
 
-  -- the group that grants has the limits that stand at its place
+  -- the group that grants has the limits that follow its record
   pub granted-limits : (k : ℕ) → Granted k ≡ judgedFor (judge l km0 gs q) → (g : Group) × (judge l km0 gs q ≡ granted k g) × (firstLimits (drop k gs) ≡ g .limits) × (grants l km0 q k g ≡ true)
   granted-limits k e =
       let j = granted-as k e in
@@ -105,7 +105,7 @@ module _ (l : Ledger) (km0 : Bytes) (gs : List Group) (q : Request) where
         record { room = rw (m ∙ r .2) (limits-room (l .counters) own (q .time - l .loaded) (g .limits) x); apart = rw m (first-apart k gs f) },
       )
 
--- .. on an ACL without fault
+-- the same on an ACL without fault
 pub grant-able : (l : Ledger) (km0 acl : Bytes) (q : Request) (k : ℕ) (ms : List Limit) → aclFault (records acl) ≡ none → Granted k ≡ judgedFor (judge l km0 (aclOf acl) q)
     → ms ≡ firstLimits (drop k (aclOf acl)) → (getD (l .counts) k 0 < fullCount) × Chargeable (l .counters) ms
 grant-able l km0 acl q k ms f = charge-able l km0 (aclOf acl) q k ms (acl-fits acl f .each)

@@ -1,4 +1,4 @@
--- What a charge does to the tables where they stand, limit by limit.
+-- What a charge in place does to the tables, limit by limit.
 use Prim.Native.Nat.{ℕ, zero, suc, _+_, _-_, _≤_, _<_}
 use native.Mathlib.Omega.{arith}
 use mathlib.Core.Path.{_≡_, refl, sym, _∙_, ap}
@@ -46,11 +46,11 @@ module _ (table : List ℕ) (sort counter : ℕ) where
 pub room-left : (table : List ℕ) (sort counter : ℕ) → counterNotFull table sort counter ≡ true → sort ≡ 2 → getD table counter 0 < fullCount
 room-left table sort counter h e = ltb-true (getD table counter 0) fullCount (rw (eq-eqb sort 2 e) at h)
 
--- the counters that limits name stand as they were before
+-- the counters that limits name are as they were before
 abbrev pub Kept : List ℕ → List ℕ → List Limit → Type 0
 Kept before table ms = (j : ℕ) (n : Limit) → getElem? ms j ≡ some n → n .sort ≡ 2 → getD table (n .counter) 0 ≡ getD before (n .counter) 0
 
--- Of limits that name no counter twice, the first raises its counter where it stands, and the counters of the others stand.
+-- Of limits that name no counter twice, the first raises its counter in place, and the counters of the others are unchanged.
 module _ (before table : List ℕ) (m : Limit) (ms : List Limit) (able : Chargeable before (m ∷ ms)) (kept : Kept before table (m ∷ ms)) where
   first-room : counterNotFull table (m .sort) (m .counter) ≡ true
   unfolding all limitNotFull

@@ -121,7 +121,7 @@ recovery-admits : (km0 : Bytes) (w : RecoveryBlob) (f : Option BlobFile) (a : Ac
 unfolding admits
 recovery-admits km0 w f a e = recovery-part w f a e
 
--- a use asks for a permission that there is
+-- a use asks for one of the permissions
 pub ready-permission : (r : Bytes) → requestLaidOut r ≡ true → getD r 0 0 ≡ 6 → getD r 4 0 < 16
 unfolding requestLaidOut useLaidOut
 ready-permission r d e =

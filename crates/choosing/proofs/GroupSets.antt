@@ -181,7 +181,7 @@ member-below (suc w) (suc m) n p h l = pick (two n) (member-below w m (n / 2))
     pick (inl e) f = let i = f (omega arith) (omega (arith, pow-suc 2 m)) (omega arith) in rw e (omega arith)
     pick (inr e) f = rw e (omega arith)
 
--- The group at a place that there is, and past the end.
+-- The group at an index of the list, and past the end.
 pub placed-there : (gs : List Group) (k : ℕ) → k < length gs → (g : Group) × (getElem? gs k ≡ some g) × (placed gs k ≡ group k g)
 placed-there [] k h = absurd (omega arith)
 placed-there (g ∷ gs) zero h = (g, refl, refl)

@@ -32,7 +32,7 @@ use Rattle.choosing.specs.Members.{leftAt, admitsAt, membersIn}
 pub lowest-below : (n : ℕ) → 0 < n → n < 2 ^ 64 → trailingZeros 64 n < 64
 lowest-below n p h = member-below 64 64 n p h (omega arith)
 
--- .. of a set of groups
+-- the lowest member of a set of groups is the index of a group
 pub lowest-group : (n k : ℕ) → 0 < n → n < 2 ^ groupsMax → k ≡ trailingZeros 64 n → k < groupsMax
 lowest-group n k p h e = rw e (member-below 64 groupsMax n p h (omega arith))
 
@@ -107,7 +107,7 @@ members-le test (suc w) n = pick (two n) (test 0) (members-le (λ k. test (suc k
     pick (inr e) true i = rw e (omega arith)
     pick (inr e) false i = rw e (omega arith)
 
--- Where keeping stands: those kept, with the members left that pass, are those of the set that pass.
+-- The state of the loop that keeps members: those kept, with the members left that pass, are those of the set that pass.
 pub record Keeping (test : ℕ → Bool) (set kept left : ℕ) : Type 0 where
   pub few : set < 2 ^ groupsMax
   pub whole : kept + membersIn test 64 left ≡ membersIn test 64 set
@@ -163,7 +163,7 @@ module _ (test : ℕ → Bool) (set kept left : ℕ) (keep : Keeping test set ke
 pub rest-less : (n : ℕ) → bitAnd n (n - 1) ≤ n
 rest-less n = and-le-l n (n - 1)
 
--- a place of the table stands in the file
+-- an offset of the table is within the file
 pub place-inside : (acl : Bytes) (bodies : List ℕ) (k : ℕ) → Inside acl bodies → getD bodies k 0 ≤ length acl
 unfolding Inside
 place-inside acl bodies k h = go bodies k h
@@ -179,7 +179,7 @@ pub left-lent : (counts counters : List ℕ) (elapsed : ℕ) (acl : Bytes) (bodi
 unfolding leftAt
 left-lent counts counters elapsed acl bodies k own at r a b e = e ∙ rw (lent-rest acl at, a, b)
 
--- .. whether it admits; nothing follows the request record
+-- whether a group admits; nothing follows the request record
 pub admits-lent : (km0 rec acl : Bytes) (bodies : List ℕ) (k at : ℕ) (r : Bool) → at ≡ getD bodies k 0
     → r ≡ any (admits km0 (wantedOf rec (blobFileNext (records [])))) (actionsOf (records (lentRest acl at))) → r ≡ admitsAt km0 (wantedOf rec none) acl bodies k
 unfolding admitsAt blobFileNext

@@ -146,7 +146,7 @@ unfolding OpenFrom Opened
 open-start counts counters since loaded last acl bodies c o c′ o′ s e p q counts′ counters′ elapsed h k t set =
     rw (q ∙ e, p) (first-open (leftAt counts′ counters′ elapsed acl bodies) (leftAt counts counters since acl bodies) 64 set c (stays-spent counts counts′ counters counters′ since elapsed acl bodies h k (omega arith)))
 
--- .. and when more was used
+-- the same when more was used
 pub open-on : (counts counts′ counters counters′ : List ℕ) (since since′ : ℕ) (acl : Bytes) (bodies : List ℕ) (c o : ℕ) → NoLess counts counts′ → NoLess counters counters′ → since ≤ since′
     → OpenFrom counts counters since acl bodies c o → OpenFrom counts′ counters′ since′ acl bodies c o
 unfolding OpenFrom
@@ -211,7 +211,7 @@ pub closes-start : (left : ℕ → Bool) (unspent : ℕ) → Closes left unspent
 unfolding Closes
 closes-start left unspent test f set = refl
 
--- .. by a result that says so
+-- the same by a result that says so
 pub closes-kept : (left : ℕ → Bool) (unspent n : ℕ) → n ≡ unspent → Closes left unspent n
 closes-kept left unspent n e = rw e (closes-start left unspent)
 
@@ -247,7 +247,7 @@ pub open-at : (counts counters : List ℕ) (loaded last time : ℕ) (acl : Bytes
 unfolding OpenAt OpenFrom
 open-at counts counters loaded last time acl bodies c o f l = f l counts counters (time - loaded) (no-less-same counts) (no-less-same counters) (omega arith)
 
--- .. as the code reads that time
+-- the same as the code reads that time
 pub open-timed : (counts counters : List ℕ) (loaded last time t : ℕ) (acl : Bytes) (bodies : List ℕ) (c o : ℕ) → OpenAt counts counters loaded last t acl bodies c o → time ≡ t → last ≤ time
     → Opened (leftAt counts counters (time - loaded) acl bodies) c o
 unfolding OpenAt

@@ -1,4 +1,4 @@
--- Parts that stand for bytes which may be missing, and what tests of the code's answers say.
+-- Optional bytes as parts, and what tests of the code's answers say.
 use Prim.Native.Nat.{ℕ}
 use native.Mathlib.Omega.{arith}
 use mathlib.Core.Path.{_≡_, refl, _∙_, ap}
@@ -17,12 +17,12 @@ use Rattle.facts.specs.Found.{orEmpty}
 use Rattle.facts.proofs.Laws.{first-sized}
 use Rattle.evidence.specs.Given.{given}
 
--- what a part of some bytes stands for
+-- the optional bytes of a part
 pub given-some : (bs : Bytes) → (length bs ≡ 0 → ⊥) → given bs ≡ some bs
 given-some [] n = absurd (n refl)
 given-some (x ∷ xs) n = refl
 
--- A record of a file has 64 bytes, so that a field that is there has twenty.
+-- A record of a file has 64 bytes, so that a field that is present has twenty.
 pub field-given : (n : ℕ) (s : Bytes) → given (orEmpty (field n (records s))) ≡ field n (records s)
 unfolding field
 field-given n s = pick (firstRecord (numbered 10 n) (records s)) refl
@@ -38,7 +38,7 @@ field-given n s = pick (firstRecord (numbered 10 n) (records s)) refl
 pub content-given : (n : ℕ) (s part : Bytes) → part ≡ orEmpty (field n (records s)) → given part ≡ field n (records s)
 content-given n s part e = ap given e ∙ field-given n s
 
--- whether a part is there
+-- whether a part is present
 pub there-is : (bs : Bytes) → not (eqb (length bs) 0) ≡ present (given bs)
 there-is [] = refl
 there-is (x ∷ xs) = rw (ne-eqb (length (x ∷ xs)) 0 (λ e. omega arith))
@@ -56,7 +56,7 @@ same-is a b o p r e f g = rw (← e, ← f) g
 pub present-is : (a : Bytes) (o : Option Bytes) (r : Bool) → given a ≡ o → r ≡ present (given a) → r ≡ present o
 present-is a o r e f = rw (← e) f
 
--- a part that is listed, if it is there
+-- a part that is listed, if it is present
 pub listed-is : (key : Bytes) (o : Option Bytes) (b : List Bytes) (r s : Bool) → given key ≡ o → r ≡ present (given key) → s ≡ listed key b → (not r || s) ≡ isListed o b
 listed-is [] o b r s e p q = rw (← e, p)
 listed-is (x ∷ xs) o b r s e p q = rw (← e, p, q)

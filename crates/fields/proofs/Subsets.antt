@@ -76,7 +76,7 @@ count-low (suc k) n =
     swap : (a b c : ℕ) → a + (b + c) ≡ b + (a + c)
     swap a b c = omega arith
 
--- .. as the machine counts them
+-- the same as the machine counts them
 no-ones : ones 0 ≡ 0
 unfolding ones
 no-ones = refl

@@ -1,4 +1,4 @@
--- Eight bytes at a time: a word's number is zero, or another's, exactly if its bytes are; the turns of the loops that go by words.
+-- Eight bytes at a time: a word's number is zero, or another's, exactly if its bytes are; the turns of the loops over words.
 use Prim.Native.Nat.{ℕ, _≤_, _<_, _-_, _+_, _*_, _/_, _%_, _^_}
 use native.Mathlib.Nat.{zero-add, mul-one, mul-assoc, add-mul, add-assoc, pow-suc}
 use native.Mathlib.Omega.{arith}
@@ -91,7 +91,7 @@ every-front : (P : ℕ → Type 0) (xs ys : Bytes) → Every P (xs ++ ys) → Ev
 every-front P [] ys h = (tt, h)
 every-front P (x ∷ xs) ys h = let i = every-front P xs ys (h .1) in ((h .0, i .0), i .1)
 
--- .. from its halves of k bytes, of which the order is known; w is the weight of the upper one
+-- a word from its halves of k bytes, of which the order is known; w is the weight of the upper one
 module _ (k w : ℕ) (p : w ≡ 256 ^ k) (swap : ℕ → ℕ) (known : (s : Bytes) (at n : ℕ) → at + k ≤ length s → LittleEndian (part at k s) n → swap n ≡ number at k s)
     (split : (lo hi : ℕ) → lo < w → ((lo + hi * w) % w ≡ lo) × ((lo + hi * w) / w ≡ hi)) where
   swap-halves : (s : Bytes) (at n : ℕ) → at + (k + k) ≤ length s → LittleEndian (part at (k + k) s) n → swap (n % w) * w + swap (n / w) ≡ number at (k + k) s

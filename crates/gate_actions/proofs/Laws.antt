@@ -1,4 +1,4 @@
--- What the tests of this crate come to in the definitions' terms.
+-- The tests of this crate in the definitions' terms.
 use Prim.Native.Nat.{ℕ, _+_, _-_, _/_, _^_, _≤_, _<_}
 use native.Mathlib.Omega.{arith}
 use native.Mathlib.Nat.{div-eq-of-lt}
@@ -178,7 +178,7 @@ pub acts-first : (p : Action → Bool) (s : Bytes) (at : ℕ) → NextAction s 0
 unfolding recordsFrom
 acts-first p s at e = ap (any p) (e .same)
 
--- .. for a use: what is passed over on the way to an action admits none, and neither does an action of another kind
+-- The loop for a use: a record that is no action admits none, and neither does an action of another kind.
 module _ (p : ℕ) (s : Bytes) (at : ℕ) (x : Bool) (inv : any (admitsUse p) (actionsOf (recordsFrom s at)) ≡ x) (t : Bool) (h : 64 ≤ length s - at) (n : getD s at 0 ≡ 1 → ⊥)
     (e : (file : Option FileRule) → t ≡ admitsUse p (actionOf (lentRecord s at) file)) where
   kind-is : kind (lentRecord s at) ≡ getD s at 0

@@ -1,4 +1,4 @@
--- What files without fault tell: the request has no fault and is short, the ACL has no fault, the hints are few.
+-- What follows from files without fault: the request has no fault and is short, the ACL has no fault, the hints are few.
 use Prim.Native.Nat.{ℕ, _*_, _%_, _≤_}
 use native.Mathlib.Omega.{arith}
 use mathlib.Core.Path.{_≡_, refl, sym, _∙_, ap}
@@ -55,13 +55,13 @@ fitting-request km0 acl req e =
     let a = leb-true (length req) (requestRecords * recordBytes) (and-right (eqb (length req % recordBytes) 0) (leb (length req) (requestRecords * recordBytes)) f) in
     omega arith
 
--- What a request's sound files tell: the request has no fault and is short, the ACL has no fault.
+-- What follows from a request's files without fault: the request has no fault and is short, the ACL has no fault.
 pub files-sound : (km0 acl req : Bytes) → requestFiles km0 acl req ≡ none → Sound req × (aclFault (records acl) ≡ none)
 files-sound km0 acl req e =
     let h = fault-none-every _ e in
     (sound-request requestLaidOut req (h .1 .1 .0) (fitting-request km0 acl req (unless-passed (lengthsFit km0 acl req) badLength (h .0))), h .1 .0)
 
--- What sound files tell: the request has no fault and is short, the ACL has no fault, the hints are few.
+-- What follows from a narrowing's files without fault: the request has no fault and is short, the ACL has no fault, the hints are few.
 pub narrow-sound : (km0 acl req new hints : Bytes) → narrowFiles km0 acl req new hints ≡ none → Sound req × (aclFault (records acl) ≡ none) × (length (hintsOf hints) ≤ groupsMax)
 narrow-sound km0 acl req new hints e =
     let h = fault-none-every _ e in

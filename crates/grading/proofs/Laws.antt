@@ -211,7 +211,7 @@ protection-most b (g ∷ gs) = pick (officersGroup b g) (protection-most b gs)
     pick true h = h
     pick false h = omega arith
 
--- The parts of an ACL, one after the other, come to what the desk's definitions say of the whole.
+-- The grades of the parts of an ACL, one after the other, make the grade that the desk's definitions give the whole.
 actions-are : (policy : Policy) (hkm hkre : Option Bytes) (list : List Action)
     → actionsGraded policy hkm hkre list ≡ record { failure = firstFault (map (failureUnder policy hkm hkre) list); protection = smallest list; recoverable = any isArchive list }
 unfolding actionsGraded allGraded gradedTogether actionGraded firstFault smallest any

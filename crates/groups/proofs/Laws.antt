@@ -28,7 +28,7 @@ or-not-right false b e = e
 over-no-group : (k : ℕ) → passedOver k ≡ true → k ≡ 1 → ⊥
 over-no-group k e d = false≢true (ap passedOver (sym d) ∙ e)
 
--- What stands at a place: the actions from there on, the groups, the next group or action, the next action.
+-- The record at an offset: the actions from there on, the groups, the next group or action, the next action.
 module _ (s : Bytes) (i : ℕ) (h : 64 ≤ length s - i) where
   pub acts-group : getD s i 0 ≡ 1 → actionsOf (recordsFrom s i) ≡ []
   unfolding actionsOf
@@ -183,7 +183,7 @@ module _ (s : Bytes) (at left : ℕ) (x : List Group) (inv : drop left (groupsOf
   from-next h e n =
       sym (ap (λ (z : List Bytes). drop left (groupsOf z)) (rows-at s at h) ∙ rw (kind-at s at, eq-eqb (getD s at 0) 1 e) (drop-more left _ _ n)) ∙ inv
 
--- .. and its place
+-- the offset of a group
 module _ (s : Bytes) (at left x : ℕ) (inv : groupPlace left (recordsFrom s at) at (length s) ≡ x) where
   pub place-skip : 64 ≤ length s - at → (getD s at 0 ≡ 1 → ⊥) → groupPlace left (recordsFrom s (at + 64)) (at + 64) (length s) ≡ x
   unfolding groupPlace
@@ -252,7 +252,7 @@ pub lent-action : (s : Bytes) (at : ℕ) → actionOf (lentRecord s at) (fileRul
 unfolding recordsFrom
 lent-action s at = rw (lent-record s at, rows-rest s (at + 64))
 
--- What stands at a place of a group: a limit, or the end of limits or actions.
+-- The record at an offset of a group: a limit, or the end of limits or actions.
 module _ (s : Bytes) (at : ℕ) where
   pub acts-end : length s - at < 64 → actionsOf (recordsFrom s at) ≡ []
   unfolding actionsOf

@@ -119,7 +119,7 @@ pub record Hinting (b : List Bytes) (acl : Bytes) (checked : Bool) (source i : �
   pub count : h .count ≡ length done
   pub rest : done ++ keptPlaces b checked (h .place) (recordsFrom acl i) ≡ total
 
--- .. with its bounds
+-- the same with its bounds
 abbrev pub Hinted : List Bytes → Bytes → Bool → ℕ → ℕ → List ℕ → Hint → Type 0
 Hinted b acl checked source i total h = (h .count ≤ h .place) × ((h .place ≤ actionsMax) × Hinting b acl checked source i total h)
 

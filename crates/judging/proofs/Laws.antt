@@ -1,4 +1,4 @@
--- The turns of the loops of this crate, and what its tests come to in the definitions' terms.
+-- The turns of the loops of this crate, and its tests in the definitions' terms.
 use Prim.Native.Nat.{ℕ, _+_, _-_, _≤_, _<_}
 use native.Mathlib.Numerals.{add-one}
 use native.Mathlib.Omega.{arith}
@@ -89,7 +89,7 @@ module _ (f : ℕ → Group → Standing) (s : Bytes) (at : ℕ) (near : Nearest
   unfolding judgedFrom groupsOf
   groups-done d h e = ap Denied e ∙ sym (ap (λ (l : List Bytes). judgedFrom f near place (groupsOf l)) (rows-end s at h)) ∙ inv
 
--- a group's standing, as the code asked for it
+-- the last test that a group passes, as the code asked for it
 pub standing-at : (counts counters : List ℕ) (own elapsed : ℕ) (km0 : Bytes) (q : Request) (place : ℕ) (s : Bytes) (at : ℕ) (t : Standing)
     → own ≡ getD counts place 0 → t ≡ recordStanding counters own elapsed km0 q (lentRecord s at) (records (lentRest s (at + 64)))
     → t ≡ standing counts counters elapsed km0 q place (groupOf (lentRecord s at) (recordsFrom s (at + 64)))
@@ -109,14 +109,14 @@ pub told-again : (q : Request) (old new : Bytes) (some held : Bool) → Remember
 told-again q old new some held m s r e y =
     m .told s ∙ ap (λ (x : Bytes). certified q (groupOf x [])) (sym (same-eq new old (sym e ∙ y)))
 
--- .. nothing is at first, ..
+-- At first nothing is remembered.
 pub told-none : (q : Request) (old : Bytes) (held : Bool) → Remembered q old false held
 told-none q old held = record { told = λ e. absurd (never e) }
   where
     never : false ≡ true → ⊥
     never e = let z : _≡_ {A = ℕ} 0 1 = cc in omega arith
 
--- .. and after a group more it is of that group, if it was looked at.
+-- After a group more what is remembered is of that group, if its certification was decided.
 remember : (q : Request) (s : Bytes) (at seen : ℕ) (some held a c u : Bool) → c ≡ certified q (groupOf (lentRecord s at) []) → Remembered q (lentRecord s seen) some held
     → Remembered q (lentRecord s (seenAfter (standingOf a c u) seen at)) (someAfter (standingOf a c u) some) (heldAfter (standingOf a c u) held)
 remember q s at seen some held false c u e m = m

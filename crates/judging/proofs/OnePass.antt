@@ -27,7 +27,7 @@ combined (near.Admitting k) notFound a = Denied (Uncertified k)
 combined (near.Admitting k) (group p g) a = Denied (Exhausted p)
 combined (near.Certified k) c a = Denied (Exhausted k)
 
--- .. unless one grants
+-- a denial, unless a group grants
 abbrev unless-granted : Judged → Lowest → Judged
 unless-granted d notFound = d
 unless-granted d (group p g) = Granted p
@@ -41,7 +41,7 @@ first-serves : (k : ℕ) (g : Group) (c a : Lowest) → combined (near.Admitting
 first-serves k g notFound a = refl
 first-serves k g (group p h) a = refl
 
--- a group's standing by three tests of it, and the three searches
+-- the last test that a group passes, by three tests of it, and the three searches
 module _ (admitting certifying : Group → Bool) (left : ℕ → Group → Bool) where
   abbrev by : ℕ → Group → Standing
   by place g = standingOf (admitting g) (certifying g) (left place g)
@@ -85,7 +85,7 @@ module _ (admitting certifying : Group → Bool) (left : ℕ → Group → Bool)
       pick true p true q false r (near.Certified k) f = rw (p, q, r) (f (near.Certified k))
       pick true p true q true r n f = rw (p, q, r)
 
--- .. of the ledger and the request
+-- one pass over the groups, for the ledger and the request
 module _ (l : Ledger) (km0 : Bytes) (q : Request) where
   pub judged-is : (gs : List Group) → judgedFrom (standing (l .counts) (l .counters) (q .time - l .loaded) km0 q) near.Nothing 0 gs
       ≡ judgedFor (orElse (lowest (grants l km0 q) 0 gs) granted (ungranted (lowest (λ place. admitsCertified km0 q) 0 gs) (lowest (λ place. groupAdmits km0 q) 0 gs)))

@@ -1,4 +1,4 @@
--- The loop over the permissions, and what the fates of an ACL's records come to.
+-- The loop over the permissions, and the fates of an ACL's records in the definitions' terms.
 use Prim.Native.Nat.{ℕ, zero, suc, _+_, _*_, _/_, _%_, _≤_, _<_, _^_}
 use native.Mathlib.Omega.{arith}
 use native.Mathlib.Numerals.{add-one}

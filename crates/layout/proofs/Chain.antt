@@ -1,4 +1,4 @@
--- Tests one after the other, each of which ends the chain where it fails: what a chain `a && b && ..` then comes to.
+-- Tests one after the other, each of which ends the chain where it fails, as one chain `a && b && ..`.
 use mathlib.Core.Path.{_≡_, sym, _∙_, ap}
 use mathlib.Core.Bool.{Bool, true, false, not, _&&_}
 use borrow.Author.Tests.{not-true, not-false}

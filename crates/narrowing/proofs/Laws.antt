@@ -1,4 +1,4 @@
--- What the tests of this crate come to in the definitions' terms, and the turns of its loops.
+-- The tests of this crate in the definitions' terms, and the turns of its loops.
 use Prim.Native.Nat.{ℕ, zero, suc, _+_, _-_, _≤_, _<_}
 use native.Mathlib.Omega.{arith}
 use native.Mathlib.Numerals.{add-one}
@@ -119,7 +119,7 @@ module _ (s : Bytes) (h left i : ℕ) (m : Sought s h left i) where
         inside = omega arith;
       }
 
--- .. compared with the action that a hint names
+-- a new action against the action that a hint names
 pub hint-nothing : (n : Action) (old : Bytes) (place : ℕ) → length old - place < 64 → (false ≡ noWiderThan n (actionIn old place)) × (false ≡ true → 64 ≤ length old - place)
 hint-nothing n old place h = (sym (ap (noWiderThan n) (in-none old place h)), λ e. absurd (false≢true e))
 

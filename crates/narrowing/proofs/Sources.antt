@@ -55,7 +55,7 @@ module _ (old : Bytes) (low from w place : ℕ) (inv : groupsOf (recordsFrom old
   unfolding recordsFrom
   left-next r d = d .same ∙ ap (drop 1) left-from ∙ drop-drop 1 w (groupsOf (records old))
 
--- a group stands no earlier than where it is looked for
+-- a group's offset is no earlier than where the search for it begins
 place-later : (g : ℕ) (rs : List Bytes) (at end : ℕ) → at + length rs * 64 ≤ end → at ≤ groupPlace g rs at end
 unfolding groupPlace
 place-later g [] at end h = omega arith
@@ -81,7 +81,7 @@ pub hints-start : (s : Bytes) → hintsFrom s 0 ≡ hintsOf s
 unfolding hintsFrom
 hints-start s = ap (map hintOf) (rows-start s)
 
--- from where the next new group stands the same is left
+-- from the offset of the next new group on the same groups follow
 pub groups-on : (olds : List Group) (new hints : Bytes) (low at r h : ℕ) (x : Bool) → GroupAt new at 0 r
     → narrowsFrom olds low (groupsOf (recordsFrom new at)) (hintsFrom hints h) ≡ x → narrowsFrom olds low (groupsOf (recordsFrom new r)) (hintsFrom hints h) ≡ x
 unfolding recordsFrom

@@ -1,4 +1,4 @@
--- The reading of refusals and denials loses nothing: the number, with the group where there is one, tells which it was, and which of the two.
+-- The reading of refusals and denials loses nothing: the number, with the group where there is one, says which it was, and which of the two.
 use Prim.Native.Nat.{ℕ}
 use mathlib.Core.Path.{_≡_, refl}
 use mathlib.Core.Option.{Option, none, some}
@@ -11,7 +11,7 @@ use Rattle.refusals.specs.declared.Denial.{Denial}
 use Rattle.refusals.specs.declared.Denial.the-variants.{Early, Unadmitted, Uncertified, Exhausted}
 use Rattle.refusals.specs.Refusals.{refusalNumber, denialNumber, denialGroup}
 
--- what each number stands for
+-- the refusal of each number
 abbrev pub refusalBack : ℕ → Refusal
 refusalBack n =
     if eqb n 1 then BadLength
@@ -25,7 +25,7 @@ refusalBack n =
     else if eqb n 13 then NoSlot
     else OtherForm
 
--- .. it is what was read
+-- the refusal of a refusal's number is that refusal
 pub refusal-back : (r : Refusal) → refusalBack (refusalNumber r) ≡ r
 refusal-back BadLength = refl
 refusal-back Malformed = refl
@@ -38,7 +38,7 @@ refusal-back OpenArchive = refl
 refusal-back NoSlot = refl
 refusal-back OtherForm = refl
 
--- .. with its group, of a denial
+-- the denial of each number, with its group
 abbrev pub denialBack : ℕ → Option ℕ → Denial
 denialBack n none = if eqb n 4 then Early else Unadmitted
 denialBack n (some place) = if eqb n 6 then Uncertified place else Exhausted place

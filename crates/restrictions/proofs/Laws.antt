@@ -1,4 +1,4 @@
--- What the tests of two records come to in the definitions' terms.
+-- The tests of two records in the definitions' terms.
 use Prim.Native.Nat.{ℕ, _+_, _-_}
 use mathlib.Core.Path.{_≡_, refl, sym, _∙_, ap}
 use mathlib.Core.Option.{Option}
@@ -36,7 +36,7 @@ action-5 : (r : Bytes) (file : Option FileRule) → (kind r ≡ 3 → ⊥) → (
 unfolding actionOf
 action-5 r file f g = rw (ne-eqb (kind r) 3 f, ne-eqb (kind r) 4 g)
 
--- .. against one of another kind
+-- an action against one of another kind
 module _ (n : Bytes) (nf : Option FileRule) (o : Bytes) (of : Option FileRule) where
   pub bits-against : kind n ≡ 3 → (kind o ≡ 3 → ⊥) → false ≡ noWider (actionOf n nf) (actionOf o of)
   unfolding noWider
@@ -68,11 +68,11 @@ module _ (n : Bytes) (nf : Option FileRule) (o : Bytes) (of : Option FileRule) w
     unfolding noWider
     archives-compared r t h k e d = rw (e, d) (sym (rw (action-5 n nf f g, action-5 o of h k)))
 
-  -- .. with what blobfile says of both
+  -- two actions with their blobfile records
   pub rules-compared : (r t : Bool) → ((f g : Option FileRule) → (r && fileNoWider f g) ≡ noWider (actionOf n f) (actionOf o g)) → t ≡ fileNoWider nf of → (r && t) ≡ noWider (actionOf n nf) (actionOf o of)
   rules-compared r t e d = ap (λ (b : Bool). r && b) d ∙ e nf of
 
-  -- .. and of its own
+  -- two OpPermissions actions, then two blob actions of one kind, with their blobfile records
   pub bits-compared : (x y : ℕ) (r : Bool) → kind n ≡ 3 → kind o ≡ 3 → x ≡ number 4 2 n → y ≡ number 4 2 o → r ≡ within 16 x y → r ≡ noWider (actionOf n nf) (actionOf o of)
   unfolding noWider
   bits-compared x y r e d p q f = f ∙ rw (p, q) (sym (rw (action-3 n nf e, action-3 o of d)))

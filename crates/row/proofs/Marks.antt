@@ -52,7 +52,7 @@ digit-one set b e = rw e (omega arith)
 pub digit-none : (set : ℕ) (b : Bool) → b ≡ false → set % 9223372036854775808 * 2 ≡ (digit b + 2 * set) % 18446744073709551616
 digit-none set b e = rw e (omega arith)
 
--- Where the search for a group's record, from a byte back to the first, stands.
+-- The state of the search for a group's record, from a byte back to the first.
 pub record Passing (acl : Bytes) (before end : ℕ) : Type 0 where
   pub low : end ≤ before
   pub inside : before ≤ length acl
@@ -106,7 +106,7 @@ set-take t (suc n) (x ∷ xs) =
     let g : all % 2 ^ suc n ≡ (setOf t xs % 2 ^ n) * 2 + digit (t x) = ap (λ (k : ℕ). all % 2 ^ k) (sym m) ∙ f in
     omega (arith, i, g)
 
--- Where the making of the set of certified groups stands: the groups whose records end after a byte are marked, and a group's record ends there, unless
+-- The state of the loop that makes the set of certified groups: the groups whose records end after a byte are marked, and a group's record ends there, unless
 -- all are marked.
 pub record Marked (row : List rules.Certificate) (acl : Bytes) (end set : ℕ) : Type 0 where
   pub inside : end ≤ length acl

@@ -38,7 +38,7 @@ good-record s r e =
     let w = fault-none-every _ e in
     (unless-passed (inPlace s r) malformed (w .0), unless-passed (hasRoom s r) tooMany (w .1 .0))
 
--- .. and reading goes on after it
+-- reading goes on after a record without fault
 first-record : (s : AclPlace) (r : Bytes) (rs : List Bytes) → Reads s (r ∷ rs) → (inPlace s r ≡ true) × (hasRoom s r ≡ true) × Reads (afterRecord s r) rs
 unfolding scan
 first-record s r rs e =
@@ -81,7 +81,7 @@ limit-record s r q e d =
     let c : not (among (limitKey r) (s .limits)) ≡ true = and-right (ltb 0 (s .groups) && eqb (s .actions) 0) _ b in
     (limit-fits r (and-left _ _ a), not-true _ c, ltb-true (length (s .limits)) limitsMax (rw q at d))
 
--- where reading stands after a limit
+-- the state after a limit
 after-limit : (s : AclPlace) (r : Bytes) → kind r ≡ 2 → (afterRecord s r .limits ≡ s .limits ++ (limitKey r ∷ [])) × (afterRecord s r .actions ≡ s .actions)
 unfolding afterRecord
 after-limit s r q = rw q (refl, refl)
@@ -195,7 +195,7 @@ limits-apart ms f h i j m n l d e s = pick (eqb (m .sort) 2) refl
         let y = b .unnamed (λ z. eqb-false (m .sort) 2 q (s ∙ z)) in
         absurd (differ (x ∙ sym y))
 
--- where reading stands after a group record
+-- the state after a group record
 after-group : (s : AclPlace) (r : Bytes) → eqb (kind r) 1 ≡ true → (afterRecord s r .groups ≡ s .groups + 1) × (afterRecord s r .limits ≡ []) × (afterRecord s r .actions ≡ 0)
 unfolding afterRecord
 after-group s r q = rw q (refl, refl, refl)

@@ -1,4 +1,4 @@
--- What it means to ask the gate with a row of decoded certificates: the file that the row stands for reads back as the row, and of its faults only the
+-- What it means to ask the gate with a row of decoded certificates: the file made of the row reads back as the row, and of its faults only the
 -- request record's own is left once the run as a whole is not refused.
 use Prim.Native.Nat.{ℕ, _+_, _*_, _≤_}
 use native.Mathlib.Omega.{arith}
@@ -76,7 +76,7 @@ row-fault r row d few m = pick (requestLaidOut r) refl (announcesFile r) refl
     pick true e true f = rw (e, f, no-file row .0)
     pick true e false f = rw (e, f, row-sound 0 row d (omega arith) m)
 
--- .. and it asks for what its records say
+-- the file asks for what its records say
 pub row-request : (r : Bytes) (row : List Certificate) → Every Decoded row → requestFrom (r ∷ map certificateBytes row) ≡ requestWith r row
 unfolding requestFrom
 row-request r row d = let b = row-back row d in rw (no-file row .1, b .0, b .1)

@@ -1,4 +1,4 @@
--- The cabinet's examples, as one table that antt computes: each row is the answer and the whole cabinet handed back. Two wrong products that it rules
+-- The cabinet's examples, as one table that antt computes: each row is the answer and the whole cabinet afterwards. Two wrong products that it rules
 -- out: a cabinet whose load changes another slot, and a cabinet that takes slot 8. Then runs in a slot, each a field, so that one that does not hold is
 -- named.
 use Prim.Native.Nat.{ℕ, _-_}
@@ -41,7 +41,7 @@ abbrev rows : List Row
 rows =
     -- a permit in slot 0 charges slot 0 and the shared counter
     record { computed = cabinetRequest used 0 (hash 0) (counting 3 2) (sign 5); answer = permit 0; after = cabinetOf (slot (2 ∷ []) 2 5 ∷ slot (2 ∷ 1 ∷ []) 3 3 ∷ []) (0 ∷ 0 ∷ 0 ∷ 2 ∷ []) }
-    -- .. in slot 1, too
+    -- the same in slot 1
     ∷ record { computed = cabinetRequest used 1 (hash 0) (counting 3 2) (sign 5); answer = permit 0; after = cabinetOf (slot (1 ∷ []) 2 4 ∷ slot (3 ∷ 1 ∷ []) 3 5 ∷ []) (0 ∷ 0 ∷ 0 ∷ 2 ∷ []) }
     -- what slot 0 spent is spent for a fresh slot
     ∷ record { computed = cabinetRequest used 7 (hash 0) (counting 3 1) (sign 5); answer = refuse 7 (some 0); after = used }
@@ -71,11 +71,11 @@ pub cabinet-examples-hold : map (λ r. r .computed) rows ≡ map (λ r. record {
 unfolding computing
 cabinet-examples-hold = refl
 
--- what a run in a slot comes to
+-- the outcome of a run in a slot
 abbrev hands : RunReply → Cabinet → Bytes → CabinetRan
 hands reply cabinet buffer = record { reply = reply; cabinet = cabinet; buffer = buffer }
 
--- of two Signs by counter 3 in slot 1, the first is permitted: the slot and the shared counter are charged for it, and slot 0 stands
+-- of two Signs by counter 3 in slot 1, the first is permitted: the slot and the shared counter are charged for it, and slot 0 is unchanged
 abbrev inSlot1 : CabinetRan
 inSlot1 = hands (ran 2) (cabinetOf (slot (1 ∷ []) 2 4 ∷ slot (3 ∷ 1 ∷ []) 3 5 ∷ []) (0 ∷ 0 ∷ 0 ∷ 2 ∷ [])) (answer 0 0 ++ answer 7 0 ++ (8 ∷ 8 ∷ []))
 

@@ -17,7 +17,7 @@ use Rattle.rules.specs.Subject.{SubjectReply, written, unwritten, subjec
 use Rattle.rules.proofs.Computing.{computing}
 use Rattle.rules.proofs.Samples.{rec, hash, openGroup, signGroup, limited, certifiedGroup, sign, decrypt, otherMechanism, certificate, delegation, signLink, decryptLink, counting, reducible, expandable, reduce, enlarge, hint, hintTo, bundle, uncertifiedBundle, blob, cardset, softcard, directBlob, certifiedBlobGroup, archive, storedArchive, onDevices, recovery, storedRecovery, keyless}
 
--- What an example states: the gate's answer with the whole ledger handed back, the desk's verdict, or the subject writer's reply with the whole
+-- What an example states: the gate's answer with the whole ledger afterwards, the desk's verdict, or the subject writer's reply with the whole
 -- buffer.
 pub data Stated : Type 0 where
   answered : Answer → Ledger → Stated
@@ -42,7 +42,7 @@ permits loaded time = answered (permit 0) (ledgerOf (1 ∷ []) [] loaded time)
 abbrev refuses : ℕ → ℕ → Stated
 refuses n loaded = answered (refuse n none) (ledgerOf [] [] loaded loaded)
 
--- .. and carries the group of a place: "Its other cases of 6 and 7 carry group 0."
+-- a refusal that carries a group: "Its other cases of 6 and 7 carry group 0."
 abbrev refusesNear : ℕ → ℕ → ℕ → Stated
 refusesNear n place loaded = answered (refuse n (some place)) (ledgerOf [] [] loaded loaded)
 
@@ -54,7 +54,7 @@ accepts protection recoverable = judged (accepted (approach2 (record { protectio
 abbrev fails : Step → Stated
 fails s = judged (failed s)
 
--- what is handed back of an outcome
+-- the answer and the ledger of an outcome
 abbrev handed : Outcome → Stated
 handed o = answered (o .answer) (o .ledger)
 

@@ -16,11 +16,11 @@ use Rattle.rules.proofs.Examples.{ledgerOf}
 abbrev asks : Bytes → Bytes → Outcome
 asks acl req = request freshLedger (hash 0) acl req
 
--- .. is refused, and the ledger stands
+-- the request is refused, and the ledger is unchanged
 abbrev refuses : ℕ → Outcome
 refuses n = refused freshLedger n
 
--- .. is permitted by group 0, which names no counter
+-- the request is permitted by group 0, which names no counter
 abbrev permits : Outcome
 permits = permitted 0 (ledgerOf (1 ∷ []) [] 0 5)
 

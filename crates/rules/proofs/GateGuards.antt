@@ -17,7 +17,7 @@ use Rattle.rules.proofs.Examples.{ledgerOf}
 abbrev asks : Bytes → Bytes → Outcome
 asks acl req = request (load freshLedger 0 .ledger) (hash 0) acl req
 
--- .. is refused, and the ledger stands
+-- the request is refused, and the ledger is unchanged
 abbrev refuses : ℕ → Outcome
 refuses n = refused (load freshLedger 0 .ledger) n
 

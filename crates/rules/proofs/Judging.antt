@@ -1,4 +1,4 @@
--- The judgement: what it grants is the lowest group that grants, in time; and what it comes to where no group grants.
+-- The judgement: what it grants is the lowest group that grants, in time; and its denials.
 use Prim.Native.Nat.{ℕ}
 use mathlib.Core.Path.{_≡_, refl}
 use mathlib.Core.List.{List}
@@ -16,7 +16,7 @@ abbrev pub ungranted : Lowest → Lowest → Judgement
 ungranted certifying admitting =
     orElse certifying (λ place g. denied (exhausted place g)) (orElse admitting (λ place g. denied (uncertified place g)) (denied unadmitted))
 
--- .. which is no grant
+-- a denial is no grant
 ungranted-not : (c a : Lowest) (k : ℕ) (g : Group) → ungranted c a ≡ granted k g → ⊥
 ungranted-not notFound notFound k g e = never (cc)
 ungranted-not notFound (group p h) k g e = never (cc)

@@ -52,7 +52,7 @@ run-long-row l km0 acl row requests buffer =
     first-as-whole (λ r. run l km0 acl r requests buffer) row
     (λ m n. rw (long-refused runRecords km0 acl row requests buffer n, long-refused runRecords km0 acl (take (certificatesMax + 1) row) requests buffer m))
 
--- .. on a prepared ACL
+-- the same on a prepared ACL
 pub prepared-run-long-row : (l : Ledger) (km0 acl : Bytes) (row : List Certificate) (f : Form) (requests buffer : Bytes)
     → preparedRun l km0 acl (take (certificatesMax + 1) row) f requests buffer ≡ preparedRun l km0 acl row f requests buffer
 unfolding preparedRun preparedFault firstFault

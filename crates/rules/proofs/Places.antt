@@ -1,5 +1,5 @@
--- Reading an ACL's records one after the other: what a record without fault says of the place at which it stands, and a record in its place, by whether
--- a record of kind 15 is due there.
+-- Reading an ACL's records one after the other: what a record without fault says of the reader's state, and a record in place, by whether
+-- a record of kind 15 must come next.
 use Prim.Native.Nat.{ℕ}
 use native.Mathlib.Omega.{arith}
 use mathlib.Core.Path.{_≡_, refl, sym, _∙_, ap}
@@ -16,7 +16,7 @@ use Rattle.rules.proofs.Laws.{and-left, and-right, and-both, not-both, 
 
 ruleset conj = (and-left, and-right, and-both)
 
--- where none is due
+-- no record of kind 15 must come next
 pub placed : (s : AclPlace) (r : Bytes) → s .fileDue ≡ false → inPlace s r ≡ true → placedByKind s r ≡ true
 unfolding inPlaceUnder
 placed s r d e = ap (λ (b : Bool). if b then fileRecord r else placedByKind s r) (sym d) ∙ e
@@ -28,7 +28,7 @@ file-due s r d e =
     let f : (eqb (kind r) 15 && fileLaidOut r) ≡ true = ap (λ (b : Bool). if b then fileRecord r else placedByKind s r) (sym d) ∙ e in
     (eqb-true (kind r) 15 (search conj), search conj)
 
--- a limit stands where none is due
+-- a limit comes where no record of kind 15 must
 pub limit-placed : (s : AclPlace) (r : Bytes) → kind r ≡ 2 → inPlace s r ≡ true → (limitLaidOut r && limitInPlace s (limitKey r)) ≡ true
 unfolding placedUnder
 limit-placed s r q e = pick (s .fileDue) refl
@@ -57,7 +57,7 @@ pub no-record-fault : (s : AclPlace) (r : Bytes) → inPlace s r ≡ true → ha
 unfolding recordFaultUnder firstFault
 no-record-fault s r e d k = rw (e, d, k)
 
--- a group or an action stands where none is due
+-- a group or an action comes where no record of kind 15 must
 pub not-due : (s : AclPlace) (r : Bytes) → eqb (kind r) 15 ≡ false → inPlace s r ≡ true → (s .fileDue ≡ false) × (placedByKind s r ≡ true)
 not-due s r n e = pick (s .fileDue) refl
   where
@@ -65,7 +65,7 @@ not-due s r n e = pick (s .fileDue) refl
     pick true d = let k = file-due s r d e .0 in absurd (not-both (eqb (kind r) 15) (eq-eqb (kind r) 15 k) n)
     pick false d = (d, placed s r d e)
 
--- kind 15 stands where one is due
+-- kind 15 comes where one must
 pub due-here : (s : AclPlace) (r : Bytes) → eqb (kind r) 15 ≡ true → inPlace s r ≡ true → (s .fileDue ≡ true) × (fileRecord r ≡ true)
 unfolding inPlaceUnder placedUnder actionLaidOut
 due-here s r n e = pick (s .fileDue) refl

@@ -24,7 +24,7 @@ formed acl row other requests buffer =
 abbrev mixedAcl : Bytes
 mixedAcl = signGroup ++ openGroup ++ blob 5 (hash 0) [] ++ archive
 
--- .. on a form, of the ACL of the form `mixed`
+-- a run on a given form, with that ACL
 abbrev given : Form → Stated
 given form =
     let o = preparedRun freshLedger (hash 0) mixedAcl [] form (sign 5) (replicate 8 8) in

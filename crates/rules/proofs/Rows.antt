@@ -1,4 +1,4 @@
--- Records of a file one after the other: what a loop over them goes by. `at` is the byte at which the next record begins.
+-- Records of a file one after the other: laws for loops over them. `at` is the byte at which the next record begins.
 use Prim.Native.Nat.{ℕ, zero, suc, _≤_, _<_, _+_, _-_, _*_, _/_}
 use native.Mathlib.Omega.{arith}
 use native.Mathlib.Nat.{add-sub-cancel-left, add-zero}
@@ -97,7 +97,7 @@ module _ {S F : Type 0} (fault : S → Bytes → Option F) (next : S → Bytes �
   unfolding scan
   scan-done f h e = e ∙ sym (ap (scan fault next end st) (rows-end s at h)) ∙ inv
 
--- .. that judges each record by itself
+-- the same for a reader that judges each record by itself
 module _ {F : Type 0} (fault : Bytes → Option F) (s : Bytes) (at : ℕ) (x : Option F) (inv : eachFault fault (recordsFrom s at) ≡ x) where
   each-step : 64 ≤ length s - at → orNext (fault (lentRecord s at)) (eachFault fault (recordsFrom s (at + 64))) ≡ x
   unfolding eachFault firstFault

@@ -15,7 +15,7 @@ use Rattle.rules.proofs.Samples.{repeated, timed, hash, openGroup, sign
 abbrev pub answer : ℕ → ℕ → Bytes
 answer n place = 0 ∷ 0 ∷ 0 ∷ n ∷ 0 ∷ 0 ∷ 0 ∷ place ∷ []
 
--- .. and of a number with no group
+-- the answer of a number with no group
 abbrev pub bare : ℕ → Bytes
 bare n = 0 ∷ 0 ∷ 0 ∷ n ∷ 255 ∷ 255 ∷ 255 ∷ 255 ∷ []
 

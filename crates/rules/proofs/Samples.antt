@@ -82,7 +82,7 @@ enlarge time = timed (6 ∷ 0 ∷ 0 ∷ 0 ∷ 12 ∷ []) time
 abbrev pub hint : ℕ → Bytes
 hint source = rec (13 ∷ 0 ∷ 0 ∷ 0 ∷ source ∷ [])
 
--- .. or another action of it
+-- a hint that names a source action other than 0
 abbrev pub hintTo : ℕ → ℕ → Bytes
 hintTo source action = rec (13 ∷ 0 ∷ 0 ∷ 0 ∷ source ∷ 0 ∷ 0 ∷ 0 ∷ action ∷ [])
 
@@ -131,7 +131,7 @@ certifiedBlobGroup = rec (1 ∷ 0 ∷ 0 ∷ 3 ∷ [] ++ hash 9 ++ (0 ∷ 1 ∷ [
 abbrev pub archive : Bytes
 archive = rec (5 ∷ 0 ∷ 0 ∷ 1 ∷ [] ++ hash 7 ++ (0 ∷ 2 ∷ []))
 
--- .. with blobfile; a record of kind 15 with this device mask; requests for a recovery blob, returned to the host or to be stored
+-- A MakeArchiveBlob action with blobfile; a record of kind 15 with this device mask; requests for a recovery blob, returned to the host or to be stored
 abbrev pub storedArchive : Bytes
 storedArchive = rec (5 ∷ 0 ∷ 0 ∷ 65 ∷ [] ++ hash 7 ++ (0 ∷ 2 ∷ []))
 

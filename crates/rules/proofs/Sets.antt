@@ -1,4 +1,4 @@
--- Sets as numbers: what a loop that makes one, or reads one, goes by.
+-- Sets as numbers: laws for loops that make a set or read one.
 use Prim.Native.Nat.{ℕ, suc, _+_, _*_, _/_, _%_, _^_, _<_}
 use native.Mathlib.Omega.{arith}
 use mathlib.Core.Path.{_≡_, refl}

@@ -80,7 +80,7 @@ otherRequest = take (9 * recordBytes) bundle ++ fact 10 (hash 9) ++ drop (10 * r
 abbrev otherModule : Bytes
 otherModule = take recordBytes bundle ++ fact 2 (hash 2) ++ drop (2 * recordBytes) (underPolicy 1 1)
 
--- what the tool comes to, and what request l states
+-- the tool's results, and what request l states
 abbrev computed : List Trial
 computed =
     trial bundle loose 386 130

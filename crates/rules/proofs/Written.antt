@@ -53,7 +53,7 @@ pub parameters-read : (p : Parameters) → parametersOf (parametersBytes p) ≡ 
 unfolding parametersBytes bigEndian
 parameters-read p = rw (bigEndian-number 1 (p .flags), bigEndian-number 3 (p .timeLimit))
 
--- A blob request's record, over what stands in the token's place.
+-- A blob request's record, over the bytes of its token.
 abbrev rest : ℕ → Bytes
 rest time = 0 ∷ 0 ∷ 0 ∷ 0 ∷ bigEndian 8 time
 

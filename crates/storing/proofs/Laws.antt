@@ -1,4 +1,4 @@
--- What the tests of this crate come to in the definitions' terms.
+-- The tests of this crate in the definitions' terms.
 use Prim.Native.Nat.{ℕ}
 use native.Mathlib.Omega.{arith}
 use mathlib.Core.Path.{_≡_, refl, sym, _∙_}
@@ -33,7 +33,7 @@ module _ (f g : Bytes) (u : Bool) (e : u ≡ flag 1 f) where
     pub template-same : (r : Bool) → not v ≡ false → r ≡ same (part 8 20 f) (part 8 20 g) → r ≡ admitsTemplate (fileRuleOf f .template) (blobFileOf g .template)
     template-same r m p = p ∙ sym (rw (sym e ∙ not-false u n, sym d ∙ not-false v m))
 
--- .. as parts, empty where they are not there
+-- blobfile of an action and of a request as parts, empty where they are absent
 pub file-none : (f g : Bytes) → length f ≡ 0 → eqb (length g) 0 ≡ admitsFile (fileIn f) (blobIn g)
 file-none [] [] h = refl
 file-none [] (b ∷ bs) h = ne-eqb (length (b ∷ bs)) 0 (λ x. omega arith)
@@ -75,7 +75,7 @@ module _ (n o : Bytes) (u : Bool) (e : u ≡ flag 1 o) where
     pub template-kept : (r : Bool) → not v ≡ false → r ≡ same (part 8 20 n) (part 8 20 o) → r ≡ kept (fileRuleOf n .template) (fileRuleOf o .template)
     template-kept r k p = p ∙ sym (rw (sym e ∙ not-false u h, sym d ∙ not-false v k))
 
--- .. as parts
+-- blobfile of two actions as parts
 pub files-none : (n o : Bytes) → length n ≡ 0 → eqb (length o) 0 ≡ fileNoWider (fileIn n) (fileIn o)
 files-none [] [] h = refl
 files-none [] (b ∷ bs) h = ne-eqb (length (b ∷ bs)) 0 (λ x. omega arith)

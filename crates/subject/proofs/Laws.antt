@@ -1,4 +1,4 @@
--- Bytes written over the front of a buffer piece by piece, and what the tests of the code come to.
+-- Bytes written over the front of a buffer piece by piece, and the tests of the code in the definitions' terms.
 use Prim.Native.Nat.{ℕ, zero, suc, _≤_, _<_, _+_, _-_, _%_}
 use Prim.Native.String.{String}
 use native.Mathlib.Omega.{arith}
@@ -42,7 +42,7 @@ over-then s t d e n k en h ek ee =
     let f : e ≡ t ++ drop (length t) (drop (length s) d) = ee ∙ ap (λ (l : Bytes). t ++ drop (length t) l) b in
     rw (a, b, z, append-nil, f) (sym (append-assoc s t (drop (length (s ++ t)) d) ∙ ap (λ (l : Bytes). s ++ (t ++ l)) (drop-both s t d)))
 
--- .. as code lends the part, `&mut x[n..]`: x is the buffer with the first piece, and e what is left in the part
+-- the same as code lends the part, `&mut x[n..]`: x is the buffer with the first piece, and e what is left in the part
 pub over-next : (s t d x e : Bytes) (n : ℕ) → x ≡ overwritten s d → n ≡ length s → length s ≤ length d → e ≡ overwritten t (take (length x - n) (drop n x))
     → take n x ++ (e ++ drop (length x - n) (drop n x)) ≡ overwritten (s ++ t) d
 over-next s t d x e n p en h q =
@@ -115,7 +115,7 @@ module _ (s d : Bytes) where
       ∙ over-piece (take i s) (take n (drop i s)) d i n l m
       ∙ ap (λ (z : Bytes). overwritten z d) (sym (take-add i n s))
 
-  -- .. and the last bytes, `&s[k..n]`, where the first i are there, some of the last among them
+  -- the last bytes, `&s[k..n]`, where the first i are written, some of the last among them
   pub copied-last : (x e : Bytes) (i k n : ℕ) → k ≤ i → i ≤ n → n ≡ length s → length s ≤ length d → x ≡ copied s d i
       → e ≡ overwritten (take (n - k) (drop k s)) (take (n - k) (drop k x))
       → take k x ++ (e ++ drop (n - k) (drop k x)) ≡ overwritten s d
@@ -144,7 +144,7 @@ module _ (s d : Bytes) where
 pub room-at : (f : Header → String) (n m : ℕ) (h k : Header) → m ≤ length (ascii (f k)) → length (ascii (f h)) ≤ n → h ≡ k → m ≤ n
 room-at f n m h k r e q = le-trans r (subst (λ (x : Header). length (ascii (f x)) ≤ n) q e)
 
--- .. by the certificate
+-- the same for the header of a certificate
 pub room-under : (s : declared.Suite) (n c k : ℕ) → length (headerOf c s) ≤ n → c ≡ k → length (headerOf k s) ≤ n
 room-under s n c k e q = subst (λ (x : ℕ). length (headerOf x s) ≤ n) q e
 

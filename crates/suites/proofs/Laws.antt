@@ -30,7 +30,7 @@ pub suite-found : (n : ℕ) (a : SuiteAnswer) → a ≡ calledFor n → suiteIn 
 unfolding calledFor
 suite-found n a e = ap suiteIn e ∙ in-calls (rules.suite n)
 
--- .. and the lengths that it gives
+-- the lengths that a suite gives
 pub suite-measured : (n : ℕ) (a : SuiteAnswer) → a ≡ calledFor n → Measured a
 unfolding calledFor
 suite-measured n a e = rw e (measured-calls (rules.suite n))

@@ -7,13 +7,13 @@ use Rattle.trimming.specs.declared.TrimReply.{TrimReply}
 use Rattle.trimming.specs.declared.TrimReply.the-variants.{Trimmed, Failed, Refused}
 use Rattle.trimming.specs.Trimming.{trimReplyAs}
 
--- what each answer stands for
+-- the reply of each answer
 abbrev replyBack : rules.TrimReply → TrimReply
 replyBack (rules.trimmed m n) = Trimmed m n
 replyBack (rules.untrimmed s) = Failed (stepBack s)
 replyBack (rules.unread n) = Refused (refusalBack n)
 
--- .. it is what was read
+-- the reply of a reply's answer is that reply
 reply-back : (r : TrimReply) → replyBack (trimReplyAs r) ≡ r
 reply-back (Trimmed m n) = refl
 reply-back (Failed s) = ap Failed (step-back s)

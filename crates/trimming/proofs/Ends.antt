@@ -41,7 +41,7 @@ pub acl-read : (bundle acl : Bytes) → deskFault bundle acl ≡ none → aclFau
 unfolding deskFault
 acl-read bundle acl e = fault-none-every _ e .1 .1 .0
 
--- .. and the hints have the length that was counted
+-- the hints have the length that was counted
 pub room-hints : (bundle acl : Bytes) → deskFault bundle acl ≡ none → (m most : ℕ) → m ≡ length (hintsFrom (records bundle) 0 (records acl)) * recordBytes → m ≤ most → length (trimHints (records bundle) acl) ≤ most
 room-hints bundle acl read m most e l = let d = hints-length (records bundle) acl (acl-read bundle acl read) in omega arith
 
