@@ -104,8 +104,19 @@ kept = rec (1 ∷ 0 ∷ 0 ∷ 3 ∷ [] ++ hash 9 ++ (0 ∷ 1 ∷ [])) ++ blob 28
 pub reached-witness : BlobPermitted bundle kept (hash 6) (loadedAt freshLedger 7) 9 3 (certificatesFor (aclOf kept))
 unfolding certificatesFor computing
 reached-witness =
-    grade-reached-exhibited bundle kept (record { protection = 3; recoverable = false }) refl (omega arith) (refl, tt) ((refl, tt), tt) ((refl, tt), tt)
-    (λ e. false≢true (ap (λ (h : Option Bytes). bothSame h (some nullKey)) e)) (hash 6) refl ((inr refl, tt), tt) freshLedger 7 9 (omega arith) (omega arith) .0
+    grade-reached-exhibited bundle kept (record { protection = 3; recoverable = false }) (hash 6) freshLedger 7 9
+    (record {
+      unlimited = (refl, tt);
+      accepts = refl;
+      graded = omega arith;
+      unmixed = ((refl, tt), tt);
+      returned = ((refl, tt), tt);
+      notNull = λ e. false≢true (ap (λ (h : Option Bytes). bothSame h (some nullKey)) e);
+      home = ((inr refl, tt), tt);
+      km0Sized = refl;
+      afterLoad = omega arith;
+      few = omega arith;
+    }) .0
 
 -- .. and the same computed: the certificates that are built, the request's bytes, the gate's answer to them, and the blob's protection.
 abbrev pub keptBlob : WorkingBlob
@@ -125,8 +136,19 @@ reached-computed = (refl, refl, refl, refl)
 pub reached-direct : BlobPermitted bundle (openGroup ++ blob 7 (hash 0) []) (hash 0) (loadedAt freshLedger 7) 9 1 []
 unfolding certificatesFor computing
 reached-direct =
-    grade-reached-exhibited bundle (openGroup ++ blob 7 (hash 0) []) (record { protection = 1; recoverable = false }) refl (omega arith) (refl, tt) ((refl, tt), tt) ((refl, tt), tt)
-    (λ e. false≢true (ap (λ (h : Option Bytes). bothSame h (some nullKey)) e)) (hash 0) refl ((inl refl, tt), tt) freshLedger 7 9 (omega arith) (omega arith) .0
+    grade-reached-exhibited bundle (openGroup ++ blob 7 (hash 0) []) (record { protection = 1; recoverable = false }) (hash 0) freshLedger 7 9
+    (record {
+      unlimited = (refl, tt);
+      accepts = refl;
+      graded = omega arith;
+      unmixed = ((refl, tt), tt);
+      returned = ((refl, tt), tt);
+      notNull = λ e. false≢true (ap (λ (h : Option Bytes). bothSame h (some nullKey)) e);
+      home = ((inl refl, tt), tt);
+      km0Sized = refl;
+      afterLoad = omega arith;
+      few = omega arith;
+    }) .0
 
 abbrev pub soft : Bytes
 soft = openGroup ++ blob 30 (hash 20) cardset ++ blob 30 (hash 21) softcard
@@ -134,8 +156,19 @@ soft = openGroup ++ blob 30 (hash 20) cardset ++ blob 30 (hash 21) softcard
 pub reached-softcard : BlobPermitted bundle soft (hash 0) (loadedAt freshLedger 7) 9 2 []
 unfolding certificatesFor computing
 reached-softcard =
-    grade-reached-exhibited bundle soft (record { protection = 2; recoverable = false }) refl (omega arith) (refl, tt) ((refl, (refl, tt)), tt) ((refl, (refl, tt)), tt)
-    (λ e. false≢true (ap (λ (h : Option Bytes). bothSame h (some nullKey)) e)) (hash 0) refl ((inl refl, (inl refl, tt)), tt) freshLedger 7 9 (omega arith) (omega arith) .0
+    grade-reached-exhibited bundle soft (record { protection = 2; recoverable = false }) (hash 0) freshLedger 7 9
+    (record {
+      unlimited = (refl, tt);
+      accepts = refl;
+      graded = omega arith;
+      unmixed = ((refl, (refl, tt)), tt);
+      returned = ((refl, (refl, tt)), tt);
+      notNull = λ e. false≢true (ap (λ (h : Option Bytes). bothSame h (some nullKey)) e);
+      home = ((inl refl, (inl refl, tt)), tt);
+      km0Sized = refl;
+      afterLoad = omega arith;
+      few = omega arith;
+    }) .0
 
 -- Request m does as well. Three uses per load, of Sign or ReduceACL; a use, a narrowing to the same limit, a use: the fourth is refused, for the narrowing
 -- gave none back. A reload does. Each permit is put down to group 0 of the first ACL, by an account that is charged for it alone.
