@@ -10,7 +10,7 @@ use lib.ListN.{length, take, drop}
 use lib.Dec.{eqb, ltb}
 use borrow.Author.Tests.{eqb-true, eq-eqb, ltb-true, lt-ltb, not-true}
 use Rattle.rules.specs.Sizes.{groupsMax, actionsMax}
-use Rattle.rules.specs.Basics.{if_then_else_, Bytes, implies, Every, number, kind, flag, unless, firstFault, scan}
+use Rattle.rules.specs.Basics.{if_then_else_, Bytes, implies, Every, number, kind, flag, unless, scan}
 use Rattle.rules.specs.Numbers.{malformed}
 use Rattle.rules.specs.Layout.{groupLaidOut, limitLaidOut}
 use Rattle.rules.specs.Acl.{FileRule, actionOf, fileRuleNext, announcesFile, limitsOf, actionsOf, groupOf, groupsOf, AclPlace, aclStart, limitKey, among, limitInPlace, actionLaidOut, fileRecord, placedUnder, placedByKind, inPlaceUnder, inPlace, hasRoomUnder, keyed, afterRecord, aclRecordFault, aclEnd, aclFaultUnder, aclFault}
