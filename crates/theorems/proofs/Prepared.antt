@@ -16,7 +16,7 @@ use Rattle.rules.specs.Ledger.{Ledger}
 use Rattle.rules.specs.Grant.{admitsUse}
 use Rattle.rules.specs.Runs.{askGate, askedInOrder, requestsIn, runFault, ran, run}
 use Rattle.rules.specs.Desk.{isArchive}
-use Rattle.rules.specs.Prepared.{isBlobAction, Form, useSets, formOf, Preparation, prepared, preparationUnless, prepare, preparedFault, preparedRun}
+use Rattle.rules.specs.Prepared.{isBlobAction, Form, useSets, formOf, prepared, preparationUnless, prepare, preparedFault, preparedRun}
 use Rattle.rules.proofs.Laws.{never, fault-none-every}
 use Rattle.rules.proofs.Sets.{set-bits}
 use Rattle.rules.proofs.GroupSets.{set-exact}

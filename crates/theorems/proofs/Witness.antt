@@ -13,22 +13,17 @@ use Rattle.rules.specs.Acl.{aclOf}
 use Rattle.rules.specs.Request.{WorkingBlob}
 use Rattle.rules.specs.Ledger.{freshLedger, loadedAt}
 use Rattle.rules.specs.Grant.{nullKey}
-use Rattle.rules.specs.Gate.{Answer, done, permit, refuse, request}
+use Rattle.rules.specs.Gate.{done, permit, refuse, request}
 use Rattle.rules.specs.Bundle.{policyOf}
 use Rattle.rules.specs.Desk.{Grade, approach2, accepted, classOf, policyAdmits, desk, blobProtection}
 use Rattle.rules.proofs.Computing.{computing}
 use Rattle.rules.proofs.Samples.{rec, timed, hash, openGroup, limited, sign, decrypt, certificate, signLink, decryptLink, reduce, enlarge, expandable, hint, hintTo, bundle, blob, cardset, softcard, archive, delegation, storedArchive, onDevices, recovery, storedRecovery}
-use Rattle.theorems.specs.Demands.{Call, requesting, loading, clearing, narrowing, expanding, State, outcome, after, byOfficer, officerSigned, wantedIn, Allowed, EveryPermit}
+use Rattle.theorems.specs.Demands.{Call, requesting, loading, clearing, narrowing, expanding, State, outcome, after, replies, byOfficer, officerSigned, wantedIn, Allowed, EveryPermit}
 use Rattle.theorems.specs.Account.{AllPutDown, isExpansion}
 use Rattle.theorems.specs.Exhibit.{certificatesFor, blobRequestFile, BlobPermitted}
 use Rattle.theorems.proofs.Demand3.{demand-3}
 use Rattle.theorems.proofs.Uses.{no-expansion}
 use Rattle.theorems.proofs.Cautious.{grade-reached-exhibited}
-
--- what the gate answers to each call of a sequence
-abbrev pub replies : State → List Call → List Answer
-replies s [] = []
-replies s (c ∷ cs) = outcome s c .answer ∷ replies (after s c) cs
 
 -- at most 6 uses per load; Sign and ReduceACL; a cardset of 1 of 2 under hkm; a recovery action, and one with blobfile; then Decrypt, by key 9 at
 -- mechanism 1

@@ -40,6 +40,11 @@ unfoldable pub cabinetAfterAll : Cabinet → List CabinetCall → Cabinet
 cabinetAfterAll c [] = c
 cabinetAfterAll c (x ∷ xs) = cabinetAfterAll (cabinetAfter c x) xs
 
+-- what the cabinet answers to each call of a sequence
+abbrev pub cabinetReplies : Cabinet → List CabinetCall → List Answer
+cabinetReplies c [] = []
+cabinetReplies c (x ∷ xs) = cabinetOutcome c x .answer ∷ cabinetReplies (cabinetAfter c x) xs
+
 -- the slot that a call is made to; "a clear takes no slot"
 abbrev pub slotIn : CabinetCall → Option ℕ
 slotIn (requestingAt slot km0 acl req) = some slot
