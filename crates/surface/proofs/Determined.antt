@@ -1,6 +1,7 @@
 -- The numbers of the C surface lose nothing. Structs that read the same are the same, so that a promise determines what the host gets; and outcomes,
 -- replies and verdicts with the same numbers are the same, so that the host can tell from the numbers what was answered.
-use Prim.Native.Nat.{ℕ}
+use Prim.Native.Nat.{ℕ, _≤_}
+use native.Mathlib.Omega.{arith}
 use mathlib.Core.Path.{_≡_, refl, sym, _∙_, ap}
 use mathlib.Core.Logic.{_≢_}
 use mathlib.Core.List.{List, [], _∷_}
@@ -8,13 +9,16 @@ use mathlib.Core.Option.{Option, none, some}
 use lib.ListN.{getD}
 use lib.Dec.{eqb}
 use borrow.Author.Tests.{ne-eqb}
-use Rattle.rules.specs.Basics.{if_then_else_}
+use Rattle.rules.specs.Basics.{if_then_else_, Bytes}
 use Rattle.rules.specs.Gate.{Answer, done, permit, refuse, Outcome}
 use Rattle.rules.specs.Desk.{Step, WV1, MSCV1, MSCV2, MSCV3, MSCV4, MSCV5, WBCV1, WBCV2, WBCV3, KGCV1, KGCV2, ACLV3, WB1, WB2, WB3, WB6, RB1, RB2, RB3, KV3, CSRL1}
 use Rattle.rules.specs.Subject.{SubjectReply, written, unwritten}
 use Rattle.rules.specs.Trim.{TrimReply, trimmed, untrimmed, unread}
 use Rattle.steps.specs.Steps.{stepNumber}
 use Rattle.desk.specs.Replies.{DeskReply, accepting, failing, refusing}
+use Rattle.listings.specs.Words.{listingOf}
+use Rattle.listings.specs.Listing.{ListingReading, acl, badLine, readListing, ListingReply, produced, refusedWith, refusedAt, roomFault, delivered, writeFault, writeListing, deliveredAs, readListingInto}
+use Rattle.listings.proofs.Reading.{first-bad-line}
 use Rattle.gate.proofs.Determined.{ledgerBack}
 use Rattle.rules.specs.Cabinet as cabinet
 use Rattle.cabinet.specs.declared.Cabinet.{Cabinet}
@@ -24,8 +28,9 @@ use Rattle.surface.specs.declared.HostOutcome.{HostOutcome}
 use Rattle.surface.specs.declared.HostCabinetOutcome.{HostCabinetOutcome}
 use Rattle.surface.specs.declared.HostVerdict.{HostVerdict}
 use Rattle.surface.specs.declared.HostWritten.{HostWritten}
+use Rattle.surface.specs.declared.HostListing.{HostListing}
 use Rattle.surface.specs.declared.HostTrimmed.{HostTrimmed}
-use Rattle.surface.specs.Surface.{ReplyInNumbers, hostReplyAs, noGroup64, hostReplyFor, OutcomeInNumbers, hostOutcomeAs, hostOutcomeFor, CabinetInNumbers, hostCabinetOutcomeAs, hostCabinetOutcomeFor, SubjectInNumbers, hostWrittenAs, hostWrittenFor, VerdictInNumbers, hostVerdictAs, hostVerdictFor, TrimInNumbers, hostTrimmedAs, hostTrimmedFor}
+use Rattle.surface.specs.Surface.{ReplyInNumbers, hostReplyAs, noGroup64, hostReplyFor, OutcomeInNumbers, hostOutcomeAs, hostOutcomeFor, CabinetInNumbers, hostCabinetOutcomeAs, hostCabinetOutcomeFor, SubjectInNumbers, hostWrittenAs, hostWrittenFor, VerdictInNumbers, hostVerdictAs, hostVerdictFor, ListingInNumbers, hostListingAs, hostListingFor, TrimInNumbers, hostTrimmedAs, hostTrimmedFor}
 
 -- The structs.
 pub reply-determined : (r s : HostReply) → hostReplyAs r ≡ hostReplyAs s → r ≡ s
@@ -53,6 +58,9 @@ judged-determined v w e =
 
 pub wrote-determined : (w v : HostWritten) → hostWrittenAs w ≡ hostWrittenAs v → w ≡ v
 wrote-determined w v e = ap (λ (n : SubjectInNumbers). record { answer = n .answer; number = n .number }) e
+
+pub listing-determined : (l m : HostListing) → hostListingAs l ≡ hostListingAs m → l ≡ m
+listing-determined l m e = ap (λ (n : ListingInNumbers). record { answer = n .answer; number = n .number; line = n .line }) e
 
 pub trimmed-determined : (t u : HostTrimmed) → hostTrimmedAs t ≡ hostTrimmedAs u → t ≡ u
 trimmed-determined t u e = ap (λ (n : TrimInNumbers). record { answer = n .answer; number = n .number; hints = n .hints }) e
@@ -151,6 +159,40 @@ verdict-back (refusing n) = refl
 
 pub verdict-judged : (r s : DeskReply) → hostVerdictFor r ≡ hostVerdictFor s → r ≡ s
 verdict-judged r s e = sym (verdict-back r) ∙ ap verdictBack e ∙ verdict-back s
+
+-- .. a listing's reply. Lines are numbered from 1, so that line 0 says that no line is named.
+abbrev pub NamesLine : ListingReply → Type 0
+NamesLine (produced n) = Unit {0}
+NamesLine (refusedWith f) = Unit {0}
+NamesLine (refusedAt f line) = 1 ≤ line
+
+abbrev listingBack : ListingInNumbers → ListingReply
+listingBack l = if eqb (l .answer) 1 then produced (l .number) else if eqb (l .line) 0 then refusedWith (l .number) else refusedAt (l .number) (l .line)
+
+listing-back : (r : ListingReply) → NamesLine r → listingBack (hostListingFor r) ≡ r
+listing-back (produced n) h = refl
+listing-back (refusedWith f) h = refl
+listing-back (refusedAt f line) h = rw (ne-eqb line 0 (λ e. omega arith))
+
+pub reply-listed : (r s : ListingReply) → NamesLine r → NamesLine s → hostListingFor r ≡ hostListingFor s → r ≡ s
+reply-listed r s h k e = sym (listing-back r h) ∙ ap listingBack e ∙ listing-back s k
+
+delivered-names-line : (result buffer : Bytes) (fault : Option ℕ) → NamesLine (delivered result buffer fault .reply)
+delivered-names-line result buffer none = tt
+delivered-names-line result buffer (some f) = tt
+
+-- the replies of both entry points are such
+pub write-names-line : (file buffer : Bytes) → NamesLine (writeListing file buffer .reply)
+unfolding writeListing
+write-names-line file buffer = delivered-names-line (listingOf file) buffer (writeFault file buffer)
+
+pub read-names-line : (text buffer : Bytes) → NamesLine (readListingInto text buffer .reply)
+unfolding readListingInto
+read-names-line text buffer = pick (readListing text) refl
+  where
+    pick : (r : ListingReading) → readListing text ≡ r → NamesLine (deliveredAs buffer r .reply)
+    pick (acl file) e = delivered-names-line file buffer (roomFault file buffer)
+    pick (badLine n) e = let c = first-bad-line text n e .count in omega arith
 
 -- .. a trimming's reply
 abbrev trimBack : TrimInNumbers → TrimReply

@@ -8,22 +8,17 @@ use lib.ListN.{set, replicate}
 use Rattle.rules.specs.Sizes.{groupsMax, slotsMax, countersMax}
 use mathlib.Core.Bool.{true, false}
 use Rattle.rules.specs.Basics.{Bytes, records}
-use Rattle.rules.specs.Gate.{Answer, done, permit, refuse}
+use Rattle.rules.specs.Gate.{done, permit, refuse}
 use Rattle.rules.specs.Desk.{approach2, accepted, desk}
 use Rattle.rules.specs.Basics.{Every}
 use Rattle.rules.specs.Cabinet.{Cabinet, freshSlot, freshCabinet}
 use Rattle.rules.proofs.Computing.{computing}
 use Rattle.rules.proofs.Samples.{rec, hash, openGroup, sign, certificate, delegation, reduce, enlarge, hint, bundle, blob, cardset, archive, counting, expandable}
 use Rattle.theorems.specs.Demands.{outcome, after, byOfficer, officerSigned}
-use Rattle.theorems.specs.Cabinets.{CabinetCall, requestingAt, loadingAt, clearingAll, narrowingAt, expandingAt, cabinetOutcome, cabinetAfter, gateCall, callsTo, turns, countersNamed, countersIn, readingsBefore, PermitAllowed}
+use Rattle.theorems.specs.Cabinets.{CabinetCall, requestingAt, loadingAt, clearingAll, narrowingAt, expandingAt, cabinetOutcome, cabinetReplies, gateCall, callsTo, turns, countersNamed, countersIn, readingsBefore, PermitAllowed}
 use Rattle.theorems.proofs.Witness.{tokenBlob, grade}
 use Rattle.theorems.proofs.Isolation.{isolation}
 use Rattle.theorems.proofs.SlotDemand3.{demand-3-slot}
-
--- what the cabinet answers to each call of a sequence
-abbrev pub cabinetReplies : Cabinet → List CabinetCall → List Answer
-cabinetReplies c [] = []
-cabinetReplies c (x ∷ xs) = cabinetOutcome c x .answer ∷ cabinetReplies (cabinetAfter c x) xs
 
 -- counter 3 at most 4; Sign and ReduceACL; a cardset of 1 of 2 under hkm; a recovery action
 abbrev pub shared : Bytes

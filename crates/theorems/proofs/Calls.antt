@@ -6,25 +6,27 @@ use native.Mathlib.Omega.{arith}
 use mathlib.Core.Path.{_≡_, refl}
 use mathlib.Core.List.{List}
 use mathlib.Core.Option.{Option, none, some}
-use mathlib.Core.Bool.{Bool, true, false}
+use mathlib.Core.Bool.{Bool, true, false, _&&_}
 use lib.ListN.{length, getElem?, replicate}
 use lib.Dec.{ltb}
 use borrow.Author.Tests.{ltb-false, ne-eqb}
-use Rattle.rules.specs.Sizes.{groupsMax, countersMax}
-use Rattle.rules.specs.Numbers.{notNarrower, outOfRange}
-use Rattle.rules.specs.Basics.{if_then_else_, Bytes, records}
-use Rattle.rules.specs.Acl.{Group, aclOf, aclFault}
+use Rattle.rules.specs.Sizes.{groupsMax, countersMax, aclRecords, hintRecords}
+use Rattle.rules.specs.Numbers.{badLength, notNarrower, outOfRange}
+use Rattle.rules.specs.Basics.{if_then_else_, Bytes, firstFault, records, fits, fileFault}
+use Rattle.rules.specs.Acl.{Group, aclOf, aclFault, aclFileFault}
 use Rattle.rules.specs.Request.{operation, reduceAcl, expandAcl, requestOf, hintsOf}
 use Rattle.rules.specs.Ledger.{Ledger, charge, loadedAt, cleared, recounted, carried}
 use Rattle.rules.specs.Narrow.{narrows}
-use Rattle.rules.specs.Gate.{Outcome, permit, numberOf, nearest, Judgement, granted, denied, judge, grants, refusedNear, refused, permitted, finished, outcomeUnless, settle, requestFiles, request, clear, narrowFiles, narrow, expandFiles, expand}
+use Rattle.rules.specs.Gate.{Outcome, permit, numberOf, nearest, Judgement, granted, denied, judge, grants, refusedNear, refused, permitted, finished, outcomeUnless, settle, lengthsFit, requestFiles, request, clear, narrowFiles, narrow, expandFiles, expand}
 use Rattle.theorems.specs.Demands.{Call, requesting, loading, clearing, narrowing, expanding, State, outcome, replacement, inForce, after, requestIn, wantedIn, clears}
 use Rattle.theorems.specs.Account.{requestAsked, km0Given}
-use Rattle.rules.proofs.Laws.{never, fault-none-every}
+use Rattle.rules.proofs.Laws.{never, and-left, and-right, and-both, unless-passed, fault-none-every}
 use Rattle.rules.proofs.Few.{narrow-few}
 use Rattle.theorems.specs.Safety.{KnownUse}
 use Rattle.theorems.proofs.RequestFile.{known-request, use-wanted}
 use Rattle.theorems.proofs.Permit.{granted-is, called}
+
+ruleset conj = (and-left, and-right, and-both)
 
 -- What a permitted call is, and what it leaves of the group counts after the charge: a use leaves them, a narrowing, which its hints show, carries
 -- them over, and an expansion zeroes them.
@@ -51,16 +53,22 @@ recounts shown recount l k m = if shown then permitted k (recounted m (recount (
 
 -- A call is judged, or a load, or a clear of a counter in the table or past it; with what it makes of a ledger.
 pub data Kind (acl : Bytes) : Call → (Ledger → Outcome) → Type 0 where
-  judged : {c : Call} (fault : Option ℕ) (shown : Bool) (recount : List ℕ → List ℕ) → ClearsNone c → (fault ≡ none → shown ≡ true → (counts : List ℕ) → Sound acl counts c (recount counts))
+  judged : {c : Call} (fault : Option ℕ) (shown : Bool) (recount : List ℕ → List ℕ) → ClearsNone c → (fault ≡ none → aclFileFault acl ≡ none) → (fault ≡ none → shown ≡ true → (counts : List ℕ) → Sound acl counts c (recount counts))
       → Kind acl c (λ l. called fault l (km0Given c) (aclOf acl) (requestAsked c) (recounts shown recount l))
   loaded : (time : ℕ) → Kind acl (loading time) (λ l. finished (loadedAt l time))
   within : (n : ℕ) → ltb n countersMax ≡ true → Kind acl (clearing n) (λ l. finished (cleared l n))
   past : (n : ℕ) → ClearsNone (clearing n) → Kind acl (clearing n) (λ l. refused l outOfRange)
 
+-- an ACL file whose length and records have no fault
+file-sound : (acl : Bytes) → fits aclRecords acl ≡ true → aclFault (records acl) ≡ none → aclFileFault acl ≡ none
+unfolding fileFault firstFault
+file-sound acl p q = rw (p, q)
+
 pub kind : (acl : Bytes) (c : Call) → Kind acl c (λ l. outcome (record { ledger = l; acl = acl }) c)
 unfolding outcome request clear narrow expand
 kind acl (requesting km0 req) =
     judged (requestFiles km0 acl req) true (λ counts. counts) (λ n h. refl)
+    (λ e. let n = fault-none-every _ e in let f = unless-passed (lengthsFit km0 acl req) badLength (n .0) in file-sound acl (search conj) (n .1 .0))
     (λ e t counts. let n = fault-none-every _ e in record { file = n .1 .0; asks = refl; wants = refl; known = known-request (records req) (n .1 .1 .0); way = uses km0 req })
 kind acl (loading time) = loaded time
 kind acl (clearing n) = pick (ltb n countersMax) refl
@@ -70,12 +78,20 @@ kind acl (clearing n) = pick (ltb n countersMax) refl
     pick false e = let b = ltb-false n countersMax e in rw e (past n (λ m h. ne-eqb n m (λ q. omega arith)))
 kind acl (narrowing km0 req new hints) =
     judged {c = narrowing km0 req new hints} (narrowFiles km0 acl req new hints) (narrows (aclOf acl) (aclOf new) (hintsOf hints)) (λ counts. carried counts (hintsOf hints)) (λ n h. refl)
+    (λ e.
+    let n = fault-none-every _ e in
+    let f = unless-passed (lengthsFit km0 acl req && fits aclRecords new && fits hintRecords hints) badLength (n .0) in
+    file-sound acl (search conj) (n .1 .0))
     (λ e t counts.
     let n = fault-none-every _ e in
     let u : requestOf req .wanted ≡ operation reduceAcl = use-wanted reduceAcl (records req) (n .1 .1 .0) in
     record { file = n .1 .0; asks = refl; wants = refl; known = rw u (omega arith); way = reduces km0 req new hints t (narrow-few km0 acl req new hints e) })
 kind acl (expanding km0 req new) =
     judged {c = expanding km0 req new} (expandFiles km0 acl req new) true (λ counts. replicate groupsMax 0) (λ n h. refl)
+    (λ e.
+    let n = fault-none-every _ e in
+    let f = unless-passed (lengthsFit km0 acl req && fits aclRecords new) badLength (n .0) in
+    file-sound acl (search conj) (n .1 .0))
     (λ e t counts.
     let n = fault-none-every _ e in
     let u : requestOf req .wanted ≡ operation expandAcl = use-wanted expandAcl (records req) (n .1 .1 .0) in
@@ -107,7 +123,7 @@ comes s c = pick c (λ l. outcome (record { ledger = l; acl = s .acl }) c) (kind
         permits k g _ z (record { there = r .0; granting = r .1; sound = h refl refl _ })
 
     pick : (c : Call) (f : Ledger → Outcome) → Kind (s .acl) c f → Comes s c (f (s .ledger))
-    pick c f (judged fault shown recount z h) = settled c fault shown recount z h _ refl
+    pick c f (judged fault shown recount z a h) = settled c fault shown recount z h _ refl
     pick c f (loaded time) = loads time
     pick c f (within n e) = zeroes n e
     pick c f (past n z) = refuses outOfRange none z

@@ -24,7 +24,7 @@ use Rattle.rules.specs.Written.{Octets, tokenBytes, blobRequestBytes, certifica
 use Rattle.rules.specs.Runs.{withRow, mechanismNamed, Decoded}
 use Rattle.rules.specs.Bundle.{field}
 use Rattle.rules.specs.Desk.{Grade, Acceptance, approach2, Verdict, accepted, WB1, WB2, WB6, moduleKey, blobFailure, failureUnder, officersGroup, groupFailure, actionProtection, smallest, keyProtection, gradeOf, desk, deskFault, verdictUnless, attested, actionFailure, blobProtection}
-use Rattle.theorems.specs.Exhibit.{IfBlob, EveryBlob, mixed, namedOr1, Presentable, servedBy, presentedTo, certificatesFor, blobRequestFile, BlobPermitted}
+use Rattle.theorems.specs.Exhibit.{IfBlob, EveryBlob, mixed, namedOr1, Presentable, servedBy, presentedTo, certificatesFor, blobRequestFile, GradePremises, AllPresented, BlobPermitted}
 use Rattle.rules.proofs.Laws.{never, and-left, and-right, and-both, or-cases, or-left, or-right, implied, not-both, every-at, every-map, every-zip, any-here, same-eq, eq-same, same-refl, bothSame-eq, bothSame-at, unless-passed, fault-none-every, fault-none-map}
 use Rattle.rules.proofs.Joined.{Whole}
 use Rattle.rules.proofs.Asking.{file-records, file-fits, row-fault, row-request}
@@ -387,25 +387,15 @@ choose b gs h =
       least = rw (r .2) at (s .3 ∙ k .4);
     }
 
--- Request n. Let the desk accept an ACL under approach 2 with protection 1, 2 or 3. The ACL is without limits, no action of it has AllowKmOnly
--- together with kthash or ktparams and none has blobfile, hkm is other than the null key, and every MakeBlob action has AllowNonKm0 or hkm is KM0.
--- Present at most 32 certificates by which every group is certified. Then just after a load some blob request of exactly that protection is
--- permitted.
-pub grade-reached : (bundle acl : Bytes) (verdict : Grade) → desk bundle acl ≡ accepted (approach2 verdict) → verdict .protection ≤ byCardset
-    → Every (λ g. g .limits ≡ []) (aclOf acl)
-    → EveryBlob (λ r f. mixed r ≡ false) (aclOf acl)
-    → EveryBlob (λ r f. f ≡ none) (aclOf acl)
-    → field 6 (records bundle) ≢ some nullKey
-    → (km0 : Bytes) → length km0 ≡ hashBytes
-    → EveryBlob (λ r f. (r .nonKm0 ≡ true) ⊎ (field 6 (records bundle) ≡ some km0)) (aclOf acl)
-    → (ledger : Ledger) (loaded time : ℕ) → loaded ≤ time
-    → (certificates : List Certificate) → Every Presentable certificates → length certificates ≤ certificatesMax
-    → Every (λ g. servedBy (g .certifier) (g .mechanism) certificates ≡ true) (aclOf acl)
+-- Request n: "Just after a load, with all certifiers presented at the mechanisms named, and at most 32 such certificates, some blob request of exactly that
+-- protection is permitted."
+pub grade-reached : (bundle acl : Bytes) (verdict : Grade) (km0 : Bytes) (ledger : Ledger) (loaded time : ℕ) (certificates : List Certificate)
+    → GradePremises bundle acl verdict km0 loaded time certificates → AllPresented acl certificates
     → BlobPermitted bundle acl km0 (loadedAt ledger loaded) time (verdict .protection) certificates
-grade-reached bundle acl verdict accepts graded unlimited plain returned real km0 sized home ledger loaded time late cs each few certifying =
-    let d = desk-accepts bundle acl verdict accepts in
+grade-reached bundle acl verdict km0 ledger loaded time cs given presented =
+    let d = desk-accepts bundle acl verdict (given .accepts) in
     let p : keyProtection (records bundle) (aclOf acl) ≡ verdict .protection = ap (λ (g : Grade). g .protection) (d .graded) in
-    chosen d p (choose (records bundle) (aclOf acl) (omega (arith, p, graded)))
+    chosen d p (choose (records bundle) (aclOf acl) (omega (arith, p, given .graded)))
   where
     chosen : DeskAccepts bundle acl verdict → keyProtection (records bundle) (aclOf acl) ≡ verdict .protection → Chosen (records bundle) (aclOf acl)
         → BlobPermitted bundle acl km0 (loadedAt ledger loaded) time (verdict .protection) cs
@@ -413,18 +403,18 @@ grade-reached bundle acl verdict accepts graded unlimited plain returned real km
         exhibited
         (reached (Octets acl) (records bundle) km0 (c .rule) (rule-read acl (c .at) (c .group) (c .place) (c .rule) (c .file) (d .sound) (c .groupThere) (c .ruleThere))
         (rule-passed (records bundle) (c .group) (c .place) (c .rule) (c .file) (every-at (λ x. groupFailure (records bundle) x ≡ none) (aclOf acl) (c .at) (c .group) (d .passed) (c .groupThere)) (c .checked) (c .ruleThere))
-        (blob-at (λ r f. mixed r ≡ false) (aclOf acl) (c .at) (c .group) (c .place) (c .rule) (c .file) plain (c .groupThere) (c .ruleThere))
-        real
-        (blob-at (λ r f. (r .nonKm0 ≡ true) ⊎ (field 6 (records bundle) ≡ some km0)) (aclOf acl) (c .at) (c .group) (c .place) (c .rule) (c .file) home (c .groupThere) (c .ruleThere)))
+        (blob-at (λ r f. mixed r ≡ false) (aclOf acl) (c .at) (c .group) (c .place) (c .rule) (c .file) (given .unmixed) (c .groupThere) (c .ruleThere))
+        (given .notNull)
+        (blob-at (λ r f. (r .nonKm0 ≡ true) ⊎ (field 6 (records bundle) ≡ some km0)) (aclOf acl) (c .at) (c .group) (c .place) (c .rule) (c .file) (given .home) (c .groupThere) (c .ruleThere)))
       where
         exhibited : Reached (Octets acl) (records bundle) km0 (c .rule) → BlobPermitted bundle acl km0 (loadedAt ledger loaded) time (verdict .protection) cs
         exhibited w = answered (permits-read acl km0 (blobRequestFile (w .blob) time cs) ledger loaded (asking (w .blob) time cs)
-            (files-none km0 acl (blobRequestFile (w .blob) time cs) sized (d .fitting) (d .sound) (blob-fits (w .blob) time cs (w .keyFits) (w .tokenFits) each few) (blob-sound (w .blob) time cs (w .keyFits) (w .tokenFits) each few))
-            (blob-reads (w .blob) time cs (w .keyFits) (w .tokenFits) each few) late (c .at) (c .group) (c .groupThere)
+            (files-none km0 acl (blobRequestFile (w .blob) time cs) (given .km0Sized) (d .fitting) (d .sound) (blob-fits (w .blob) time cs (w .keyFits) (w .tokenFits) (presented .each) (given .few)) (blob-sound (w .blob) time cs (w .keyFits) (w .tokenFits) (presented .each) (given .few)))
+            (blob-reads (w .blob) time cs (w .keyFits) (w .tokenFits) (presented .each) (given .few)) (given .afterLoad) (c .at) (c .group) (c .groupThere)
             (any-at (admits km0 (workingBlob (w .blob) none)) (c .group .actions) (c .place) (makeBlob (c .rule) (c .file)) (c .ruleThere)
-            (admits-blob km0 (w .blob) (c .rule) (c .file) (blob-at (λ r f. f ≡ none) (aclOf acl) (c .at) (c .group) (c .place) (c .rule) (c .file) returned (c .groupThere) (c .ruleThere)) (w .admitted)))
-            (served-certified (asking (w .blob) time cs) (c .group) (every-at (λ g. servedBy (g .certifier) (g .mechanism) cs ≡ true) (aclOf acl) (c .at) (c .group) certifying (c .groupThere)))
-            (every-at (λ g. g .limits ≡ []) (aclOf acl) (c .at) (c .group) unlimited (c .groupThere)))
+            (admits-blob km0 (w .blob) (c .rule) (c .file) (blob-at (λ r f. f ≡ none) (aclOf acl) (c .at) (c .group) (c .place) (c .rule) (c .file) (given .returned) (c .groupThere) (c .ruleThere)) (w .admitted)))
+            (served-certified (asking (w .blob) time cs) (c .group) (every-at (λ g. servedBy (g .certifier) (g .mechanism) cs ≡ true) (aclOf acl) (c .at) (c .group) (presented .serving) (c .groupThere)))
+            (every-at (λ g. g .limits ≡ []) (aclOf acl) (c .at) (c .group) (given .unlimited) (c .groupThere)))
           where
             answered : (k : ℕ) × (request (loadedAt ledger loaded) km0 acl (blobRequestFile (w .blob) time cs) .answer ≡ permit k) → BlobPermitted bundle acl km0 (loadedAt ledger loaded) time (verdict .protection) cs
             answered m =
@@ -432,7 +422,7 @@ grade-reached bundle acl verdict accepts graded unlimited plain returned real km
                   blob = w .blob;
                   place = m .0;
                   protects = w .exact ∙ unstored (c .rule) (c .file) ∙ c .least ∙ p;
-                  reads = blob-reads (w .blob) time cs (w .keyFits) (w .tokenFits) each few;
+                  reads = blob-reads (w .blob) time cs (w .keyFits) (w .tokenFits) (presented .each) (given .few);
                   permits = m .1;
                   isBytes = λ q t o. file-octets (blobRequestBytes (w .blob) time) cs (blob-octets (w .blob) time (w .keyBytes q) (w .tokenOf q) t) o;
                 }
@@ -522,24 +512,17 @@ named-small (some n) f = f n refl
 
 -- Request n, with the request exhibited whole: the certificates are built from the ACL's groups, one for each certifier and mechanism. Its bytes are
 -- below 256 if the ACL's are and the time has 64 bits.
-pub grade-reached-exhibited : (bundle acl : Bytes) (verdict : Grade) → desk bundle acl ≡ accepted (approach2 verdict) → verdict .protection ≤ byCardset
-    → Every (λ g. g .limits ≡ []) (aclOf acl)
-    → EveryBlob (λ r f. mixed r ≡ false) (aclOf acl)
-    → EveryBlob (λ r f. f ≡ none) (aclOf acl)
-    → field 6 (records bundle) ≢ some nullKey
-    → (km0 : Bytes) → length km0 ≡ hashBytes
-    → EveryBlob (λ r f. (r .nonKm0 ≡ true) ⊎ (field 6 (records bundle) ≡ some km0)) (aclOf acl)
-    → (ledger : Ledger) (loaded time : ℕ) → loaded ≤ time
-    → length (certificatesFor (aclOf acl)) ≤ certificatesMax
+pub grade-reached-exhibited : (bundle acl : Bytes) (verdict : Grade) (km0 : Bytes) (ledger : Ledger) (loaded time : ℕ)
+    → GradePremises bundle acl verdict km0 loaded time (certificatesFor (aclOf acl))
     → (p : BlobPermitted bundle acl km0 (loadedAt ledger loaded) time (verdict .protection) (certificatesFor (aclOf acl)))
     × (Octets acl → time < 256 ^ 8 → Octets (blobRequestFile (p .blob) time (certificatesFor (aclOf acl))))
-grade-reached-exhibited bundle acl verdict accepts graded unlimited plain returned real km0 sized home ledger loaded time late few =
-    whole (grade-reached bundle acl verdict accepts graded unlimited plain returned real km0 sized home ledger loaded time late (certificatesFor (aclOf acl)) each few (all-certified (aclOf acl)))
+grade-reached-exhibited bundle acl verdict km0 ledger loaded time given =
+    whole (grade-reached bundle acl verdict km0 ledger loaded time (certificatesFor (aclOf acl)) given (record { each = each; serving = all-certified (aclOf acl) }))
   where
     fitting : Every (CertifierFits (Octets acl)) (aclOf acl)
     fitting =
         every-map (GroupRead (Read acl)) (CertifierFits (Octets acl)) (aclOf acl) (certifier-fits acl)
-        (acl-read (Read acl) (records acl) (desk-accepts bundle acl verdict accepts .sound) (acl-records acl))
+        (acl-read (Read acl) (records acl) (desk-accepts bundle acl verdict (given .accepts) .sound) (acl-records acl))
 
     each : Every Presentable (certificatesFor (aclOf acl))
     each = built Presentable (aclOf acl) (every-map (CertifierFits (Octets acl)) _ (aclOf acl) (λ g f k e. (f .hashSize k e, named-not-zero (g .mechanism) (f .notZero))) fitting)

@@ -12,7 +12,7 @@ use lib.ListN.{length, getD, getElem?, set, replicate, length-replicate, List·g
 use lib.Seq.{getD-set-same, getD-set-other}
 use lib.Dec.{eqb, ltb}
 use borrow.Author.Tests.{eqb-true, eqb-false, ltb-true, ltb-false, lt-ltb}
-use Rattle.rules.specs.Sizes.{groupsMax, countersMax}
+use Rattle.rules.specs.Sizes.{today, groupsMax, countersMax}
 use Rattle.rules.specs.Basics.{if_then_else_, Bytes, records}
 use Rattle.rules.specs.Acl.{Group, aclOf, aclFault}
 use Rattle.rules.specs.Request.{requestOf, Hint, hintsOf}
@@ -138,7 +138,7 @@ narrow-charges l km0 acl req new hints place s e =
     let few = narrow-few km0 acl req new hints (r .1 .files) in
     let counts = charge l place g time .counts in
     let c : Carried l place g time (aclOf new) (hintsOf hints) (recounted (charge l place g time) (carried counts (hintsOf hints))) = record {
-      asCharged = charge-as l place g time s below fits (carried counts (hintsOf hints)) (carried-sized counts (hintsOf hints) few);
+      asCharged = charge-as l place g time s below fits (carried counts (hintsOf hints)) (carried-sized today counts (hintsOf hints) few);
       counts = λ i b. from-source g time (r .2) below fits i b;
       past = λ i b. carried-past counts (groupsMax - length (hintsOf hints)) (hintsOf hints) i (no-hint (r .2) i b);
     } in

@@ -1,24 +1,29 @@
 -- What hints that show a narrowing are: one for each new group, with sources that rise strictly; and an ACL narrows to itself. Two wrong products that
 -- this rules out: one that lets two new groups share one source, and one whose narrowing check always says 8.
-use Prim.Native.Nat.{ℕ, zero, suc, _+_, _-_, _<_}
+use Prim.Native.Nat.{ℕ, zero, suc, _+_, _-_, _≤_, _<_}
 use native.Mathlib.Omega.{arith}
 use native.Mathlib.Nat.{add-zero, zero-add, suc-add, add-suc}
-use mathlib.Core.Path.{_≡_, refl, ap}
-use mathlib.Core.List.{List, [], _∷_, _++_}
+use mathlib.Core.Path.{_≡_, refl, _∙_, ap, ap₂}
+use mathlib.Core.List.{List, [], _∷_, _++_, map}
 use mathlib.Core.Option.{Option, none, some}
-use mathlib.Core.Bool.{true, _&&_, _||_, false≢true}
+use mathlib.Core.Bool.{Bool, true, _&&_, _||_, false≢true}
 use lib.ListN.{length, getElem?, replicate}
 use lib.Dec.{eqb, leb, ltb}
 use borrow.Author.Tests.{eq-eqb, leb-true, le-leb, lt-ltb}
-use Rattle.rules.specs.Sizes.{actionsMax}
-use Rattle.rules.specs.Basics.{Bytes, implies, any, all, allZero, Every, bit, within}
-use Rattle.rules.specs.Acl.{Parameters, BlobRule, ArchiveRule, FileRule, Action, permissions, makeBlob, makeArchive, Limit, Group}
-use Rattle.rules.specs.Request.{Hint}
+use Rattle.rules.specs.Sizes.{actionsMax, hintRecords}
+use Rattle.rules.specs.Numbers.{badLength}
+use Rattle.rules.specs.Basics.{Bytes, implies, any, all, allZero, Every, bit, within, unless, firstFault, eachFault, fileFault}
+use Rattle.rules.specs.Acl.{Parameters, BlobRule, ArchiveRule, FileRule, Action, permissions, makeBlob, makeArchive, Limit, Group, aclOf, aclFileFault}
+use Rattle.rules.specs.Request.{Hint, hintOf, hintsOf, hintFault, hintsFault, hintsFileFault}
 use Rattle.rules.specs.Grant.{tighter}
 use Rattle.rules.specs.Narrow.{kept, keptNumber, keptParameters, blobNoWider, archiveNoWider, keptDevices, fileNoWider, noWider, noWiderThan, actionsNoWider, answers, isAnswered, groupNarrows, narrowsSource, narrowsFrom, narrows}
-use Rattle.rules.proofs.Laws.{and-left, and-right, and-both, or-right, implication, allBelow-all, same-refl, every-at, any-here}
-use Rattle.theorems.proofs.Lists.{every-all}
-use Rattle.theorems.specs.Narrowings.{Rising, places, ownActions, ownHints}
+use Rattle.rules.proofs.Laws.{and-left, and-right, and-both, or-right, implication, allBelow-all, same-refl, every-at, every-map, any-here, fault-none-every}
+use Rattle.rules.specs.Fits.{GroupFits}
+use Rattle.rules.proofs.AclSizes.{acl-fits}
+use Rattle.rules.proofs.Joined.{Whole, joined-records, joined-fits}
+use Rattle.rules.proofs.Written.{hint-whole, hint-read, hint-laid-out}
+use Rattle.theorems.proofs.Lists.{every-all, every-fault-none}
+use Rattle.theorems.specs.Narrowings.{Rising, places, ownHintRecords, ownHints}
 
 ruleset conj = (and-left, and-right, and-both)
 
@@ -149,24 +154,77 @@ limits-self ms =
     (every-index ms (λ m. isAnswered ms m ≡ true) ms
     (λ i m e. every-at (λ x. answers m x ≡ true → any (answers m) ms ≡ true) ms i m (any-here (answers m) ms) e (limit-self m)))
 
-group-self : (g : Group) → groupNarrows g (ownActions (g .actions)) g ≡ true
+-- the places of a group's own actions, as a hint has them
+abbrev padded : List Action → List ℕ
+padded xs = places 0 xs ++ replicate (actionsMax - length (places 0 xs)) 0
+
+group-self : (g : Group) → groupNarrows g (padded (g .actions)) g ≡ true
 group-self g =
     let a = kept-self (g .certifier) in
     let b = kept-number-self (g .mechanism) in
     let c = limits-self (g .limits) in
-    let d : actionsNoWider (g .actions) (ownActions (g .actions)) (g .actions) ≡ true =
-    own-actions (g .actions) 0 (actionsMax - length (g .actions)) (g .actions) (λ j x e. rw zero-add e) in
+    let d : actionsNoWider (g .actions) (padded (g .actions)) (g .actions) ≡ true =
+    own-actions (g .actions) 0 (actionsMax - length (places 0 (g .actions))) (g .actions) (λ j x e. rw zero-add e) in
     search conj
 
-own-from : (old : List Group) (place : ℕ) (gs : List Group) → StandsAt old place gs → narrowsFrom old place gs (ownHints place gs) ≡ true
-unfolding narrowsFrom ownHints
+places-length : {A : Type 0} (place : ℕ) (xs : List A) → length (places place xs) ≡ length xs
+unfolding places
+places-length place [] = refl
+places-length place (x ∷ xs) = ap suc (places-length (suc place) xs)
+
+own-length : (place : ℕ) (gs : List Group) → length (ownHintRecords place gs) ≡ length gs
+unfolding ownHintRecords
+own-length place [] = refl
+own-length place (g ∷ gs) = ap suc (own-length (suc place) gs)
+
+-- a group's actions are as many as a hint can name
+few-actions : (g : Group) → GroupFits g → length (places 0 (g .actions)) ≤ actionsMax
+few-actions g f = let a = f .actions in let b = places-length 0 (g .actions) in omega arith
+
+own-laid-out : (place : ℕ) (gs : List Group) → Every GroupFits gs → Every (λ h. Whole h × (hintFault h ≡ none)) (ownHintRecords place gs)
+unfolding ownHintRecords hintFault
+own-laid-out place [] f = tt
+own-laid-out place (g ∷ gs) f =
+    let few = few-actions g (f .0) in
+    let ps = places 0 (g .actions) in
+    ((hint-whole place ps few, rw (hint-laid-out place ps few)), own-laid-out (suc place) gs (f .1))
+
+-- what these records say
+unfoldable ownList : ℕ → List Group → List Hint
+ownList place [] = []
+ownList place (g ∷ gs) = record { source = place; actions = padded (g .actions) } ∷ ownList (suc place) gs
+
+own-read : (place : ℕ) (gs : List Group) → Every GroupFits gs → map hintOf (ownHintRecords place gs) ≡ ownList place gs
+unfolding ownHintRecords ownList
+own-read place [] f = refl
+own-read place (g ∷ gs) f = ap₂ _∷_ (hint-read place (places 0 (g .actions)) (few-actions g (f .0))) (own-read (suc place) gs (f .1))
+
+own-from : (old : List Group) (place : ℕ) (gs : List Group) → StandsAt old place gs → narrowsFrom old place gs (ownList place gs) ≡ true
+unfolding narrowsFrom ownList
 own-from old place [] f = refl
 own-from old place (g ∷ gs) f =
     let a = le-leb place place (omega arith) in
-    let b : narrowsSource g (ownActions (g .actions)) (getElem? old place) ≡ true = rw (stands-here old place g gs f) (group-self g) in
+    let b : narrowsSource g (padded (g .actions)) (getElem? old place) ≡ true = rw (stands-here old place g gs f) (group-self g) in
     let c = own-from old (suc place) gs (stands-next old place g gs f) in
     search conj
 
--- Every ACL narrows to itself, by the hints that name each group and action by its own place.
-pub narrows-itself : (gs : List Group) → narrows gs gs (ownHints 0 gs) ≡ true
-narrows-itself gs = own-from gs 0 gs (λ j g e. rw zero-add e)
+both-none : (t : Bool) (u : Option ℕ) → t ≡ true → u ≡ none → firstFault (unless t badLength ∷ u ∷ []) ≡ none
+unfolding firstFault
+both-none t u p q = rw (p, q)
+
+-- Every ACL narrows to itself, by the hints file that names each group and action by its own place.
+pub narrows-itself : (acl : Bytes) → aclFileFault acl ≡ none
+    → (hintsFileFault (ownHints (aclOf acl)) ≡ none) × (narrows (aclOf acl) (aclOf acl) (hintsOf (ownHints (aclOf acl))) ≡ true)
+unfolding fileFault hintsFault eachFault
+narrows-itself acl e =
+    let fits = acl-fits acl (fault-none-every _ e .1 .0) in
+    let good = own-laid-out 0 (aclOf acl) (fits .each) in
+    let whole = every-map (λ h. Whole h × (hintFault h ≡ none)) Whole (ownHintRecords 0 (aclOf acl)) (λ h k. k .0) good in
+    let read = joined-records (ownHintRecords 0 (aclOf acl)) whole in (
+      both-none _ _ (joined-fits hintRecords (ownHintRecords 0 (aclOf acl)) whole (omega (arith, fits .groups, own-length 0 (aclOf acl))))
+          (ap (λ (rs : List Bytes). firstFault (map hintFault rs)) read
+          ∙ every-fault-none hintFault (ownHintRecords 0 (aclOf acl)) (every-map (λ h. Whole h × (hintFault h ≡ none)) (λ h. hintFault h ≡ none) (ownHintRecords 0 (aclOf acl)) (λ h k. k .1) good)),
+      ap (λ (rs : List Bytes). narrows (aclOf acl) (aclOf acl) (map hintOf rs)) read
+          ∙ ap (narrows (aclOf acl) (aclOf acl)) (own-read 0 (aclOf acl) (fits .each))
+          ∙ own-from (aclOf acl) 0 (aclOf acl) (λ j g e. rw zero-add e),
+    )

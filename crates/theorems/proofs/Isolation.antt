@@ -11,11 +11,10 @@ use borrow.Author.Tests.{eqb-true, ltb-true, ltb-false}
 use Rattle.rules.specs.Sizes.{slotsMax}
 use Rattle.rules.specs.Numbers.{noSlot}
 use Rattle.rules.specs.Basics.{if_then_else_}
-use Rattle.rules.specs.Acl.{aclOf}
 use Rattle.rules.specs.Ledger.{Ledger}
 use Rattle.rules.specs.Gate.{Answer, refuse}
 use Rattle.rules.specs.Cabinet.{Slot, Cabinet, countsAndTimes, ledgerWith, slotAt, CabinetOutcome}
-use Rattle.theorems.specs.Cabinets.{CabinetCall, cabinetAfter, slotIn, lentIn, gateCall, gateOutcome, isSlot, callsTo, Turn, turn, turns, countersIn, readingsBefore}
+use Rattle.theorems.specs.Cabinets.{CabinetCall, cabinetAfter, slotIn, lentIn, gateCall, gateOutcome, isSlot, callsTo, Turn, turn, turns, countersLent, readingsBefore}
 use Rattle.rules.proofs.Laws.{never}
 use Rattle.theorems.proofs.Slots.{as-the-gate, no-such-slot, others-stand, slots-kept}
 use Rattle.theorems.proofs.NamedCounters.{only-named}
@@ -69,7 +68,7 @@ module _ (slot : ℕ) where
   -- two turns from the same counts and times, with the same call and the same readings
   same-turn : (s : Slot) (t u : Turn) → Taken slot s t → Taken slot s u → t .call ≡ u .call → readingsBefore t ≡ readingsBefore u → (t .answer ≡ u .answer) × (t .slot ≡ u .slot)
   same-turn s t u p q e r =
-      let f = subst (λ (y : CabinetCall). readingsBefore t ≡ map (λ n. getD (u .counters) n 0) (countersIn (aclOf (lentIn y)))) (sym e) r in
+      let f = subst (λ (y : CabinetCall). readingsBefore t ≡ map (λ n. getD (u .counters) n 0) (countersLent (lentIn y))) (sym e) r in
       let a = only-named s (t .counters) (u .counters) (lentIn (t .call)) (gateCall (t .call)) f in (
         p .answered
             ∙ ap (λ (x : Answer). if ltb slot slotsMax then x else refuse noSlot none) (a .answers)

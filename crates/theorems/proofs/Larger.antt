@@ -1,13 +1,13 @@
--- "Files accepted before must be read unchanged.": an ACL file that has no fault under some sizes of the tables has none under larger ones; so one that
+-- "Files accepted before must be read unchanged.", their acceptance: an ACL file that has no fault under some sizes of the tables has none under larger ones; so one that
 -- had none under document 01's sizes has none now. What a file says (aclOf) does not depend on the sizes. Two wrong products that this rules out: one
 -- whose longest ACL did not grow with its groups, and one that takes a counter's number for another's.
-use Prim.Native.Nat.{ℕ, _*_, _%_, _≤_}
+use Prim.Native.Nat.{ℕ, _*_, _/_, _%_, _≤_}
 use native.Mathlib.Omega.{arith}
-use mathlib.Core.Path.{_≡_, refl}
+use mathlib.Core.Path.{_≡_, refl, _∙_}
 use mathlib.Core.List.{List, [], _∷_}
 use mathlib.Core.Option.{Option, none}
 use mathlib.Core.Bool.{Bool, true, false, _&&_}
-use lib.ListN.{length}
+use lib.ListN.{length, length-map}
 use lib.Dec.{eqb, leb, ltb}
 use borrow.Author.Tests.{leb-true, le-leb, ltb-true, lt-ltb}
 use Rattle.rules.specs.Sizes.{recordBytes, Capacity, today, aclRecordsUnder}
@@ -15,11 +15,30 @@ use Rattle.rules.specs.Numbers.{badLength, malformed, tooMany, openArchive}
 use Rattle.rules.specs.Basics.{if_then_else_, Bytes, kind, byte, fits, unless, orNext, firstFault, scan, fileFault, records}
 use Rattle.rules.specs.Layout.{counterUnder, limitUnder}
 use Rattle.rules.specs.Acl.{AclPlace, aclStart, limitKey, limitInPlace, fileRecord, placedUnder, inPlaceUnder, hasRoomUnder, keyed, afterRecord, recordFaultUnder, aclEnd, aclFaultUnder, aclFileFaultUnder, aclFileFault}
-use Rattle.rules.specs.Request.{hintsFault, hintsFileFault}
-use Rattle.rules.proofs.Laws.{and-left, and-right, and-both, unless-passed, orNext-first, orNext-next, fault-none-every}
-use Rattle.theorems.specs.Capacity.{base}
+use Rattle.rules.specs.Request.{hintOf, hintsOf, hintsFault, hintsFileFault}
+use Rattle.rules.specs.Gate.{request, clear, narrow, expand}
+use Rattle.rules.proofs.Laws.{and-left, and-right, and-both, unless-passed, orNext-first, orNext-next, fault-none-every, chunks-length}
+use Rattle.theorems.specs.Capacity.{base, NoSmaller, outcomeUnder}
+use Rattle.theorems.specs.Demands.{Call, requesting, loading, clearing, narrowing, expanding, State, outcome}
 
 ruleset conj = (and-left, and-right, and-both)
+
+-- At today's sizes it is the gate.
+pub today-outcome : (s : State) (c : Call) → outcomeUnder today s c ≡ outcome s c
+unfolding outcomeUnder outcome request clear narrow expand
+today-outcome s (requesting km0 req) = refl
+today-outcome s (loading time) = refl
+today-outcome s (clearing counter) = refl
+today-outcome s (narrowing km0 req new hints) = refl
+today-outcome s (expanding km0 req new) = refl
+
+-- a hints file has no more hints than records
+pub hints-few : (n : ℕ) (hints : Bytes) → fits n hints ≡ true → length (hintsOf hints) ≤ n
+unfolding records fits
+hints-few n hints e =
+    let a = leb-true (length hints) (n * recordBytes) (and-right (eqb (length hints % recordBytes) 0) (leb (length hints) (n * recordBytes)) e) in
+    let b : length (hintsOf hints) ≡ length hints / 64 = length-map (records hints) hintOf ∙ chunks-length (length hints / 64) hints in
+    omega arith
 
 -- a list of tests, each passed
 passed : {F : Type 0} (b : Bool) (f : F) (t : Option F) → b ≡ true → t ≡ none → orNext (unless b f) t ≡ none
@@ -40,7 +59,7 @@ file-more m n f g file h k e =
     let t = fault-none-every (unless (fits m file) badLength ∷ f (records file) ∷ []) e in
     passed (fits n file) badLength _ (fits-more m n file h (unless-passed (fits m file) badLength (t .0))) (rw (k (t .1 .0)))
 
-module _ (small large : Capacity) (more-groups : small .groups ≤ large .groups) (more-counters : small .counters ≤ large .counters) where
+module _ (small large : Capacity) (more : NoSmaller small large) where
   ltb-more : (x m n : ℕ) → m ≤ n → ltb x m ≡ true → ltb x n ≡ true
   ltb-more x m n h e = let l = ltb-true x m e in lt-ltb x n (omega arith)
 
@@ -49,7 +68,7 @@ module _ (small large : Capacity) (more-groups : small .groups ≤ large .groups
   counter-more sort counter e = pick (eqb sort 2) refl
     where
       pick : (b : Bool) → eqb sort 2 ≡ b → counterUnder large sort counter ≡ true
-      pick true q = rw q (ltb-more counter (small .counters) (large .counters) more-counters (rw q at e))
+      pick true q = rw q (ltb-more counter (small .counters) (large .counters) (more .counters) (rw q at e))
       pick false q = rw q (rw q at e)
 
   limit-more : (r : Bytes) → limitUnder small r ≡ true → limitUnder large r ≡ true
@@ -82,10 +101,10 @@ module _ (small large : Capacity) (more-groups : small .groups ≤ large .groups
   room-more s r e = pick (eqb (kind r) 1) refl
     where
       pick : (a : Bool) → eqb (kind r) 1 ≡ a → hasRoomUnder large s r ≡ true
-      pick true x = rw x (ltb-more (s .groups) (small .groups) (large .groups) more-groups (rw x at e))
+      pick true x = rw x (ltb-more (s .groups) (small .groups) (large .groups) (more .groups) (rw x at e))
       pick false x = rw x (rw x at e)
 
-  record-more : (s : AclPlace) (r : Bytes) → recordFaultUnder small s r ≡ none → recordFaultUnder large s r ≡ none
+  pub record-more : (s : AclPlace) (r : Bytes) → recordFaultUnder small s r ≡ none → recordFaultUnder large s r ≡ none
   unfolding recordFaultUnder firstFault
   record-more s r e =
       let t = fault-none-every (unless (inPlaceUnder small s r) malformed ∷ unless (hasRoomUnder small s r) tooMany ∷ unless (keyed (s .isOpen) r) openArchive ∷ []) e in
@@ -100,16 +119,21 @@ module _ (small large : Capacity) (more-groups : small .groups ≤ large .groups
       let b = orNext-next (recordFaultUnder small s r) _ e in
       rw (record-more s r a) (scan-more (afterRecord s r) rs b)
 
-  -- A file that has no fault has none under larger sizes.
-  pub reader-grows : (file : Bytes) → aclFileFaultUnder small file ≡ none → aclFileFaultUnder large file ≡ none
-  unfolding aclFaultUnder
-  reader-grows file e =
-      file-more (aclRecordsUnder small) (aclRecordsUnder large) (aclFaultUnder small) (aclFaultUnder large) file
-      (omega arith) (scan-more aclStart (records file)) e
+-- A file that has no fault has none under larger sizes.
+pub reader-grows : (small large : Capacity) → NoSmaller small large → (file : Bytes) → aclFileFaultUnder small file ≡ none → aclFileFaultUnder large file ≡ none
+unfolding aclFaultUnder
+reader-grows small large more file e =
+    let g = more .groups in
+    file-more (aclRecordsUnder small) (aclRecordsUnder large) (aclFaultUnder small) (aclFaultUnder large) file
+    (omega arith) (scan-more small large more aclStart (records file)) e
+
+-- today's sizes are no smaller than document 01's
+pub base-smaller : NoSmaller base today
+base-smaller = record { groups = omega arith; counters = omega arith }
 
 -- An ACL file that has no fault under document 01's sizes has none now, and so has a hints file, one hint for each group.
 pub accepted-before : (file : Bytes) → aclFileFaultUnder base file ≡ none → aclFileFault file ≡ none
-accepted-before file e = reader-grows base today (omega arith) (omega arith) file e
+accepted-before file e = reader-grows base today base-smaller file e
 
 pub hints-before : (file : Bytes) → fileFault (base .groups) hintsFault file ≡ none → hintsFileFault file ≡ none
 hints-before file e = file-more (base .groups) _ hintsFault hintsFault file (omega arith) (λ h. h) e

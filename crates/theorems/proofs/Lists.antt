@@ -1,10 +1,11 @@
 -- Laws of lists and of tests that several files of this crate cite.
 use Prim.Native.Nat.{ℕ, zero, suc}
 use mathlib.Core.Path.{_≡_, refl}
-use mathlib.Core.List.{List, [], _∷_, _++_}
+use mathlib.Core.List.{List, [], _∷_, _++_, map}
+use mathlib.Core.Option.{Option, none}
 use mathlib.Core.Bool.{Bool, true, false, false≢true}
 use lib.ListN.{getD, set, replicate}
-use Rattle.rules.specs.Basics.{all, Every}
+use Rattle.rules.specs.Basics.{all, Every, firstFault}
 use Rattle.rules.proofs.Laws.{and-both}
 
 -- a test that another implies, and that implies it
@@ -25,6 +26,12 @@ pub every-all : {A : Type 0} (p : A → Bool) (xs : List A) → Every (λ x. p x
 unfolding all
 every-all p [] h = refl
 every-all p (x ∷ xs) h = and-both (p x) (all p xs) (h .0) (every-all p xs (h .1))
+
+-- tests none of which finds a fault
+pub every-fault-none : {A F : Type 0} (f : A → Option F) (xs : List A) → Every (λ x. f x ≡ none) xs → firstFault (map f xs) ≡ none
+unfolding firstFault
+every-fault-none f [] h = refl
+every-fault-none f (x ∷ xs) h = rw (h .0) (every-fault-none f xs (h .1))
 
 -- a predicate of every element
 module _ {A : Type 0} (P : A → Type 0) where

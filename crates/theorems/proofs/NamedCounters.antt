@@ -1,4 +1,5 @@
--- What a call of the gate answers, and the group counts and times that it leaves, depend on the counters only through those that the lent ACL names.
+-- What a call of the gate answers, and the group counts and times that it leaves, depend on the counters only through those that the lent ACL names; if
+-- that has a fault, on none.
 -- Two wrong products that this rules out: a gate that refuses where some counter that is not named is full, and a narrowing that looks at the
 -- counters that the new ACL names.
 use Prim.Native.Nat.{ℕ, suc, _-_}
@@ -14,12 +15,12 @@ use Rattle.rules.specs.Acl.{Limit, Group, aclOf}
 use Rattle.rules.specs.Request.{Request}
 use Rattle.rules.specs.Ledger.{Ledger, charge}
 use Rattle.rules.specs.Grant.{groupAdmits, certified, limitLeft, limitsLeft}
-use Rattle.rules.specs.Gate.{Outcome, Lowest, group, lowest, early, Judgement, granted, denied, tooEarly, admitsCertified, grants, orElse, judge, outcomeUnless, settle}
+use Rattle.rules.specs.Gate.{Outcome, Lowest, group, lowest, early, Judgement, granted, denied, tooEarly, admitsCertified, grants, orElse, judge, settle}
 use Rattle.rules.specs.Cabinet.{Slot, ledgerWith}
 use Rattle.rules.proofs.Judging.{ungranted}
 use Rattle.theorems.specs.Demands.{Call, outcome, names, oneOf}
 use Rattle.theorems.specs.Account.{requestAsked, km0Given}
-use Rattle.theorems.specs.Cabinets.{countersNamed, countersIn}
+use Rattle.theorems.specs.Cabinets.{countersNamed, countersIn, countersLent}
 use Rattle.theorems.proofs.Permit.{called}
 use Rattle.theorems.proofs.Calls.{recounts, Kind, judged, loaded, within, past, kind}
 use Rattle.theorems.specs.Tables.{Alike}
@@ -82,24 +83,24 @@ module _ (a b : List ℕ) where
         ap (λ (r : Lowest). if tooEarly (ledgerWith s a) q then denied early else orElse r granted (ungranted (lowest (λ place. admitsCertified km0 q) 0 gs) (lowest (λ place. groupAdmits km0 q) 0 gs))) (lowest-agrees 0 gs h)
 
 module _ (s : Slot) (a b : List ℕ) where
-  called-alike : (fault : Option ℕ) (km0 : Bytes) (gs : List Group) (q : Request) (shown : Bool) (recount : List ℕ → List ℕ) → Agree a b (countersIn gs)
+  called-alike : (fault : Option ℕ) (km0 : Bytes) (gs : List Group) (q : Request) (shown : Bool) (recount : List ℕ → List ℕ) → (fault ≡ none → Agree a b (countersIn gs))
       → Alike (called fault (ledgerWith s a) km0 gs q (recounts shown recount (ledgerWith s a))) (called fault (ledgerWith s b) km0 gs q (recounts shown recount (ledgerWith s b)))
   unfolding charge
-  called-alike fault km0 gs q shown recount h = rw (judge-agrees a b s km0 q gs h) (pick fault shown (judge (ledgerWith s b) km0 gs q))
+  called-alike (some x) km0 gs q shown recount h = record { answers = refl; slots = refl }
+  called-alike none km0 gs q shown recount h = rw (judge-agrees a b s km0 q gs (h refl)) (pick shown (judge (ledgerWith s b) km0 gs q))
     where
-      pick : (o : Option ℕ) (t : Bool) (j : Judgement) → Alike (outcomeUnless (ledgerWith s a) o (settle (ledgerWith s a) (q .time) (recounts t recount (ledgerWith s a)) j)) (outcomeUnless (ledgerWith s b) o (settle (ledgerWith s b) (q .time) (recounts t recount (ledgerWith s b)) j))
-      pick (some x) t j = record { answers = refl; slots = refl }
-      pick none t (denied d) = record { answers = refl; slots = refl }
-      pick none true (granted k g) = record { answers = refl; slots = refl }
-      pick none false (granted k g) = record { answers = refl; slots = refl }
+      pick : (t : Bool) (j : Judgement) → Alike (settle (ledgerWith s a) (q .time) (recounts t recount (ledgerWith s a)) j) (settle (ledgerWith s b) (q .time) (recounts t recount (ledgerWith s b)) j)
+      pick t (denied d) = record { answers = refl; slots = refl }
+      pick true (granted k g) = record { answers = refl; slots = refl }
+      pick false (granted k g) = record { answers = refl; slots = refl }
 
   -- One call, of any bytes.
-  call-alike : (acl : Bytes) (c : Call) → Agree a b (countersIn (aclOf acl))
+  call-alike : (acl : Bytes) (c : Call) → Agree a b (countersLent acl)
       → Alike (outcome (record { ledger = ledgerWith s a; acl = acl }) c) (outcome (record { ledger = ledgerWith s b; acl = acl }) c)
   call-alike acl c h = pick c (λ l. outcome (record { ledger = l; acl = acl }) c) (kind acl c)
     where
       pick : (c : Call) (f : Ledger → Outcome) → Kind acl c f → Alike (f (ledgerWith s a)) (f (ledgerWith s b))
-      pick c f (judged fault shown recount z x) = called-alike fault (km0Given c) (aclOf acl) (requestAsked c) shown recount h
+      pick c f (judged fault shown recount z file x) = called-alike fault (km0Given c) (aclOf acl) (requestAsked c) shown recount (λ e. rw (file e) at h)
       pick c f (loaded time) = record { answers = refl; slots = refl }
       pick c f (within n e) = record { answers = refl; slots = refl }
       pick c f (past n z) = record { answers = refl; slots = refl }
@@ -107,9 +108,9 @@ module _ (s : Slot) (a b : List ℕ) where
   -- Two ledgers with the same group counts and times, of which the counters that the lent ACL names read the same: the same answer, and the same group
   -- counts and times after it.
   pub only-named : (acl : Bytes) (c : Call)
-      → map (λ n. getD a n 0) (countersIn (aclOf acl)) ≡ map (λ n. getD b n 0) (countersIn (aclOf acl))
+      → map (λ n. getD a n 0) (countersLent acl) ≡ map (λ n. getD b n 0) (countersLent acl)
       → Alike (outcome (record { ledger = ledgerWith s a; acl = acl }) c) (outcome (record { ledger = ledgerWith s b; acl = acl }) c)
-  only-named acl c e = call-alike acl c (readings-agree a b (countersIn (aclOf acl)) e)
+  only-named acl c e = call-alike acl c (readings-agree a b (countersLent acl) e)
 
 -- the counters listed are those that a limit names
 named-limits : (n : ℕ) (ms : List Limit) → oneOf (countersNamed ms) n ≡ names n ms

@@ -4,14 +4,14 @@
 use Prim.Native.Nat.{ℕ, zero, suc}
 use native.Mathlib.Omega.{arith}
 use mathlib.Core.Path.{_≡_, refl}
-use mathlib.Core.List.{List, [], _∷_, map}
+use mathlib.Core.List.{[], _∷_, map}
 use mathlib.Core.Option.{some}
-use lib.ListN.{replicate}
 use borrow.Author.Tests.{ne-eqb, le-leb, lt-leb}
 use Rattle.rules.specs.Basics.{ascii, firstFault}
+use Rattle.theorems.specs.Numbers.{subjectReplies}
 use Rattle.rules.specs.Layout.{between}
 use Rattle.rules.specs.Suites.{suite, isSuite, suiteMechanism}
-use Rattle.rules.specs.Subject.{SubjectReply, written, hashesBytes, subject, subjectFault, subjectReply}
+use Rattle.rules.specs.Subject.{written, subject, subjectFault, subjectReply}
 
 -- "Refusal 11 now means not 1 to 5": every number from 1 to 5 is a suite's, and no other is
 pub suite-numbers : (n : ℕ) → isSuite n ≡ between 1 5 n
@@ -31,13 +31,9 @@ pub suite-mechanisms : map suiteMechanism (1 ∷ 2 ∷ 3 ∷ 4 ∷ 5 ∷ []) ≡
 unfolding suite
 suite-mechanisms = refl
 
--- the replies to a certificate under suites 1 to 5, with hashes of the length that is due and a buffer that holds any subject
-abbrev pub replies : ℕ → List SubjectReply
-replies certificate =
-    map (λ n. subjectReply certificate n (replicate (hashesBytes certificate) 9) (replicate 137 8)) (1 ∷ 2 ∷ 3 ∷ 4 ∷ 5 ∷ [])
-
-pub subject-lengths : (replies 3 ≡ map written (72 ∷ 90 ∷ 102 ∷ 109 ∷ 92 ∷ []))
-    × (replies 4 ≡ map written (100 ∷ 118 ∷ 130 ∷ 137 ∷ 120 ∷ []))
-    × (replies 5 ≡ map written (74 ∷ 74 ∷ 74 ∷ 74 ∷ 74 ∷ []))
+-- the eleven lengths
+pub subject-lengths : (subjectReplies 3 ≡ map written (72 ∷ 90 ∷ 102 ∷ 109 ∷ 92 ∷ []))
+    × (subjectReplies 4 ≡ map written (100 ∷ 118 ∷ 130 ∷ 137 ∷ 120 ∷ []))
+    × (subjectReplies 5 ≡ map written (74 ∷ 74 ∷ 74 ∷ 74 ∷ 74 ∷ []))
 unfolding ascii firstFault suite subject subjectFault subjectReply
 subject-lengths = (refl, refl, refl)

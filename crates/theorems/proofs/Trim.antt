@@ -30,11 +30,12 @@ use Rattle.rules.proofs.Rows.{records-sized}
 use Rattle.rules.proofs.Joined.{Whole, joined-records, joined-fits, fits-joined}
 use Rattle.rules.proofs.Written.{joined-octets, records-octets}
 use Rattle.rules.proofs.Trim.{trimmed-whole, trimmed-few, fault-refused, fault-step, fault-short, fault-none}
+use Rattle.theorems.proofs.Lists.{every-fault-none}
 use Rattle.theorems.proofs.Hints.{kept-self, kept-number-self, action-self, StandsAt, stands-here, stands-next, all-zero, limits-self}
 use Rattle.theorems.proofs.Permit.{narrow-needs, narrow-comes}
 use Rattle.theorems.specs.Permits.{Permitted}
 use Rattle.rules.proofs.AclSizes.{acl-fits}
-use Rattle.theorems.proofs.TrimmedAcl.{every-fault-none, trimmed-acl-sound, same-groups, trimmed-passes, passing-untouched, hints-sound, hints-many, trimmed-octets, hints-octets}
+use Rattle.theorems.proofs.TrimmedAcl.{trimmed-acl-sound, same-groups, trimmed-passes, passing-untouched, hints-sound, hints-many, trimmed-octets, hints-octets}
 
 ruleset conj = (and-left, and-right, and-both)
 

@@ -10,7 +10,7 @@ use lib.ListN.{length, take, drop}
 use lib.Dec.{eqb, ltb}
 use borrow.Author.Tests.{eqb-true, eq-eqb, ltb-true, lt-ltb, not-true}
 use Rattle.rules.specs.Sizes.{groupsMax, actionsMax}
-use Rattle.rules.specs.Basics.{if_then_else_, Bytes, implies, Every, number, kind, flag, unless, firstFault, scan}
+use Rattle.rules.specs.Basics.{if_then_else_, Bytes, implies, Every, number, kind, flag, unless, scan}
 use Rattle.rules.specs.Numbers.{malformed}
 use Rattle.rules.specs.Layout.{groupLaidOut, limitLaidOut}
 use Rattle.rules.specs.Acl.{FileRule, actionOf, fileRuleNext, announcesFile, limitsOf, actionsOf, groupOf, groupsOf, AclPlace, aclStart, limitKey, among, limitInPlace, actionLaidOut, fileRecord, placedUnder, placedByKind, inPlaceUnder, inPlace, hasRoomUnder, keyed, afterRecord, aclRecordFault, aclEnd, aclFaultUnder, aclFault}
@@ -26,6 +26,7 @@ use Rattle.rules.proofs.Written.{octets-append, take-octets, drop-octets, bigEn
 use Rattle.rules.proofs.Bits.{kept-below}
 use Rattle.rules.proofs.Places.{limit-placed, aclFrom, record-in-place, record-has-room, record-keyed, no-record-fault, not-due, due-here, same-count}
 use Rattle.rules.proofs.Trim.{fresh-group, group-places, places-below}
+use Rattle.theorems.proofs.Lists.{every-fault-none}
 use Rattle.theorems.proofs.TrimmedRecord.{same-failure, stays-as, goes-as}
 
 ruleset conj = (and-left, and-right, and-both)
@@ -345,11 +346,6 @@ same-groups b checked kept place s (r ∷ rs) w e =
     pick false p false q false u false v d f = rw (p, q, u, v) (f checked false place)
 
 -- None of the steps fails on what is left.
-pub every-fault-none : {A F : Type 0} (f : A → Option F) (xs : List A) → Every (λ x. f x ≡ none) xs → firstFault (map f xs) ≡ none
-unfolding firstFault
-every-fault-none f [] h = refl
-every-fault-none f (x ∷ xs) h = rw (h .0) (every-fault-none f xs (h .1))
-
 actions-pass : (b : List Bytes) (kept : Bool) (rs : List Bytes) → Every Whole rs → Every (λ a. actionFailure b a ≡ none) (actionsOf (trimmedFrom b true kept rs))
 unfolding trimmedFrom actionsOf
 actions-pass b kept [] w = tt

@@ -11,7 +11,7 @@ use lib.ListN.{length, getD, getElem?, set, length-set, length-replicate, List·
 use lib.Seq.{getD-set-same, getD-set-other}
 use lib.Dec.{eqb, ltb}
 use borrow.Author.Tests.{eqb-true, eqb-false, leb-true, ltb-true, ltb-false, lt-ltb}
-use Rattle.rules.specs.Sizes.{groupsMax, countersMax, fullCount}
+use Rattle.rules.specs.Sizes.{today, groupsMax, countersMax, fullCount}
 use Rattle.rules.specs.Basics.{Bytes, Every}
 use Rattle.rules.specs.Acl.{Limit, Group, aclOf}
 use Rattle.rules.specs.Request.{Request, Hint, hintsOf}
@@ -202,7 +202,7 @@ narrowed-follows first a l gs os ns hs f e b =
     record {
       load-time = f .load-time;
       counter-size = f .counter-size;
-      count-size = carried-sized (l .counts) hs b;
+      count-size = carried-sized today (l .counts) hs b;
       lower = f .lower;
       rising = rises;
       origin = λ k n d. narrowed-origin k n (narrows-at gs 0 ns hs k n e d);

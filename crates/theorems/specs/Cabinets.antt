@@ -8,7 +8,7 @@ use mathlib.Core.Bool.{Bool, false}
 use lib.ListN.{getD}
 use lib.Dec.{eqb}
 use Rattle.rules.specs.Basics.{if_then_else_, Bytes}
-use Rattle.rules.specs.Acl.{Limit, Group, aclOf}
+use Rattle.rules.specs.Acl.{Limit, Group, aclOf, aclFileFault}
 use Rattle.rules.specs.Ledger.{Ledger}
 use Rattle.rules.specs.Gate.{Answer, permit, Outcome}
 use Rattle.rules.specs.Desk.{Grade}
@@ -39,6 +39,11 @@ cabinetAfter c x = cabinetOutcome c x .cabinet
 unfoldable pub cabinetAfterAll : Cabinet → List CabinetCall → Cabinet
 cabinetAfterAll c [] = c
 cabinetAfterAll c (x ∷ xs) = cabinetAfterAll (cabinetAfter c x) xs
+
+-- what the cabinet answers to each call of a sequence
+abbrev pub cabinetReplies : Cabinet → List CabinetCall → List Answer
+cabinetReplies c [] = []
+cabinetReplies c (x ∷ xs) = cabinetOutcome c x .answer ∷ cabinetReplies (cabinetAfter c x) xs
 
 -- the slot that a call is made to; "a clear takes no slot"
 abbrev pub slotIn : CabinetCall → Option ℕ
@@ -119,9 +124,18 @@ unfoldable pub countersIn : List Group → List ℕ
 countersIn [] = []
 countersIn (g ∷ gs) = countersNamed (g .limits) ++ countersIn gs
 
+-- An ACL with a fault is refused whatever the counters are, so that it names none.
+abbrev pub namedUnless : Option ℕ → List ℕ → List ℕ
+namedUnless none ns = ns
+namedUnless (some f) ns = []
+
+-- the counters that an ACL file names
+abbrev pub countersLent : Bytes → List ℕ
+countersLent acl = namedUnless (aclFileFault acl) (countersIn (aclOf acl))
+
 -- "just before each, the counters its lent ACL names": their readings
 abbrev pub readingsBefore : Turn → List ℕ
-readingsBefore t = map (λ n. getD (t .counters) n 0) (countersIn (aclOf (lentIn (t .call))))
+readingsBefore t = map (λ n. getD (t .counters) n 0) (countersLent (lentIn (t .call)))
 
 -- a call is lent this ACL, if it is lent one
 abbrev pub IsLent : Bytes → CabinetCall → Type 0

@@ -1,14 +1,13 @@
 -- Of narrowings and of ACLs that are well formed: the theorems are in proofs/Hints.antt and proofs/Keyed.antt.
-use Prim.Native.Nat.{_-_, _≤_, suc, ℕ}
-use lib.ListN.{length, replicate}
+use Prim.Native.Nat.{_≤_, suc, ℕ}
 use mathlib.Core.Bool.{true}
-use mathlib.Core.List.{List, [], _++_, _∷_}
+use mathlib.Core.List.{List, [], _∷_}
 use mathlib.Core.Option.{none}
 use mathlib.Core.Path.{_≡_}
 use Rattle.rules.specs.Acl.{Action, Group, makeArchive, makeBlob, permissions}
-use Rattle.rules.specs.Basics.{Every, present}
+use Rattle.rules.specs.Basics.{Bytes, Every, joined, present}
 use Rattle.rules.specs.Request.{Hint}
-use Rattle.rules.specs.Sizes.{actionsMax}
+use Rattle.rules.specs.Written.{hintBytes}
 
 -- "Sources rise strictly.": each from `low` on
 abbrev pub Rising : ℕ → List Hint → Type 0
@@ -20,14 +19,14 @@ unfoldable pub places : {A : Type 0} → ℕ → List A → List ℕ
 places place [] = []
 places place (x ∷ xs) = place ∷ places (suc place) xs
 
--- the hints that name every group and action by its own place; "Unused action bytes are zero."
-abbrev pub ownActions : List Action → List ℕ
-ownActions xs = places 0 xs ++ replicate (actionsMax - length xs) 0
+-- hint records that name each group and action by its own place, for groups from `place` on
+unfoldable pub ownHintRecords : ℕ → List Group → List Bytes
+ownHintRecords place [] = []
+ownHintRecords place (g ∷ gs) = hintBytes place (places 0 (g .actions)) ∷ ownHintRecords (suc place) gs
 
--- hints that name each group and action by its own place
-unfoldable pub ownHints : ℕ → List Group → List Hint
-ownHints place [] = []
-ownHints place (g ∷ gs) = record { source = place; actions = ownActions (g .actions) } ∷ ownHints (suc place) gs
+-- the hints file that names each group and action of an ACL by its own place
+abbrev pub ownHints : List Group → Bytes
+ownHints gs = joined (ownHintRecords 0 gs)
 
 -- a MakeArchiveBlob action that has kahash; an action of another kind needs none
 abbrev pub HasKey : Action → Type 0

@@ -1,12 +1,14 @@
--- Which numbers a refusal can have: the theorems are in proofs/Refusals.antt, proofs/RunNumbers.antt and proofs/Slots.antt.
+-- Which numbers a refusal can have: the theorems are in proofs/Refusals.antt, proofs/RunNumbers.antt, proofs/Subjects.antt and proofs/Slots.antt.
 use Prim.Native.Nat.{ℕ}
 use mathlib.Core.Bool.{true}
-use mathlib.Core.List.{List, [], _∷_}
+use mathlib.Core.List.{List, [], _∷_, map}
+use lib.ListN.{replicate}
 use mathlib.Core.Option.{Option, none, some}
 use mathlib.Core.Path.{_≡_}
 use Rattle.rules.specs.Basics.{present}
 use Rattle.rules.specs.Gate.{Outcome, refuse}
 use Rattle.rules.specs.Numbers.{noSlot, notCertified, outOfRange, spent}
+use Rattle.rules.specs.Subject.{SubjectReply, hashesBytes, subjectReply}
 use Rattle.theorems.specs.Cabinets.{CabinetCall, clearingAll, expandingAt, loadingAt, narrowingAt, requestingAt, slotIn}
 use Rattle.theorems.specs.Demands.{oneOf}
 
@@ -38,6 +40,11 @@ deskNumbers = 1 ∷ 2 ∷ 3 ∷ 12 ∷ 11 ∷ []
 -- stays.
 abbrev pub subjectNumbers : List ℕ
 subjectNumbers = 10 ∷ 11 ∷ 1 ∷ 9 ∷ []
+
+-- the replies to a certificate under suites 1 to 5, with hashes of the right length and a buffer that holds any subject
+abbrev pub subjectReplies : ℕ → List SubjectReply
+subjectReplies certificate =
+    map (λ n. subjectReply certificate n (replicate (hashesBytes certificate) 9) (replicate 137 8)) (1 ∷ 2 ∷ 3 ∷ 4 ∷ 5 ∷ [])
 
 -- 1, 3, 2, the ACL's 2, 3 and 12, and 9
 abbrev pub runNumbers : List ℕ

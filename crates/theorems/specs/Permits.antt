@@ -8,13 +8,14 @@ use mathlib.Core.Option.{Option, none, some}
 use mathlib.Core.Path.{_≡_}
 use Rattle.rules.specs.Acl.{Group}
 use Rattle.rules.specs.Basics.{Bytes, any}
-use Rattle.rules.specs.Gate.{Outcome, admitsCertified, grants, permit, refuse, refused, refusedNear, tooEarly}
+use Rattle.rules.specs.Gate.{Outcome, admitsCertified, grants, permit, refuse, tooEarly}
 use Rattle.rules.specs.Grant.{groupAdmits, unspent}
 use Rattle.rules.specs.Ledger.{Ledger}
-use Rattle.rules.specs.Narrow.{narrows}
-use Rattle.rules.specs.Numbers.{clockBack, notAdmitted, notCertified, notNarrower, spent}
-use Rattle.rules.specs.Request.{Hint, Request}
+use Rattle.rules.specs.Numbers.{clockBack, notAdmitted, notCertified, spent}
+use Rattle.rules.specs.Request.{Request}
 use Rattle.theorems.specs.Certification.{Certified, Uncertified}
+use Rattle.theorems.specs.Demands.{oneOf}
+use Rattle.theorems.specs.Numbers.{fileNumbers}
 
 -- Of groups numbered from `place`, the i-th is g, passes a test, and no group before it does.
 pub record IsLowest (test : ℕ → Group → Bool) (place : ℕ) (gs : List Group) (i : ℕ) (g : Group) : Type 0 where
@@ -50,39 +51,28 @@ pub record Granting (fault : Option ℕ) (l : Ledger) (km0 : Bytes) (gs : List G
   pub inTime : tooEarly l q ≡ false
   pub grantor : SomeGroup l km0 gs q
 
--- A refusal that carries the lowest group that passes a test: "Refusal 6 shall carry the lowest group that admits; refusal 7 the lowest that admits and
--- is certified."
-abbrev pub RefusedNearest : Ledger → List Group → (Group → Bool) → ℕ → Outcome → Type 0
-RefusedNearest l gs test f o = (k : ℕ) × (g : Group) × IsLowest (λ place. test) 0 gs k g × (o ≡ refusedNear l f (some k))
+-- Files without fault and a time that does not go back: only then are the groups judged.
+pub record IsJudged (fault : Option ℕ) (l : Ledger) (q : Request) : Type 0 where
+  pub files : fault ≡ none
+  pub inTime : tooEarly l q ≡ false
 
--- Which number a refusal has: a fault of the files is the number; then 4, 5, 6 and 7, by what the groups lack.
-pub record RefusedSo (fault : Option ℕ) (l : Ledger) (km0 : Bytes) (gs : List Group) (q : Request) (o : Outcome) : Type 0 where
-  pub by-files : (f : ℕ) → fault ≡ some f → o ≡ refused l f
-  pub by-time : fault ≡ none → tooEarly l q ≡ true → o ≡ refused l clockBack
-  pub none-admits : fault ≡ none → tooEarly l q ≡ false → any (groupAdmits km0 q) gs ≡ false → o ≡ refused l notAdmitted
-  pub none-certified : fault ≡ none → tooEarly l q ≡ false → any (groupAdmits km0 q) gs ≡ true → any (admitsCertified km0 q) gs ≡ false → RefusedNearest l gs (groupAdmits km0 q) notCertified o
-  pub none-unspent : fault ≡ none → tooEarly l q ≡ false → any (admitsCertified km0 q) gs ≡ true → (SomeGroup l km0 gs q → ⊥) → RefusedNearest l gs (admitsCertified km0 q) spent o
+-- the lowest group that passes a test is the one at place k
+abbrev pub LowestAt : List Group → (Group → Bool) → ℕ → Type 0
+LowestAt gs test k = (g : Group) × IsLowest (λ place. test) 0 gs k g
 
--- the group that a refusal carries is the lowest that passes a test
-abbrev pub Carries : List Group → (Group → Bool) → Option ℕ → Type 0
-Carries gs test near = (k : ℕ) × (g : Group) × IsLowest (λ place. test) 0 gs k g × (near ≡ some k)
-
--- And the other way: why a refusal has its number, and the group that it carries; "Refusal 5 stays bare."
-pub data Reason (fault : Option ℕ) (l : Ledger) (km0 : Bytes) (gs : List Group) (q : Request) (n : ℕ) (near : Option ℕ) : Type 0 where
-  a-file : fault ≡ some n → near ≡ none → Reason fault l km0 gs q n near
-  the-time : fault ≡ none → tooEarly l q ≡ true → n ≡ clockBack → near ≡ none → Reason fault l km0 gs q n near
-  admission : fault ≡ none → tooEarly l q ≡ false → any (groupAdmits km0 q) gs ≡ false → n ≡ notAdmitted → near ≡ none → Reason fault l km0 gs q n near
-  certification : fault ≡ none → tooEarly l q ≡ false → any (groupAdmits km0 q) gs ≡ true → any (admitsCertified km0 q) gs ≡ false → n ≡ notCertified
-      → Carries gs (groupAdmits km0 q) near → Reason fault l km0 gs q n near
-  spending : fault ≡ none → tooEarly l q ≡ false → any (admitsCertified km0 q) gs ≡ true → (SomeGroup l km0 gs q → ⊥) → n ≡ spent
-      → Carries gs (admitsCertified km0 q) near → Reason fault l km0 gs q n near
-
--- a narrowing's refusal may also be 8, which is bare: a group grants it, and the hints do not show one
-pub record Breach (fault : Option ℕ) (l : Ledger) (km0 : Bytes) (old new : List Group) (hints : List Hint) (q : Request) (n : ℕ) (near : Option ℕ) : Type 0 where
-  pub grantor : Granting fault l km0 old q
-  pub unshown : narrows old new hints ≡ false
-  pub eight : n ≡ notNarrower
-  pub bare : near ≡ none
+-- Document 01's table of refusal numbers, of a request and of both replacements: each number is given exactly in its case. "Refusal 6 shall carry the lowest
+-- group that admits; refusal 7 the lowest that admits and is certified."; "Refusal 5 stays bare."
+pub record RefusedExactly (fault : Option ℕ) (l : Ledger) (km0 : Bytes) (gs : List Group) (q : Request) (o : Outcome) : Type 0 where
+  -- 1, 2, 3 and 12: the first fault of the files
+  pub by-files : (n : ℕ) → oneOf fileNumbers n ≡ true → (o .answer ≡ refuse n none) ↔ (fault ≡ some n)
+  -- 4: "time before load time or last time"
+  pub by-time : (o .answer ≡ refuse clockBack none) ↔ ((fault ≡ none) × (tooEarly l q ≡ true))
+  -- 5: "no group admits"
+  pub none-admits : (o .answer ≡ refuse notAdmitted none) ↔ (IsJudged fault l q × (any (groupAdmits km0 q) gs ≡ false))
+  -- 6: "none admitting is certified"
+  pub none-certified : (k : ℕ) → (o .answer ≡ refuse notCertified (some k)) ↔ (IsJudged fault l q × LowestAt gs (groupAdmits km0 q) k × (any (admitsCertified km0 q) gs ≡ false))
+  -- 7: "none admitting and certified is unspent"
+  pub none-unspent : (k : ℕ) → (o .answer ≡ refuse spent (some k)) ↔ (IsJudged fault l q × LowestAt gs (admitsCertified km0 q) k × (SomeGroup l km0 gs q → ⊥))
 
 -- a refusal with a number, whichever group it carries
 abbrev pub RefusedBy : ℕ → Outcome → Type 0
