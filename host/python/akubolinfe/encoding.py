@@ -15,13 +15,17 @@ The body of a ledger is 64 group counts and 256 named counters of 4 bytes each, 
 a cabinet is eight slots, each 64 group counts, load time and last time; then the 256 named counters.
 """
 
+from __future__ import annotations
+
+import ctypes
 import hashlib
 import struct
 import sys
 from array import array
 from typing import Tuple
 
-from . import ABI, Cabinet, Ledger
+from ._library import ABI, COUNTERS, GROUPS, SLOTS
+from .gate import Cabinet, Ledger
 
 VERSION = 1
 LEDGER, CABINET, STATE = 1, 2, 3
@@ -31,12 +35,15 @@ _MAGIC = b'AKUB'
 _HEADER = struct.Struct('>4sHHII')
 _KINDS = {LEDGER: 'a ledger', CABINET: 'a cabinet', STATE: 'the state of a store'}
 
-LEDGER_BYTES = 4 * (64 + 256) + 2 * 8
-CABINET_BYTES = 8 * (4 * 64 + 2 * 8) + 4 * 256
+# Four-byte words of a slot and of a ledger: a time has two.
+_SLOT_WORDS = GROUPS + 4
+_LEDGER_WORDS = GROUPS + COUNTERS + 4
+LEDGER_BYTES = 4 * _LEDGER_WORDS
+CABINET_BYTES = 4 * (SLOTS * _SLOT_WORDS + COUNTERS)
 
-# The first of the two four-byte words of each time, among the words of a ledger and of a cabinet.
-_LEDGER_TIMES = (slice(320, 324, 2),)
-_CABINET_TIMES = (slice(64, 544, 68), slice(66, 544, 68))
+# The first word of each time, among the words of a ledger and of a cabinet.
+_LEDGER_TIMES = (slice(GROUPS + COUNTERS, _LEDGER_WORDS, 2),)
+_CABINET_TIMES = tuple(slice(GROUPS + place, SLOTS * _SLOT_WORDS, _SLOT_WORDS) for place in (0, 2))
 
 
 class EncodingError(ValueError):
@@ -72,7 +79,7 @@ def unframe(kind: int, data: bytes, length: int) -> bytes:
 def _reordered(data: bytes, times: Tuple[slice, ...]) -> bytes:
     """From the byte order of this machine to big-endian, or back."""
     if sys.byteorder == 'big':
-        return bytes(data)
+        return data
     words = array('I', data)
     words.byteswap()
     for first in times:
@@ -83,12 +90,14 @@ def _reordered(data: bytes, times: Tuple[slice, ...]) -> bytes:
 
 def cabinet_body(cabinet: Cabinet) -> bytes:
     """The tables of a cabinet, big-endian, without a frame."""
-    return _reordered(cabinet.native(), _CABINET_TIMES)
+    return _reordered(bytes(cabinet._raw), _CABINET_TIMES)
 
 
 def cabinet_of_body(body: bytes) -> Cabinet:
     """The cabinet with these tables."""
-    return Cabinet.of_native(_reordered(body, _CABINET_TIMES))
+    cabinet = Cabinet()
+    ctypes.memmove(ctypes.addressof(cabinet._raw), _reordered(body, _CABINET_TIMES), CABINET_BYTES)
+    return cabinet
 
 
 def encode_cabinet(cabinet: Cabinet) -> bytes:
@@ -103,9 +112,12 @@ def decode_cabinet(data: bytes) -> Cabinet:
 
 def encode_ledger(ledger: Ledger) -> bytes:
     """The portable encoding of a ledger."""
-    return frame(LEDGER, _reordered(ledger.native(), _LEDGER_TIMES))
+    return frame(LEDGER, _reordered(bytes(ledger._raw), _LEDGER_TIMES))
 
 
 def decode_ledger(data: bytes) -> Ledger:
     """The ledger that was encoded. Raises EncodingError."""
-    return Ledger.of_native(_reordered(unframe(LEDGER, data, LEDGER_BYTES), _LEDGER_TIMES))
+    ledger = Ledger()
+    body = unframe(LEDGER, data, LEDGER_BYTES)
+    ctypes.memmove(ctypes.addressof(ledger._raw), _reordered(body, _LEDGER_TIMES), LEDGER_BYTES)
+    return ledger
