@@ -87,21 +87,21 @@ def _key(state: State, files: Files, slot: int) -> Tuple[bytes, bytes]:
     """KM0 and ACL of a slot. A slot over 7 has neither: the library refuses it before it looks at them."""
     if slot >= SLOTS:
         return b'', b''
-    key = state.keys[slot]
+    key = state.key(slot)
     if key is None:
         raise Misuse(f'slot {slot} holds no key')
     return key.km0, files.content(key.acl)
 
 
 def _slot(state: State, files: Files, slot: int, km0: bytes, acl: bytes, time: int, replace: int) -> Reply:
-    if slot < SLOTS and state.keys[slot] and not replace:
+    if slot < SLOTS and state.key(slot) and not replace:
         raise Misuse(f'slot {slot} holds a key already')
     content = files.content(acl)
     # A run of no requests: the library looks at slot, KM0 and ACL, and changes nothing.
     refusal = state.cabinet.prepared_run(slot, km0, content, (), files.form(acl), b'').refusal
     if refusal:
         return Reply(refusal)
-    state.keys[slot] = Key(km0, acl)
+    state.put(slot, Key(km0, acl))
     return state.cabinet.load(slot, time)
 
 
@@ -123,7 +123,7 @@ def _narrow(state: State, files: Files, slot: int, request: bytes, new_acl: byte
     km0, acl = _key(state, files, slot)
     reply = state.cabinet.narrow(slot, km0, acl, request, files.content(new_acl), hints)
     if reply:
-        state.keys[slot] = Key(km0, new_acl)
+        state.put(slot, Key(km0, new_acl))
     return reply
 
 
@@ -131,13 +131,13 @@ def _expand(state: State, files: Files, slot: int, request: bytes, new_acl: byte
     km0, acl = _key(state, files, slot)
     reply = state.cabinet.expand(slot, km0, acl, request, files.content(new_acl))
     if reply:
-        state.keys[slot] = Key(km0, new_acl)
+        state.put(slot, Key(km0, new_acl))
     return reply
 
 
 def _run(state: State, files: Files, slot: int, row: bytes, requests: bytes) -> Run:
     km0, acl = _key(state, files, slot)
-    form = files.form(state.keys[slot].acl) if slot < SLOTS else Form()
+    form = files.form(state.key(slot).acl) if slot < SLOTS else Form()
     return state.cabinet.prepared_run(slot, km0, acl, _CERTIFICATE.iter_unpack(row), form, requests)
 
 

@@ -12,7 +12,7 @@ import sqlite3
 from typing import Iterator, List, Optional, Sequence, Tuple
 from urllib.parse import quote, urlsplit, urlunsplit
 
-from .errors import Damaged, Misuse, Unavailable
+from .errors import Damaged, Misuse, StoreError, Unavailable
 
 Statement = Tuple[str, Sequence]
 
@@ -58,10 +58,12 @@ class SQLite:
         """What SQLite raises, as an error of the store."""
         try:
             yield
-        except sqlite3.OperationalError as error:
-            raise Unavailable(f'{self.place}: {error}') from None
-        except sqlite3.DatabaseError as error:
-            raise Damaged(f'{self.place}: {error}') from None
+        except sqlite3.Error as error:
+            raise self._failure(error) from None
+
+    def _failure(self, error: sqlite3.Error) -> StoreError:
+        damage = isinstance(error, sqlite3.DatabaseError) and not isinstance(error, sqlite3.OperationalError)
+        return (Damaged if damage else Unavailable)(f'{self.place}: {error}')
 
     def create(self, rows: Sequence[Statement]) -> None:
         """Makes the tables and their first rows."""
@@ -73,16 +75,22 @@ class SQLite:
 
     def begin(self) -> tuple:
         """Locks the store and reads its row."""
-        with self._failures():
-            self._connection.execute('BEGIN IMMEDIATE')
-            return self._connection.execute(READ).fetchone()
+        execute = self._connection.execute
+        try:
+            execute('BEGIN IMMEDIATE')
+            return execute(READ).fetchone()
+        except sqlite3.Error as error:
+            raise self._failure(error) from None
 
     def commit(self, statements: Sequence[Statement]) -> None:
         """Writes, and returns when it is durable."""
-        with self._failures():
+        execute = self._connection.execute
+        try:
             for statement, arguments in statements:
-                self._connection.execute(statement, arguments)
-            self._connection.execute('COMMIT')
+                execute(statement, arguments)
+            execute('COMMIT')
+        except sqlite3.Error as error:
+            raise self._failure(error) from None
 
     def write(self, statements: Sequence[Statement]) -> None:
         """Writes in a transaction of its own."""

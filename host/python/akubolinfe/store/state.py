@@ -2,7 +2,7 @@
 from __future__ import annotations
 
 import struct
-from typing import List, NamedTuple, Optional
+from typing import NamedTuple, Optional
 
 from .._library import HASH, SLOTS
 from ..encoding import CABINET_BYTES, DIGEST_BYTES, STATE, cabinet_body, cabinet_of_body, frame, unframe
@@ -32,18 +32,27 @@ class State:
     then the tables of the cabinet (3,200).
     """
 
-    __slots__ = ('identity', 'generation', 'keys', 'cabinet')
+    __slots__ = ('identity', 'generation', 'cabinet', '_keys')
 
     def __init__(self, identity: bytes) -> None:
         self.identity = identity
         self.generation = 0
-        self.keys: List[Optional[Key]] = [None] * SLOTS
         self.cabinet = Cabinet()
+        self._keys = bytes(SLOTS * _KEY.size)
+
+    def key(self, slot: int) -> Optional[Key]:
+        """The key of a slot, or None."""
+        held, km0, acl = _KEY.unpack_from(self._keys, slot * _KEY.size)
+        return Key(km0, acl) if held else None
+
+    def put(self, slot: int, key: Key) -> None:
+        """Puts a key in a slot."""
+        offset = slot * _KEY.size
+        self._keys = self._keys[:offset] + _KEY.pack(True, *key) + self._keys[offset + _KEY.size :]
 
     def encode(self) -> bytes:
         """The portable encoding. It ends with its SHA-256."""
-        keys = b''.join(_KEY.pack(True, *key) if key else bytes(_KEY.size) for key in self.keys)
-        return frame(STATE, _FRONT.pack(self.identity, self.generation) + keys + cabinet_body(self.cabinet))
+        return frame(STATE, _FRONT.pack(self.identity, self.generation) + self._keys + cabinet_body(self.cabinet))
 
     @staticmethod
     def decode(data: bytes) -> 'State':
@@ -52,8 +61,6 @@ class State:
         identity, generation = _FRONT.unpack_from(body)
         state = State(identity)
         state.generation = generation
-        for slot in range(SLOTS):
-            held, km0, acl = _KEY.unpack_from(body, _FRONT.size + slot * _KEY.size)
-            state.keys[slot] = Key(km0, acl) if held else None
+        state._keys = body[_FRONT.size : -CABINET_BYTES]
         state.cabinet = cabinet_of_body(body[-CABINET_BYTES:])
         return state
