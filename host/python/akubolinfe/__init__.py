@@ -5,6 +5,8 @@ alone; exceptions are for misuse (TypeError, ValueError) and for a missing or wr
 """
 from ._library import ABI, LibraryError
 from .answers import Converted, Reply, Run, Subject, Trimmed, Verdict
+from .builders import Certificate, Delegation, Facts, Hints, Policy, Request, Token, read_bundle
+from .checking import fault
 from .desk import attest, subject, trim
 from .gate import Cabinet, Form, Ledger, Slot, prepare
 from .text import Text, Unsupported
@@ -13,6 +15,7 @@ from .words import explain
 __version__ = '1.0'
 
 __all__ = [
-    'ABI', 'Cabinet', 'Converted', 'Form', 'Ledger', 'LibraryError', 'Reply', 'Run', 'Slot', 'Subject', 'Text', 'Trimmed',
-    'Unsupported', 'Verdict', 'attest', 'explain', 'prepare', 'subject', 'trim',
+    'ABI', 'Cabinet', 'Certificate', 'Converted', 'Delegation', 'Facts', 'Form', 'Hints', 'Ledger', 'LibraryError', 'Policy',
+    'Reply', 'Request', 'Run', 'Slot', 'Subject', 'Text', 'Token', 'Trimmed', 'Unsupported', 'Verdict', 'attest', 'explain',
+    'fault', 'prepare', 'read_bundle', 'subject', 'trim',
 ]
