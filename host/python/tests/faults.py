@@ -318,7 +318,7 @@ def damaged_answer(place: str, original: list, permits: int) -> bool:
     except StoreError:
         found = True
     finally:
-        if engine:
+        if engine is not None:
             engine.close()
     if not found:
         check(rows_of(place) == original, 'damage that the audit does not find is outside everything that the store holds')

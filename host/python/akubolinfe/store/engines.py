@@ -7,8 +7,10 @@ from __future__ import annotations
 
 import contextlib
 import os
+import random
 import re
 import sqlite3
+import time
 from typing import Iterator, List, Optional, Sequence, Tuple
 from urllib.parse import quote, urlsplit, urlunsplit
 
@@ -26,6 +28,10 @@ _SCHEMA = (
 READ = ('SELECT s.entries, s.head, s.state, l.state, l.hash FROM akubolinfe_store s LEFT JOIN akubolinfe_log l ON l.number = s.entries'
         ' WHERE s.id = 1')
 
+# How long a call waits for others that have the lock, and the most that it waits before it tries again, in seconds.
+_PATIENCE, _PAUSE = 60.0, 0.002
+_SQLITE_ERRORS = (sqlite3.Error, UnicodeError)
+
 
 class SQLite:
     """A store in one file of SQLite, in WAL mode with synchronous=FULL. While it is open, and after a crash, two files stand beside it (`-wal`,
@@ -35,67 +41,74 @@ class SQLite:
 
     def __init__(self, place: str, create: bool = False, read_only: bool = False) -> None:
         self.place = place
-        self._connection = None
-        if create and os.path.exists(place):
-            raise Misuse(f'{place}: is there already')
-        if not create and not os.path.exists(place):
+        if create:
+            self._claim()
+        elif not os.path.exists(place):
             raise Unavailable(f'{place}: no such store')
-        self._mode = 'ro' if read_only else 'rwc' if create else 'rw'
-        with self._failures():
-            self._connect()
-
-    def _connect(self) -> None:
+        mode = 'ro' if read_only else 'rw'
         # A file on read-only media has no -shm beside it and cannot get one. Without a -wal nothing is missing in it.
-        fixed = self._mode == 'ro' and not os.path.exists(self.place + '-wal') and not os.access(os.path.dirname(self.place) or '.', os.W_OK)
-        address = f'file:{quote(os.path.abspath(self.place))}?mode={self._mode}' + ('&immutable=1' if fixed else '')
-        self._connection = sqlite3.connect(address, uri=True, isolation_level=None, timeout=60, check_same_thread=False)
-        self._connection.execute('PRAGMA synchronous = FULL')
-        if self._mode == 'rwc':
-            self._connection.execute('PRAGMA journal_mode = WAL')
-
-    @contextlib.contextmanager
-    def _failures(self) -> Iterator[None]:
-        """What SQLite raises, as an error of the store."""
+        fixed = read_only and not os.path.exists(place + '-wal') and not os.access(os.path.dirname(place) or '.', os.W_OK)
+        address = f'file:{quote(os.path.abspath(place))}?mode={mode}' + ('&immutable=1' if fixed else '')
         try:
-            yield
-        except sqlite3.Error as error:
+            self._connection = sqlite3.connect(address, uri=True, isolation_level=None, timeout=0, check_same_thread=False)
+        except _SQLITE_ERRORS as error:
             raise self._failure(error) from None
+        self._execute('PRAGMA synchronous = FULL')
+        if create:
+            self._execute('PRAGMA journal_mode = WAL')
 
-    def _failure(self, error: sqlite3.Error) -> StoreError:
-        damage = isinstance(error, sqlite3.DatabaseError) and not isinstance(error, sqlite3.OperationalError)
-        return (Damaged if damage else Unavailable)(f'{self.place}: {error}')
+    def _claim(self) -> None:
+        """Makes the file, which must not be there yet."""
+        try:
+            os.close(os.open(self.place, os.O_CREAT | os.O_EXCL | os.O_RDWR, 0o644))
+        except FileExistsError:
+            raise Misuse(f'{self.place}: is there already') from None
+        except OSError as error:
+            raise Unavailable(f'{self.place}: {error.strerror}') from None
+
+    def _execute(self, statement: str, arguments: Sequence = ()) -> sqlite3.Cursor:
+        """Executes a statement. While another connection has the lock it tries again, at random moments, so that all that wait get their turn."""
+        end = 0.0
+        while True:
+            try:
+                return self._connection.execute(statement, arguments)
+            except _SQLITE_ERRORS as error:
+                end = end or time.monotonic() + _PATIENCE
+                if 'locked' not in str(error) or time.monotonic() > end:
+                    raise self._failure(error) from None
+            time.sleep(random.uniform(0, _PAUSE))
+
+    def _failure(self, error: Exception) -> StoreError:
+        """What SQLite raises, as an error of the store. A damaged schema makes messages that are not text."""
+        if isinstance(error, UnicodeError):
+            return Damaged(f'{self.place}: the schema is damaged')
+        return (Unavailable if isinstance(error, sqlite3.OperationalError) else Damaged)(f'{self.place}: {error}')
 
     def create(self, rows: Sequence[Statement]) -> None:
-        """Makes the tables and their first rows."""
-        with self._failures():
-            self._connection.execute('BEGIN IMMEDIATE')
-            for statement in _SCHEMA:
-                self._connection.execute(statement.format(**self._TYPES))
-        self.commit(rows)
-
-    def begin(self) -> tuple:
-        """Locks the store and reads its row."""
-        execute = self._connection.execute
+        """Makes the tables and their first rows. Where that fails no file is left behind."""
         try:
-            execute('BEGIN IMMEDIATE')
-            return execute(READ).fetchone()
-        except sqlite3.Error as error:
-            raise self._failure(error) from None
+            self._execute('BEGIN IMMEDIATE')
+            for statement in _SCHEMA:
+                self._execute(statement.format(**self._TYPES))
+            self.commit(rows)
+        except StoreError:
+            self.destroy()
+            raise
+
+    def begin(self) -> Optional[tuple]:
+        """Locks the store and reads its row."""
+        self._execute('BEGIN IMMEDIATE')
+        return self.row(READ)
 
     def commit(self, statements: Sequence[Statement]) -> None:
         """Writes, and returns when it is durable."""
-        execute = self._connection.execute
-        try:
-            for statement, arguments in statements:
-                execute(statement, arguments)
-            execute('COMMIT')
-        except sqlite3.Error as error:
-            raise self._failure(error) from None
+        for statement, arguments in statements:
+            self._execute(statement, arguments)
+        self._execute('COMMIT')
 
     def write(self, statements: Sequence[Statement]) -> None:
         """Writes in a transaction of its own."""
-        with self._failures():
-            self._connection.execute('BEGIN IMMEDIATE')
+        self._execute('BEGIN IMMEDIATE')
         self.commit(statements)
 
     def destroy(self) -> None:
@@ -107,15 +120,14 @@ class SQLite:
 
     def rollback(self) -> None:
         """Gives up the transaction, if one is open."""
-        with contextlib.suppress(sqlite3.Error):
+        with contextlib.suppress(*_SQLITE_ERRORS):
             if self._connection.in_transaction:
                 self._connection.execute('ROLLBACK')
 
     @contextlib.contextmanager
     def snapshot(self) -> Iterator[None]:
         """Everything read within it is of one moment. It locks nobody out."""
-        with self._failures():
-            self._connection.execute('BEGIN')
+        self._execute('BEGIN')
         try:
             yield
         finally:
@@ -123,23 +135,26 @@ class SQLite:
 
     def rows(self, statement: str, arguments: Sequence = ()) -> Iterator[tuple]:
         """The rows that a statement finds."""
-        with self._failures():
-            yield from self._connection.execute(statement, arguments)
+        try:
+            yield from self._execute(statement, arguments)
+        except _SQLITE_ERRORS as error:
+            raise self._failure(error) from None
 
     def row(self, statement: str, arguments: Sequence = ()) -> Optional[tuple]:
         """The one row that a statement finds, or None."""
-        with self._failures():
-            return self._connection.execute(statement, arguments).fetchone()
+        try:
+            return self._execute(statement, arguments).fetchone()
+        except _SQLITE_ERRORS as error:
+            raise self._failure(error) from None
 
     def faults(self) -> List[str]:
         """What the engine itself finds wrong with its file."""
-        with self._failures():
-            found = [line for line, in self._connection.execute('PRAGMA integrity_check')]
+        found = [line for line, in self.rows('PRAGMA integrity_check')]
         return [] if found == ['ok'] else found
 
     def close(self) -> None:
         """Closes the file."""
-        with contextlib.suppress(sqlite3.Error):
+        with contextlib.suppress(*_SQLITE_ERRORS):
             self._connection.close()
 
 
@@ -199,14 +214,18 @@ class PostgreSQL:
             self._connect()
 
     def create(self, rows: Sequence[Statement]) -> None:
-        """Makes the tables and their first rows."""
-        with self._failures():
-            self._execute('BEGIN')
-            for statement in _SCHEMA:
-                self._execute(statement.format(**self._TYPES))
-            for statement in self._STORAGE:
-                self._execute(statement)
-        self.commit(rows)
+        """Makes the tables and their first rows. Where that fails nothing is left behind."""
+        try:
+            with self._failures():
+                self._execute('BEGIN')
+                for statement in _SCHEMA:
+                    self._execute(statement.format(**self._TYPES))
+                for statement in self._STORAGE:
+                    self._execute(statement)
+            self.commit(rows)
+        except StoreError:
+            self.close()
+            raise
 
     def begin(self) -> tuple:
         """Locks the store and reads its row. The second statement sees what the first one waited for."""

@@ -98,9 +98,9 @@ def import_store(place: str, lines: Iterable[str], progress: Progress = lambda d
     lines = iter(lines)
     store = _first(next(lines, ''))
     engine = engine_of(place, create=True)
+    engine.create([])
     sound = False
     try:
-        engine.create([])
         for portion in _portions(lines):
             engine.write(portion)
         engine.write([store])
