@@ -1,16 +1,21 @@
 """The durable store: encodings, calls, log, audit, transfer and commands, on SQLite and, where it is installed, on PostgreSQL."""
+import contextlib
 import io
 import json
 import os
 import random
+import shutil
+import sqlite3
+import subprocess
 import tempfile
 import threading
 import unittest
 from pathlib import Path
 
-from .support import DAY, DECRYPT, EXPAND, KM0, REDUCE, SIGN, acl_of, command, record, use
+from .support import DAY, DECRYPT, EXPAND, HEADER, KM0, REDUCE, ROOT, SIGN, acl_of, command, record, use
 
 from akubolinfe import Cabinet, Ledger, Reply, Run, Slot
+from akubolinfe._library import library
 from akubolinfe.encoding import EncodingError, decode_cabinet, decode_ledger, encode_cabinet, encode_ledger
 from akubolinfe.store import Damaged, Entry, Misuse, State, Store, StoreError, Unavailable, audit, export_store, import_store
 from akubolinfe.store import calls, keeper
@@ -461,6 +466,31 @@ class Command(unittest.TestCase):
         Path(export).write_text('\n'.join([first] + rest[:-1]))
         status, _, error = command('store', 'init', self.file('bad.db'), '--from', export)
         self.assertEqual((status, Path(self.file('bad.db')).exists()), (2, False), error)
+
+
+@unittest.skipUnless(shutil.which('gcc') and os.path.exists('/usr/include/sqlite3.h'), 'gcc or libsqlite3-dev is not installed')
+class InC(unittest.TestCase):
+    """The example of a C host: save, then act."""
+
+    def test_example(self):
+        with tempfile.TemporaryDirectory(prefix='akubolinfe-example-') as folder:
+            example, place = os.path.join(folder, 'example_store'), os.path.join(folder, 'cabinet.db')
+            found = os.path.realpath(library().path)
+            subprocess.run(['gcc', '-std=c99', '-O2', '-Wall', '-Wextra', '-Werror', '-pedantic', '-I', str(HEADER.parent), '-o', example,
+                            str(ROOT / 'host' / 'example_store.c'), found, f'-Wl,-rpath,{os.path.dirname(found)}', '-lsqlite3'], check=True)
+
+            def day():
+                return subprocess.run([example, place, *map(str, DAY)], stdout=subprocess.PIPE, check=True).stdout.decode().splitlines()
+            self.assertEqual(day(), ['1 permit 0', '2 permit 1', '3 permit 1', '4 refuse 7 0'])
+            self.assertEqual([line.split()[1] for line in day()], ['refuse'] * 4)
+            with contextlib.closing(sqlite3.connect(place)) as connection:
+                encoded, = connection.execute('SELECT state FROM cabinet').fetchone()
+                self.assertEqual(decode_cabinet(encoded).slots[0].counts[:3], (1, 2, 0))
+                self.assertEqual(encode_cabinet(decode_cabinet(encoded)), encoded)
+                connection.execute('UPDATE cabinet SET state = ?', (encoded[:-1] + b'x',))
+                connection.commit()
+            damaged = subprocess.run([example, place, *map(str, DAY)], stdout=subprocess.PIPE, stderr=subprocess.PIPE)
+            self.assertEqual((damaged.returncode, damaged.stdout, damaged.stderr), (2, b'', b'the state is damaged\n'))
 
 
 if __name__ == '__main__':
