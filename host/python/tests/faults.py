@@ -163,8 +163,8 @@ class Clock:
         check(time.monotonic() < self._end, 'the time is up (--minutes)')
 
 
-def survive_kills(fresh: Callable[[int], str], kills: int, clock: Clock) -> str:
-    """Kills workers of a store, one after the other. Now and then the store is a new one, so that audits stay short."""
+def survive_kills(fresh: Callable[[int], str], kills: int, longest: float, clock: Clock) -> str:
+    """Kills workers of a store, one after the other, each within `longest` seconds. Now and then the store is a new one, so that audits stay short."""
     answers = in_flight = known = 0
     place = ''
     for kill in range(kills):
@@ -172,7 +172,7 @@ def survive_kills(fresh: Callable[[int], str], kills: int, clock: Clock) -> str:
         if kill % 40 == 0:
             place, known = fresh(kill), 0
             create(place)
-        permits = killed(place, kill, 0.12)
+        permits = killed(place, kill, longest)
         now = charged(place)
         # A run in flight may have charged many; it is one call, and none of it was answered.
         check(now >= known + sum(permits), f'kill {kill}: {sum(permits)} permits were answered, and {now - known} are in the state')
@@ -457,7 +457,7 @@ def on_sqlite(faults: Faults, folder: str, args, clock: Clock) -> None:
     """The faults of a store in SQLite."""
     def place(name: str) -> str:
         return os.path.join(folder, name)
-    faults.attempt('SQLite, kill -9 of a worker', lambda: survive_kills(lambda kill: place(f'kills-{kill}.db'), args.kills, clock))
+    faults.attempt('SQLite, kill -9 of a worker', lambda: survive_kills(lambda kill: place(f'kills-{kill}.db'), args.kills, 0.12, clock))
     faults.attempt('SQLite, eight processes', lambda: survive_race(place('race.db')))
     faults.attempt('SQLite, full disk', lambda: survive_full_disk(folder))
     faults.attempt('SQLite, read-only file', lambda: survive_read_only(folder))
@@ -475,7 +475,7 @@ def on_postgresql(faults: Faults, args, clock: Clock) -> None:
         faults.attempt('PostgreSQL, all faults', leave_out)
         return
     with servers.Server() as server:
-        faults.attempt('PostgreSQL, kill -9 of a client', lambda: survive_kills(lambda kill: server.place(f'kills_{kill}'), args.clients, clock))
+        faults.attempt('PostgreSQL, kill -9 of a client', lambda: survive_kills(lambda kill: server.place(f'kills_{kill}'), args.clients, 0.5, clock))
         faults.attempt('PostgreSQL, crash of the server', lambda: survive_crashes(server, args.crashes, clock))
         faults.attempt('PostgreSQL, eight processes', lambda: survive_race(server.place('race')))
         faults.attempt('PostgreSQL, clock back', lambda: survive_clock(server.place('clock')))

@@ -11,7 +11,7 @@ import random
 import re
 import sqlite3
 import time
-from typing import Iterator, List, Optional, Sequence, Tuple
+from typing import Dict, Iterator, List, Optional, Sequence, Tuple
 from urllib.parse import quote, urlsplit, urlunsplit
 
 from .errors import Damaged, Misuse, StoreError, Unavailable
@@ -27,6 +27,7 @@ _SCHEMA = (
 # The row of the store beside that of the last entry of its log, which names the state's SHA-256 and has the head as its hash.
 READ = ('SELECT s.entries, s.head, s.state, l.state, l.hash FROM akubolinfe_store s LEFT JOIN akubolinfe_log l ON l.number = s.entries'
         ' WHERE s.id = 1')
+_LOCK = 'SELECT id FROM akubolinfe_store WHERE id = 1 FOR UPDATE'
 
 # How long a call waits for others that have the lock, and the most that it waits before it tries again, in seconds.
 _PATIENCE, _PAUSE = 60.0, 0.002
@@ -189,11 +190,23 @@ class PostgreSQL:
     def _connect(self) -> None:
         self._connection = self._driver.connect(self._address, application_name='akubolinfe')
         self._connection.autocommit = True
+        self._prepared: Dict[str, str] = {}
         # Nothing is answered that is not durable, whatever the server's default is.
         self._execute(f'SET search_path TO {self._schema}; SET synchronous_commit TO on')
         for setting in ('fsync', 'full_page_writes'):
             if self._execute(f'SHOW {setting}').fetchone()[0] != 'on':
                 raise Unavailable(f'{self.place}: the server has {setting} off, so that it loses commits in a crash')
+
+    def _planned(self, statement: str) -> str:
+        """A statement that the server parses and plans once for this connection."""
+        name = self._prepared.get(statement)
+        if name is None:
+            name = f'akubolinfe_{len(self._prepared)}'
+            parts = statement.split('?')
+            self._execute(f'PREPARE {name} AS ' + parts[0] + ''.join(f'${number}{part}' for number, part in enumerate(parts[1:], 1)))
+            self._prepared[statement] = name
+        places = ', '.join('?' * statement.count('?'))
+        return f'EXECUTE {name} ({places})' if places else f'EXECUTE {name}'
 
     def _execute(self, statement: str, arguments: Sequence = ()):
         cursor = self._connection.cursor()
@@ -231,13 +244,13 @@ class PostgreSQL:
         """Locks the store and reads its row. The second statement sees what the first one waited for."""
         with self._failures():
             self._connected()
-            return _plain(self._execute('BEGIN; SELECT id FROM akubolinfe_store WHERE id = 1 FOR UPDATE; ' + READ).fetchone())
+            return _plain(self._execute(f'BEGIN; {self._planned(_LOCK)}; {self._planned(READ)}').fetchone())
 
     def commit(self, statements: Sequence[Statement]) -> None:
         """Writes, and returns when it is durable."""
         arguments = [value for _, values in statements for value in values]
         with self._failures():
-            self._execute('; '.join([statement for statement, _ in statements] + ['COMMIT']), arguments)
+            self._execute('; '.join([self._planned(statement) for statement, _ in statements] + ['COMMIT']), arguments)
 
     def write(self, statements: Sequence[Statement]) -> None:
         """Writes in a transaction of its own."""
