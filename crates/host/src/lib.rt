@@ -11,13 +11,12 @@ ghost use Rattle.rules.specs.Prepared.{prepare, preparedRun};
 ghost use Rattle.rules.specs.CabinetRuns.{cabinetRun, cabinetPreparedRun};
 ghost use Rattle.listings.specs.Listing.{writeListing, readListingInto};
 ghost use Rattle.desk.specs.Replies as replies;
-ghost use Rattle.judging.specs.Standings.{ledgerOfTables};
 ghost use Rattle.gate.specs.Outcomes.{ledgerAs};
 ghost use Rattle.cabinet.specs.Kept.{cabinetAs};
 ghost use Rattle.prepared.specs.Forms.{formAs, preparationFor};
 ghost use Rattle.row.specs.Rows.{rowAs};
 ghost use Rattle.host_runs.specs.Surface.{hostRunAs, hostRunFor, hostCabinetRunAs, hostCabinetRunFor, hostFormAs, hostFormFor};
-ghost use Rattle.surface.specs.Surface.{hostOutcomeAs, hostOutcomeIn, hostOutcomeFor, hostCabinetOutcomeAs, hostCabinetOutcomeFor, hostWrittenAs, hostWrittenFor, hostVerdictAs, hostVerdictFor, hostListingAs, hostListingFor, hostTrimmedAs, hostTrimmedFor};
+ghost use Rattle.surface.specs.Surface.{hostOutcomeAs, hostOutcomeFor, hostCabinetOutcomeAs, hostCabinetOutcomeFor, hostSubjectAs, hostSubjectFor, hostVerdictAs, hostVerdictFor, hostTextAs, hostTextFor, hostTrimAs, hostTrimFor};
 use cabinet::Cabinet;
 use gate::Ledger;
 use host_runs::HostCabinetRun;
@@ -26,12 +25,19 @@ use host_runs::HostRun;
 use prepared::Prepared;
 use row::Certificate;
 use surface::HostCabinetOutcome;
-use surface::HostListing;
 use surface::HostOutcome;
-use surface::HostReply;
-use surface::HostTrimmed;
+use surface::HostSubject;
+use surface::HostText;
+use surface::HostTrim;
 use surface::HostVerdict;
-use surface::HostWritten;
+
+// The number of the binary interface, AKUBOLINFE_ABI of the header.
+#[no_mangle]
+pub extern "C" fn akubolinfe_abi() -> u32
+    ensures { λ r. ⌜ r ≡ 1 ⌝ }
+{
+    1
+}
 
 // The fresh ledger.
 #[no_mangle]
@@ -97,57 +103,6 @@ pub extern "C" fn akubolinfe_expand(
     ensures { λ r. ⌜ hostOutcomeAs r ≡ hostOutcomeFor (expand (ledgerAs ledger) (now (km0 .entry)) (now (acl .entry)) (now (req .entry)) (now (new .entry))) ⌝ }
 {
     surface::host_outcome(ledger.expand(km0, acl, req, new))
-}
-
-// A request on a ledger that stays where the host has it: its tables and its last time are lent, and are charged there.
-#[no_mangle]
-pub extern "C" fn akubolinfe_request_in_place(
-    counts: &mut [u32; Ledger::GROUPS],
-    counters: &mut [u32; Ledger::COUNTERS],
-    loaded: u64,
-    last: &mut u64,
-    km0: &[u8],
-    acl: &[u8],
-    req: &[u8],
-) -> HostReply
-    ensures { λ r. ⌜ hostOutcomeIn r (ledgerOfTables (now (counts .exit)) (now (counters .exit)) loaded (now (last .exit))) ≡ hostOutcomeFor (request (ledgerOfTables (now (counts .entry)) (now (counters .entry)) loaded (now (last .entry))) (now (km0 .entry)) (now (acl .entry)) (now (req .entry))) ⌝ }
-{
-    surface::host_reply(in_place::request(counts, counters, loaded, last, km0, acl, req))
-}
-
-// A narrowing in place.
-#[no_mangle]
-pub extern "C" fn akubolinfe_narrow_in_place(
-    counts: &mut [u32; Ledger::GROUPS],
-    counters: &mut [u32; Ledger::COUNTERS],
-    loaded: u64,
-    last: &mut u64,
-    km0: &[u8],
-    acl: &[u8],
-    req: &[u8],
-    new: &[u8],
-    hints: &[u8],
-) -> HostReply
-    ensures { λ r. ⌜ hostOutcomeIn r (ledgerOfTables (now (counts .exit)) (now (counters .exit)) loaded (now (last .exit))) ≡ hostOutcomeFor (narrow (ledgerOfTables (now (counts .entry)) (now (counters .entry)) loaded (now (last .entry))) (now (km0 .entry)) (now (acl .entry)) (now (req .entry)) (now (new .entry)) (now (hints .entry))) ⌝ }
-{
-    surface::host_reply(in_place::narrow(counts, counters, loaded, last, km0, acl, req, new, hints))
-}
-
-// An expansion in place.
-#[no_mangle]
-pub extern "C" fn akubolinfe_expand_in_place(
-    counts: &mut [u32; Ledger::GROUPS],
-    counters: &mut [u32; Ledger::COUNTERS],
-    loaded: u64,
-    last: &mut u64,
-    km0: &[u8],
-    acl: &[u8],
-    req: &[u8],
-    new: &[u8],
-) -> HostReply
-    ensures { λ r. ⌜ hostOutcomeIn r (ledgerOfTables (now (counts .exit)) (now (counters .exit)) loaded (now (last .exit))) ≡ hostOutcomeFor (expand (ledgerOfTables (now (counts .entry)) (now (counters .entry)) loaded (now (last .entry))) (now (km0 .entry)) (now (acl .entry)) (now (req .entry)) (now (new .entry))) ⌝ }
-{
-    surface::host_reply(in_place::expand(counts, counters, loaded, last, km0, acl, req, new))
 }
 
 // The fresh cabinet.
@@ -238,29 +193,29 @@ pub extern "C" fn akubolinfe_subject(
     suite: u64,
     hashes: &[u8],
     buffer: &mut [u8],
-) -> HostWritten
-    ensures reply { λ r. ⌜ hostWrittenAs r ≡ hostWrittenFor (subjectReply certificate suite (now (hashes .entry)) (now (buffer .entry))) ⌝ }
+) -> HostSubject
+    ensures reply { λ r. ⌜ hostSubjectAs r ≡ hostSubjectFor (subjectReply certificate suite (now (hashes .entry)) (now (buffer .entry))) ⌝ }
     ensures bytes { λ _. ⌜ now (buffer .exit) ≡ subjectBuffer certificate suite (now (hashes .entry)) (now (buffer .entry)) ⌝ }
 {
-    surface::host_written(subject::write_subject(certificate, suite, hashes, buffer))
+    surface::host_subject(subject::write_subject(certificate, suite, hashes, buffer))
 }
 
 // An ACL's listing, at the front of the buffer.
 #[no_mangle]
-pub extern "C" fn akubolinfe_write_listing(acl: &[u8], buffer: &mut [u8]) -> HostListing
-    ensures reply { λ r. ⌜ hostListingAs r ≡ hostListingFor (writeListing (now (acl .entry)) (now (buffer .entry)) .reply) ⌝ }
+pub extern "C" fn akubolinfe_write_listing(acl: &[u8], buffer: &mut [u8]) -> HostText
+    ensures reply { λ r. ⌜ hostTextAs r ≡ hostTextFor (writeListing (now (acl .entry)) (now (buffer .entry)) .reply) ⌝ }
     ensures bytes { λ _. ⌜ now (buffer .exit) ≡ writeListing (now (acl .entry)) (now (buffer .entry)) .buffer ⌝ }
 {
-    surface::host_listing(listing::write_listing(acl, buffer))
+    surface::host_text(listing::write_listing(acl, buffer))
 }
 
 // A listing's ACL, at the front of the buffer.
 #[no_mangle]
-pub extern "C" fn akubolinfe_read_listing(text: &[u8], buffer: &mut [u8]) -> HostListing
-    ensures reply { λ r. ⌜ hostListingAs r ≡ hostListingFor (readListingInto (now (text .entry)) (now (buffer .entry)) .reply) ⌝ }
+pub extern "C" fn akubolinfe_read_listing(text: &[u8], buffer: &mut [u8]) -> HostText
+    ensures reply { λ r. ⌜ hostTextAs r ≡ hostTextFor (readListingInto (now (text .entry)) (now (buffer .entry)) .reply) ⌝ }
     ensures bytes { λ _. ⌜ now (buffer .exit) ≡ readListingInto (now (text .entry)) (now (buffer .entry)) .buffer ⌝ }
 {
-    surface::host_listing(listing::read_listing(text, buffer))
+    surface::host_text(listing::read_listing(text, buffer))
 }
 
 // The form of an ACL.
@@ -344,17 +299,17 @@ pub extern "C" fn akubolinfe_cabinet_prepared_run(
     ))
 }
 
-// The trimmed ACL at the front of one buffer, its hints at the front of the other. Any answer but 1 leaves both.
+// The trimmed ACL at the front of one buffer, its hints at the front of the other.
 #[no_mangle]
 pub extern "C" fn akubolinfe_trim(
     bundle: &[u8],
     acl: &[u8],
     new: &mut [u8],
     hints: &mut [u8],
-) -> HostTrimmed
-    ensures reply { λ r. ⌜ hostTrimmedAs r ≡ hostTrimmedFor (trimReply (now (bundle .entry)) (now (acl .entry)) (now (new .entry)) (now (hints .entry))) ⌝ }
+) -> HostTrim
+    ensures reply { λ r. ⌜ hostTrimAs r ≡ hostTrimFor (trimReply (now (bundle .entry)) (now (acl .entry)) (now (new .entry)) (now (hints .entry))) ⌝ }
     ensures trimmed { λ _. ⌜ now (new .exit) ≡ trimAclBuffer (now (bundle .entry)) (now (acl .entry)) (now (new .entry)) (now (hints .entry)) ⌝ }
     ensures hinted { λ _. ⌜ now (hints .exit) ≡ trimHintBuffer (now (bundle .entry)) (now (acl .entry)) (now (new .entry)) (now (hints .entry)) ⌝ }
 {
-    surface::host_trimmed(trimming::trim(bundle, acl, new, hints))
+    surface::host_trim(trimming::trim(bundle, acl, new, hints))
 }

@@ -1,4 +1,4 @@
--- A run, and a prepared form, in plain numbers, as the code gives them and as the definitions do.
+-- Runs and prepared forms in plain numbers, as the code gives them and as the definitions do. "refusal first, 0 where there is none"
 use Prim.Native.Nat.{ℕ}
 use mathlib.Core.Option.{Option, none, some}
 use Rattle.rules.specs.Basics.{Bytes}
@@ -14,58 +14,53 @@ use Rattle.host_runs.specs.declared.HostRun.{HostRun}
 use Rattle.host_runs.specs.declared.HostCabinetRun.{HostCabinetRun}
 use Rattle.host_runs.specs.declared.HostForm.{HostForm}
 
--- what the reply is: 1 a run, 2 a refusal of it as a whole
-abbrev pub runCode : RunReply → ℕ
-runCode (ran n) = 1
-runCode (refusedWhole n) = 2
+-- the refusal of a run as a whole
+abbrev pub runRefusal : RunReply → ℕ
+runRefusal (ran n) = 0
+runRefusal (refusedWhole n) = n
 
--- the number of its requests, or of the refusal
-abbrev pub runNumber : RunReply → ℕ
-runNumber (ran n) = n
-runNumber (refusedWhole n) = n
+-- the number of its requests
+abbrev pub runCount : RunReply → ℕ
+runCount (ran n) = n
+runCount (refusedWhole n) = 0
 
--- what is handed over of a run, with the answer buffer
+-- A run: its answer, the ledger after it, and the answer buffer.
 pub record RunInNumbers : Type 0 where
+  pub refusal : ℕ
+  pub count : ℕ
   pub ledger : rules.Ledger
-  pub answer : ℕ
-  pub number : ℕ
   pub buffer : Bytes
 
 abbrev pub hostRunAs : HostRun → Bytes → RunInNumbers
-hostRunAs r buffer = record { ledger = ledgerAs (r .ledger); answer = r .answer; number = r .number; buffer = buffer }
+hostRunAs r buffer = record { refusal = r .refusal; count = r .count; ledger = ledgerAs (r .ledger); buffer = buffer }
 
 abbrev pub hostRunFor : RunOutcome → RunInNumbers
-hostRunFor o = record { ledger = o .ledger; answer = runCode (o .reply); number = runNumber (o .reply); buffer = o .buffer }
+hostRunFor o = record { refusal = runRefusal (o .reply); count = runCount (o .reply); ledger = o .ledger; buffer = o .buffer }
 
--- .. in a slot of a cabinet
+-- A run in a slot of a cabinet.
 pub record CabinetRunInNumbers : Type 0 where
+  pub refusal : ℕ
+  pub count : ℕ
   pub cabinet : Cabinet
-  pub answer : ℕ
-  pub number : ℕ
   pub buffer : Bytes
 
 abbrev pub hostCabinetRunAs : HostCabinetRun → Bytes → CabinetRunInNumbers
-hostCabinetRunAs r buffer = record { cabinet = cabinetAs (r .cabinet); answer = r .answer; number = r .number; buffer = buffer }
+hostCabinetRunAs r buffer = record { refusal = r .refusal; count = r .count; cabinet = cabinetAs (r .cabinet); buffer = buffer }
 
 abbrev pub hostCabinetRunFor : CabinetRan → CabinetRunInNumbers
-hostCabinetRunFor o = record { cabinet = o .cabinet; answer = runCode (o .reply); number = runNumber (o .reply); buffer = o .buffer }
+hostCabinetRunFor o = record { refusal = runRefusal (o .reply); count = runCount (o .reply); cabinet = o .cabinet; buffer = o .buffer }
 
--- what is handed over where a form is asked for: 1 and the form, or 2, the ACL's refusal and the form of no groups
+-- A form, or the ACL's refusal and the form of no groups.
 pub record FormInNumbers : Type 0 where
+  pub refusal : ℕ
   pub form : Form
-  pub answer : ℕ
-  pub number : ℕ
 
 abbrev pub hostFormAs : HostForm → FormInNumbers
-hostFormAs r = record { form = formAs (r .form); answer = r .answer; number = r .number }
-
-abbrev pub faultCode : Option ℕ → ℕ
-faultCode none = 1
-faultCode (some n) = 2
+hostFormAs r = record { refusal = r .refusal; form = formAs (r .form) }
 
 abbrev pub faultNumber : Option ℕ → ℕ
 faultNumber none = 0
 faultNumber (some n) = n
 
 abbrev pub hostFormFor : Answered → FormInNumbers
-hostFormFor a = record { form = a .form; answer = faultCode (a .fault); number = faultNumber (a .fault) }
+hostFormFor a = record { refusal = faultNumber (a .fault); form = a .form }

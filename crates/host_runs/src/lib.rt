@@ -1,10 +1,10 @@
-// A run, and a prepared form, as the C surface hands them over: the ledger or the form, and plain numbers.
+// The answers of the C surface for runs and prepared forms, in plain structs of numbers. Each begins with the refusal, 0 where there is none.
 ghost use mathlib.Core.Path.{_≡_};
 ghost use Rattle.rules.specs.Basics.{Bytes};
 ghost use Rattle.prepared.specs.Forms.{formAs, preparationAs};
 ghost use Rattle.runs.specs.Judged.{runReplyAs, runOutcomeAs};
 ghost use Rattle.slots.specs.Handed.{cabinetRanAs};
-ghost use Rattle.host_runs.specs.Surface.{runCode, runNumber, hostRunAs, hostRunFor, hostCabinetRunAs, hostCabinetRunFor, hostFormAs, hostFormFor};
+ghost use Rattle.host_runs.specs.Surface.{runRefusal, runCount, hostRunAs, hostRunFor, hostCabinetRunAs, hostCabinetRunFor, hostFormAs, hostFormFor};
 use cabinet::Cabinet;
 use files::Checked;
 use gate::Ledger;
@@ -14,46 +14,46 @@ use runs::RunOutcome;
 use runs::RunReply;
 use slots::CabinetRan;
 
-// A run as the host gets it: the ledger, 1 and the number of requests, or 2 and the refusal.
+// The answer of a run: the number of its requests, and the ledger after it.
 #[repr(C)]
 pub struct HostRun {
+    pub refusal: u32,
+    pub count: u64,
     pub ledger: Ledger,
-    pub answer: u64,
-    pub number: u64,
 }
 
-// A run in a slot of a cabinet as the host gets it: the cabinet, and the numbers of a run.
+// .. and the cabinet after it.
 #[repr(C)]
 pub struct HostCabinetRun {
+    pub refusal: u32,
+    pub count: u64,
     pub cabinet: Cabinet,
-    pub answer: u64,
-    pub number: u64,
 }
 
-// A form as the host gets it: 1 and the form, or 2, the ACL's refusal and the form of no groups.
+// The form of an ACL, or the ACL's refusal and the form of no groups.
 #[repr(C)]
 pub struct HostForm {
+    pub refusal: u32,
     pub form: Prepared,
-    pub answer: u64,
-    pub number: u64,
 }
 
-// What a reply is, and its number.
-fn run_code(reply: RunReply) -> u64
-    ensures { λ r. ⌜ r ≡ runCode (runReplyAs reply) ⌝ }
+// The refusal of a run as a whole, 0 where there is none.
+fn run_refusal(reply: RunReply) -> u32
+    ensures { λ r. ⌜ r ≡ runRefusal (runReplyAs reply) ⌝ }
 {
     match reply {
-        RunReply::Ran(_) => 1,
-        RunReply::Refused(_) => 2,
+        RunReply::Ran(_) => 0,
+        RunReply::Refused(why) => refusals::number(why) as u32,
     }
 }
 
-fn run_number(reply: RunReply) -> u64
-    ensures { λ r. ⌜ r ≡ runNumber (runReplyAs reply) ⌝ }
+// The number of its requests.
+fn run_count(reply: RunReply) -> u64
+    ensures { λ r. ⌜ r ≡ runCount (runReplyAs reply) ⌝ }
 {
     match reply {
         RunReply::Ran(n) => n as u64,
-        RunReply::Refused(why) => refusals::number(why) as u64,
+        RunReply::Refused(_) => 0,
     }
 }
 
@@ -64,9 +64,9 @@ pub fn run(o: RunOutcome) -> HostRun
     let reply = o.reply;
     let ledger = o.ledger;
     HostRun {
+        refusal: run_refusal(reply),
+        count: run_count(reply),
         ledger,
-        answer: run_code(reply),
-        number: run_number(reply),
     }
 }
 
@@ -77,21 +77,17 @@ pub fn cabinet_run(o: CabinetRan) -> HostCabinetRun
     let reply = o.reply;
     let cabinet = o.cabinet;
     HostCabinetRun {
+        refusal: run_refusal(reply),
+        count: run_count(reply),
         cabinet,
-        answer: run_code(reply),
-        number: run_number(reply),
     }
 }
 
-// A form and the two numbers beside it.
-fn form_numbers(form: Prepared, answer: u64, number: u64) -> HostForm
-    ensures { λ r. ⌜ hostFormAs r ≡ record { form = formAs form; answer = answer; number = number } ⌝ }
+// A refusal, and a form beside it.
+fn form_numbers(refusal: u32, form: Prepared) -> HostForm
+    ensures { λ r. ⌜ hostFormAs r ≡ record { refusal = refusal; form = formAs form } ⌝ }
 {
-    HostForm {
-        form,
-        answer,
-        number,
-    }
+    HostForm { refusal, form }
 }
 
 // A form as the host gets it.
@@ -101,7 +97,7 @@ pub fn form(p: Preparation) -> HostForm
     let fault = p.fault;
     let form = p.form;
     match fault {
-        Checked::Sound => form_numbers(form, 1, 0),
-        Checked::Refused(why) => form_numbers(form, 2, refusals::number(why) as u64),
+        Checked::Sound => form_numbers(0, form),
+        Checked::Refused(why) => form_numbers(refusals::number(why) as u32, form),
     }
 }

@@ -2,16 +2,16 @@ use mathlib.Core.Path.{sym, _∙_, ap}
 use Prim.Native.Nat.{ℕ}
 use Rattle.subject.specs.declared.Written.{Written}
 use Rattle.subject.specs.Writing.{subjectReplyAs}
-use Rattle.surface.specs.Surface.{SubjectInNumbers, hostWrittenFor}
+use Rattle.surface.specs.Surface.{SubjectInNumbers, hostSubjectFor}
 use borrow.Author.Needs.{needs}
-use Rattle.surface.proofs.host_written.Statement.{statement}
-use Rattle.surface.proofs.host_written.Tie as tie
+use Rattle.surface.proofs.host_subject.Statement.{statement}
+use Rattle.surface.proofs.host_subject.Tie as tie
 
 abbrev wroteAs : Written → SubjectInNumbers
-wroteAs w = hostWrittenFor (subjectReplyAs w)
+wroteAs w = hostSubjectFor (subjectReplyAs w)
 
 abbrev refused : ℕ → SubjectInNumbers
-refused n = record { answer = 2; number = n }
+refused n = record { refusal = n; length = 0 }
 
 enum-known-w : tie.Need-enum-known-w
 enum-known-w c = search needs
@@ -31,6 +31,6 @@ returns c = sym (ap wroteAs (c .before .w .given .1))
 returns-2 : tie.Need-returns-2
 returns-2 c = ap refused (c .number .ensures) ∙ sym (ap wroteAs (c .before .before .w2 .given .1))
 
-pub host-written-spec : {M : Type 1} → statement M
-host-written-spec =
+pub host-subject-spec : {M : Type 1} → statement M
+host-subject-spec =
     tie.close (tie.spec enum-known-w enum-known-w-2 number-requires cast-t7 returns returns-2)
