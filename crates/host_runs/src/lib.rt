@@ -1,103 +1,183 @@
-// The answers of the C surface for runs and prepared forms, in plain structs of numbers. Each begins with the refusal, 0 where there is none.
+// The C surface of runs: runs on a ledger and in a slot of a cabinet, by value and in place, and the form of an ACL. A slice is a pointer and a length.
 ghost use mathlib.Core.Path.{_≡_};
-ghost use Rattle.rules.specs.Basics.{Bytes};
-ghost use Rattle.prepared.specs.Forms.{formAs, preparationAs};
-ghost use Rattle.runs.specs.Judged.{runReplyAs, runOutcomeAs};
-ghost use Rattle.slots.specs.Handed.{cabinetRanAs};
-ghost use Rattle.host_runs.specs.Surface.{runRefusal, runCount, hostRunAs, hostRunFor, hostCabinetRunAs, hostCabinetRunFor, hostFormAs, hostFormFor};
+ghost use Rattle.rules.specs.Runs.{run};
+ghost use Rattle.rules.specs.Prepared.{prepare, preparedRun};
+ghost use Rattle.rules.specs.CabinetRuns.{cabinetRun, cabinetPreparedRun};
+ghost use Rattle.gate.specs.Outcomes.{ledgerAs};
+ghost use Rattle.cabinet.specs.Kept.{cabinetAs};
+ghost use Rattle.prepared.specs.Forms.{formAs, preparationFor};
+ghost use Rattle.row.specs.Rows.{rowAs};
+ghost use Rattle.surface_runs.specs.Surface.{hostRunAs, hostRunIn, hostRunFor, hostCabinetRunAs, hostCabinetRunIn, hostCabinetRunFor, hostFormAs, hostFormFor};
 use cabinet::Cabinet;
-use files::Checked;
 use gate::Ledger;
-use prepared::Preparation;
 use prepared::Prepared;
-use runs::RunOutcome;
-use runs::RunReply;
-use slots::CabinetRan;
+use row::Certificate;
+use surface_runs::HostCabinetRun;
+use surface_runs::HostForm;
+use surface_runs::HostRun;
+use surface_runs::HostRunReply;
 
-// The answer of a run: the number of its requests, and the ledger after it.
-#[repr(C)]
-pub struct HostRun {
-    pub refusal: u32,
-    pub count: u64,
-    pub ledger: Ledger,
-}
-
-// .. and the cabinet after it.
-#[repr(C)]
-pub struct HostCabinetRun {
-    pub refusal: u32,
-    pub count: u64,
-    pub cabinet: Cabinet,
-}
-
-// The form of an ACL, or the ACL's refusal and the form of no groups.
-#[repr(C)]
-pub struct HostForm {
-    pub refusal: u32,
-    pub form: Prepared,
-}
-
-// The refusal of a run as a whole, 0 where there is none.
-fn run_refusal(reply: RunReply) -> u32
-    ensures { λ r. ⌜ r ≡ runRefusal (runReplyAs reply) ⌝ }
+// The form of an ACL.
+#[no_mangle]
+pub extern "C" fn akubolinfe_prepare(acl: &[u8]) -> HostForm
+    ensures { λ r. ⌜ hostFormAs r ≡ hostFormFor (preparationFor (prepare (now (acl .entry)))) ⌝ }
 {
-    match reply {
-        RunReply::Ran(_) => 0,
-        RunReply::Refused(why) => refusals::number(why) as u32,
+    surface_runs::form(prepared::prepare(acl))
+}
+
+// A run over decoded certificates.
+#[no_mangle]
+pub extern "C" fn akubolinfe_run(
+    ledger: Ledger,
+    km0: &[u8],
+    acl: &[u8],
+    row: &[Certificate],
+    requests: &[u8],
+    answers: &mut [u8],
+) -> HostRun
+    ensures { λ r. ⌜ hostRunAs r (now (answers .exit)) ≡ hostRunFor (run (ledgerAs ledger) (now (km0 .entry)) (now (acl .entry)) (rowAs (now (row .entry))) (now (requests .entry)) (now (answers .entry))) ⌝ }
+{
+    surface_runs::run(runs::run(ledger, km0, acl, row, requests, answers))
+}
+
+// A run over decoded certificates in place.
+#[no_mangle]
+pub extern "C" fn akubolinfe_run_in_place(
+    ledger: &mut Ledger,
+    km0: &[u8],
+    acl: &[u8],
+    row: &[Certificate],
+    requests: &[u8],
+    answers: &mut [u8],
+) -> HostRunReply
+    ensures { λ r. ⌜ hostRunIn r (now (ledger .exit)) (now (answers .exit)) ≡ hostRunFor (run (ledgerAs (now (ledger .entry))) (now (km0 .entry)) (now (acl .entry)) (rowAs (now (row .entry))) (now (requests .entry)) (now (answers .entry))) ⌝ }
+{
+    let o = akubolinfe_run(*ledger, km0, acl, row, requests, answers);
+    *ledger = o.ledger;
+    HostRunReply {
+        refusal: o.refusal,
+        count: o.count,
     }
 }
 
-// The number of its requests.
-fn run_count(reply: RunReply) -> u64
-    ensures { λ r. ⌜ r ≡ runCount (runReplyAs reply) ⌝ }
+// A run on a prepared ACL.
+#[no_mangle]
+pub extern "C" fn akubolinfe_prepared_run(
+    ledger: Ledger,
+    km0: &[u8],
+    acl: &[u8],
+    row: &[Certificate],
+    form: Prepared,
+    requests: &[u8],
+    answers: &mut [u8],
+) -> HostRun
+    ensures { λ r. ⌜ hostRunAs r (now (answers .exit)) ≡ hostRunFor (preparedRun (ledgerAs ledger) (now (km0 .entry)) (now (acl .entry)) (rowAs (now (row .entry))) (formAs form) (now (requests .entry)) (now (answers .entry))) ⌝ }
 {
-    match reply {
-        RunReply::Ran(n) => n as u64,
-        RunReply::Refused(_) => 0,
+    surface_runs::run(runs::prepared_run(ledger, km0, acl, row, form, requests, answers))
+}
+
+// A run on a prepared ACL in place.
+#[no_mangle]
+pub extern "C" fn akubolinfe_prepared_run_in_place(
+    ledger: &mut Ledger,
+    km0: &[u8],
+    acl: &[u8],
+    row: &[Certificate],
+    form: Prepared,
+    requests: &[u8],
+    answers: &mut [u8],
+) -> HostRunReply
+    ensures { λ r. ⌜ hostRunIn r (now (ledger .exit)) (now (answers .exit)) ≡ hostRunFor (preparedRun (ledgerAs (now (ledger .entry))) (now (km0 .entry)) (now (acl .entry)) (rowAs (now (row .entry))) (formAs form) (now (requests .entry)) (now (answers .entry))) ⌝ }
+{
+    let o = akubolinfe_prepared_run(*ledger, km0, acl, row, form, requests, answers);
+    *ledger = o.ledger;
+    HostRunReply {
+        refusal: o.refusal,
+        count: o.count,
     }
 }
 
-// A run as the host gets it.
-pub fn run(o: RunOutcome) -> HostRun
-    ensures { λ r. ⌜ ((buffer : Bytes) → hostRunAs r buffer ≡ hostRunFor (runOutcomeAs o buffer)) ⌝ }
+// A run over decoded certificates in a slot of a cabinet.
+#[no_mangle]
+pub extern "C" fn akubolinfe_cabinet_run(
+    cabinet: Cabinet,
+    slot: usize,
+    km0: &[u8],
+    acl: &[u8],
+    row: &[Certificate],
+    requests: &[u8],
+    answers: &mut [u8],
+) -> HostCabinetRun
+    ensures { λ r. ⌜ hostCabinetRunAs r (now (answers .exit)) ≡ hostCabinetRunFor (cabinetRun (cabinetAs cabinet) slot (now (km0 .entry)) (now (acl .entry)) (rowAs (now (row .entry))) (now (requests .entry)) (now (answers .entry))) ⌝ }
 {
-    let reply = o.reply;
-    let ledger = o.ledger;
-    HostRun {
-        refusal: run_refusal(reply),
-        count: run_count(reply),
-        ledger,
+    surface_runs::cabinet_run(slots::run(cabinet, slot, km0, acl, row, requests, answers))
+}
+
+// A run over decoded certificates in a slot, in place.
+#[no_mangle]
+pub extern "C" fn akubolinfe_cabinet_run_in_place(
+    cabinet: &mut Cabinet,
+    slot: usize,
+    km0: &[u8],
+    acl: &[u8],
+    row: &[Certificate],
+    requests: &[u8],
+    answers: &mut [u8],
+) -> HostRunReply
+    ensures { λ r. ⌜ hostCabinetRunIn r (now (cabinet .exit)) (now (answers .exit)) ≡ hostCabinetRunFor (cabinetRun (cabinetAs (now (cabinet .entry))) slot (now (km0 .entry)) (now (acl .entry)) (rowAs (now (row .entry))) (now (requests .entry)) (now (answers .entry))) ⌝ }
+{
+    let o = akubolinfe_cabinet_run(*cabinet, slot, km0, acl, row, requests, answers);
+    *cabinet = o.cabinet;
+    HostRunReply {
+        refusal: o.refusal,
+        count: o.count,
     }
 }
 
-// A run in a slot of a cabinet as the host gets it.
-pub fn cabinet_run(o: CabinetRan) -> HostCabinetRun
-    ensures { λ r. ⌜ ((buffer : Bytes) → hostCabinetRunAs r buffer ≡ hostCabinetRunFor (cabinetRanAs o buffer)) ⌝ }
+// A run on a prepared ACL in a slot of a cabinet.
+#[no_mangle]
+pub extern "C" fn akubolinfe_cabinet_prepared_run(
+    cabinet: Cabinet,
+    slot: usize,
+    km0: &[u8],
+    acl: &[u8],
+    row: &[Certificate],
+    form: Prepared,
+    requests: &[u8],
+    answers: &mut [u8],
+) -> HostCabinetRun
+    ensures { λ r. ⌜ hostCabinetRunAs r (now (answers .exit)) ≡ hostCabinetRunFor (cabinetPreparedRun (cabinetAs cabinet) slot (now (km0 .entry)) (now (acl .entry)) (rowAs (now (row .entry))) (formAs form) (now (requests .entry)) (now (answers .entry))) ⌝ }
 {
-    let reply = o.reply;
-    let cabinet = o.cabinet;
-    HostCabinetRun {
-        refusal: run_refusal(reply),
-        count: run_count(reply),
+    surface_runs::cabinet_run(slots::prepared_run(
         cabinet,
-    }
+        slot,
+        km0,
+        acl,
+        row,
+        form,
+        requests,
+        answers,
+    ))
 }
 
-// A refusal, and a form beside it.
-fn form_numbers(refusal: u32, form: Prepared) -> HostForm
-    ensures { λ r. ⌜ hostFormAs r ≡ record { refusal = refusal; form = formAs form } ⌝ }
+// A run on a prepared ACL in a slot, in place.
+#[no_mangle]
+pub extern "C" fn akubolinfe_cabinet_prepared_run_in_place(
+    cabinet: &mut Cabinet,
+    slot: usize,
+    km0: &[u8],
+    acl: &[u8],
+    row: &[Certificate],
+    form: Prepared,
+    requests: &[u8],
+    answers: &mut [u8],
+) -> HostRunReply
+    ensures { λ r. ⌜ hostCabinetRunIn r (now (cabinet .exit)) (now (answers .exit)) ≡ hostCabinetRunFor (cabinetPreparedRun (cabinetAs (now (cabinet .entry))) slot (now (km0 .entry)) (now (acl .entry)) (rowAs (now (row .entry))) (formAs form) (now (requests .entry)) (now (answers .entry))) ⌝ }
 {
-    HostForm { refusal, form }
-}
-
-// A form as the host gets it.
-pub fn form(p: Preparation) -> HostForm
-    ensures { λ r. ⌜ hostFormAs r ≡ hostFormFor (preparationAs p) ⌝ }
-{
-    let fault = p.fault;
-    let form = p.form;
-    match fault {
-        Checked::Sound => form_numbers(0, form),
-        Checked::Refused(why) => form_numbers(refusals::number(why) as u32, form),
+    let o = akubolinfe_cabinet_prepared_run(*cabinet, slot, km0, acl, row, form, requests, answers);
+    *cabinet = o.cabinet;
+    HostRunReply {
+        refusal: o.refusal,
+        count: o.count,
     }
 }

@@ -36,9 +36,10 @@ use Rattle.trimming.specs.declared.TrimReply as tool
 use Rattle.trimming.specs.declared.TrimReply.the-variants.{Trimmed, Failed}
 use Rattle.trimming.specs.declared.TrimReply.the-variants as trims
 use Rattle.trimming.specs.Trimming.{trimReplyAs}
+use Rattle.gate.specs.declared.Ledger.{Ledger}
 use Rattle.gate.proofs.Determined.{ledgerBack}
 use Rattle.cabinet.specs.declared.Cabinet.{Cabinet}
-use Rattle.cabinet.proofs.Determined.{cabinetBack, cabinet-back}
+use Rattle.cabinet.proofs.Determined.{cabinetBack, cabinet-back, cabinet-determined}
 use Rattle.surface.specs.declared.HostReply.{HostReply}
 use Rattle.surface.specs.declared.HostOutcome.{HostOutcome}
 use Rattle.surface.specs.declared.HostCabinetOutcome.{HostCabinetOutcome}
@@ -46,7 +47,7 @@ use Rattle.surface.specs.declared.HostVerdict.{HostVerdict}
 use Rattle.surface.specs.declared.HostSubject.{HostSubject}
 use Rattle.surface.specs.declared.HostText.{HostText}
 use Rattle.surface.specs.declared.HostTrim.{HostTrim}
-use Rattle.surface.specs.Surface.{groupNumber, groupOrNone, ReplyInNumbers, hostReplyAs, hostReplyFor, OutcomeInNumbers, hostOutcomeAs, hostOutcomeFor, CabinetInNumbers, hostCabinetOutcomeAs, hostCabinetOutcomeFor, VerdictInNumbers, hostVerdictAs, hostVerdictFor, SubjectInNumbers, hostSubjectAs, hostSubjectFor, TextInNumbers, hostTextAs, hostTextFor, TrimInNumbers, hostTrimAs, hostTrimFor}
+use Rattle.surface.specs.Surface.{groupNumber, groupOrNone, ReplyInNumbers, hostReplyAs, hostReplyFor, OutcomeInNumbers, hostOutcomeAs, hostOutcomeIn, hostOutcomeFor, CabinetInNumbers, hostCabinetOutcomeAs, hostCabinetOutcomeIn, hostCabinetOutcomeFor, VerdictInNumbers, hostVerdictAs, hostVerdictFor, SubjectInNumbers, hostSubjectAs, hostSubjectFor, TextInNumbers, hostTextAs, hostTextFor, TrimInNumbers, hostTrimAs, hostTrimFor}
 
 -- The structs.
 pub reply-determined : (r s : HostReply) → hostReplyAs r ≡ hostReplyAs s → r ≡ s
@@ -54,6 +55,14 @@ reply-determined r s e = ap (λ (t : ReplyInNumbers). record { refusal = t .refu
 
 pub outcome-determined : (o p : HostOutcome) → hostOutcomeAs o ≡ hostOutcomeAs p → o ≡ p
 outcome-determined o p e = ap (λ (t : OutcomeInNumbers). record { refusal = t .reply .refusal; group = t .reply .group; ledger = ledgerBack (t .ledger) }) e
+
+-- of a call in place
+pub left-determined : (r s : HostReply) (l m : Ledger) → hostOutcomeIn r l ≡ hostOutcomeIn s m → (r ≡ s) × (l ≡ m)
+left-determined r s l m e = (reply-determined r s (ap (λ (t : OutcomeInNumbers). t .reply) e), ap (λ (t : OutcomeInNumbers). ledgerBack (t .ledger)) e)
+
+pub cabinet-left-determined : (r s : HostReply) (c d : Cabinet) → hostCabinetOutcomeIn r c ≡ hostCabinetOutcomeIn s d → (r ≡ s) × (c ≡ d)
+cabinet-left-determined r s c d e =
+    (reply-determined r s (ap (λ (t : CabinetInNumbers). t .reply) e), cabinet-determined c d (ap (λ (t : CabinetInNumbers). t .cabinet) e))
 
 abbrev hostCabinet : ReplyInNumbers → Cabinet → HostCabinetOutcome
 hostCabinet r c = record { refusal = r .refusal; group = r .group; cabinet = c }

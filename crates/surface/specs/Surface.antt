@@ -14,7 +14,9 @@ use Rattle.rules.specs.Trim.{TrimReply, trimmed, untrimmed, unread}
 use Rattle.listings.specs.Listing.{ListingReply, produced, refusedWith, refusedAt}
 use Rattle.steps.specs.Steps.{stepNumber}
 use Rattle.desk.specs.Replies.{DeskReply, accepting, failing, refusing}
+use Rattle.gate.specs.declared.Ledger.{Ledger}
 use Rattle.gate.specs.Outcomes.{ledgerAs}
+use Rattle.cabinet.specs.declared.Cabinet.{Cabinet}
 use Rattle.cabinet.specs.Kept.{cabinetAs}
 use Rattle.surface.specs.declared.HostReply.{HostReply}
 use Rattle.surface.specs.declared.HostOutcome.{HostOutcome}
@@ -64,6 +66,10 @@ pub record OutcomeInNumbers : Type 0 where
 abbrev pub hostOutcomeAs : HostOutcome → OutcomeInNumbers
 hostOutcomeAs o = record { ledger = ledgerAs (o .ledger); reply = record { refusal = o .refusal; group = o .group } }
 
+-- of a call in place: its reply, and the ledger that it leaves where it was lent
+abbrev pub hostOutcomeIn : HostReply → Ledger → OutcomeInNumbers
+hostOutcomeIn r l = record { ledger = ledgerAs l; reply = hostReplyAs r }
+
 abbrev pub hostOutcomeFor : Outcome → OutcomeInNumbers
 hostOutcomeFor o = record { ledger = o .ledger; reply = hostReplyFor (o .answer) }
 
@@ -74,6 +80,10 @@ pub record CabinetInNumbers : Type 0 where
 
 abbrev pub hostCabinetOutcomeAs : HostCabinetOutcome → CabinetInNumbers
 hostCabinetOutcomeAs o = record { cabinet = cabinetAs (o .cabinet); reply = record { refusal = o .refusal; group = o .group } }
+
+-- of a call in place
+abbrev pub hostCabinetOutcomeIn : HostReply → Cabinet → CabinetInNumbers
+hostCabinetOutcomeIn r c = record { cabinet = cabinetAs c; reply = hostReplyAs r }
 
 abbrev pub hostCabinetOutcomeFor : cabinet.CabinetOutcome → CabinetInNumbers
 hostCabinetOutcomeFor o = record { cabinet = o .cabinet; reply = hostReplyFor (o .answer) }
