@@ -21,7 +21,7 @@ use sound.WpLaws.{fmOf, WpFn-mono}
 use types.Kit.{Given, ‵, raw, _⊛_, ⋆, _$_, _∵_, !, qed, by, move, drop, use3, split, join, rewrite, fsplit, fsplit3, fjoin, fjoin3, feqL, feqI, suffices, frame, done}
 use types.SemTy.{Body}
 use types.Part.{agg, whole, sub, look-in}
-use types.Run.{look, look-raw, init, store-raw, forget, stop, hop, fld, from, load, of-opd, and-then, no-more, assigns, land, returns, enter, alloc1, alloc0, params1, pass1, pass0, free1, free0}
+use types.Run.{look, look-raw, init, store-raw, forget, stop, hop, fld, from, load, of-opd, addr, and-then, no-more, assigns, land, returns, enter, alloc1, alloc0, params1, pass1, pass0, free1, free0}
 use denote.RattleType.{RattleType, owns}
 use denote.Memory.{mem}
 use denote.Laws.{Is, shows}
@@ -136,33 +136,36 @@ module _ {M : Type 1} (𝓤 : URA M) (H : Heap 𝓤) (A : Atoms 𝓤) (W : Given
     walk g₁ g₂ g₃ g₄ g₅ g₆ =
         qed W ((‵ (flft κ q) ⊛ raw (alive 𝓤 H A callee.signature κs qs)) ∷ ‵ (owns (MutRef (named 0) κ R ∷ ShrSlice (named 1) (κs .0) u8 ∷ ShrSlice (named 2) (κs .1 .0) u8 ∷ ShrSlice (named 3) (κs .1 .1 .0) C.the-row ∷ F.the-row ∷ ShrSlice (named 4) (κs .1 .1 .1 .0) u8 ∷ MutSlice (named 5) (κs .1 .1 .1 .1 .0) u8 ∷ []) x at) ∷ []) ∵
         enter ! (𝓣 .C) (𝓣 .Λ) code.function (vptr b o ∷ only (slice-vals km0) ∷ only (slice-vals acl) ∷ only (slice-vals row) ∷ LL.val F.the-type F′.the-laws form ∷ only (slice-vals requests) ∷ only (slice-vals answers) ∷ []) _ $
-        alloc1 ! (λ l₀. alloc1 ! (λ l₁. alloc1 ! (λ l₂. alloc1 ! (λ l₃. alloc1 ! (λ l₄. alloc1 ! (λ l₅. alloc1 ! (λ l₆. alloc1 ! (λ l₇. alloc1 ! (λ l₈. alloc1 ! (λ l₉. alloc0 ! $ params1 ! $
-        pass1 ! (init ! 16 refl (tt, tt)) $ pass1 ! (init ! 14 refl (tt, (tt, (record { fits = g₁ .0 }, tt)))) $ pass1 ! (init ! 12 refl (tt, (tt, (record { fits = g₂ .0 }, tt)))) $ pass1 ! (init ! 10 refl (tt, (tt, (record { fits = g₃ .0 }, tt)))) $ pass1 ! (init ! 8 refl (LL.lawful F.the-type F′.the-laws 𝓤 H A W .typed form _ g₄ .0)) $ pass1 ! (init ! 6 refl (tt, (tt, (record { fits = g₅ .0 }, tt)))) $ pass1 ! (init ! 4 refl (tt, (tt, (record { fits = g₆ .0 }, tt)))) $ pass0 ! $
+        alloc1 ! (λ l₀. alloc1 ! (λ l₁. alloc1 ! (λ l₂. alloc1 ! (λ l₃. alloc1 ! (λ l₄. alloc1 ! (λ l₅. alloc1 ! (λ l₆. alloc1 ! (λ l₇. alloc1 ! (λ l₈. alloc1 ! (λ l₉. alloc1 ! (λ l₁₀. alloc1 ! (λ l₁₁. alloc0 ! $ params1 ! $
+        pass1 ! (init ! 20 refl (tt, tt)) $ pass1 ! (init ! 18 refl (tt, (tt, (record { fits = g₁ .0 }, tt)))) $ pass1 ! (init ! 16 refl (tt, (tt, (record { fits = g₂ .0 }, tt)))) $ pass1 ! (init ! 14 refl (tt, (tt, (record { fits = g₃ .0 }, tt)))) $ pass1 ! (init ! 12 refl (LL.lawful F.the-type F′.the-laws 𝓤 H A W .typed form _ g₄ .0)) $ pass1 ! (init ! 10 refl (tt, (tt, (record { fits = g₅ .0 }, tt)))) $ pass1 ! (init ! 8 refl (tt, (tt, (record { fits = g₆ .0 }, tt)))) $ pass0 ! $
         -- the borrow is opened, and the ledger is read
-        move ! (21 ∷ []) $ fsplit ! $ fsplit3 ! $ drop ! $ move ! (23 ∷ []) $ split ! $ move ! (2 ∷ 3 ∷ 0 ∷ []) $
+        move ! (25 ∷ []) $ fsplit ! $ fsplit3 ! $ drop ! $ move ! (27 ∷ []) $ split ! $ move ! (2 ∷ 3 ∷ 0 ∷ []) $
         opens ! tt R {h = h} b o (λ vs. spelt ! R (Is R) (shows 𝓤 H A R) (LL.vals L.the-type L′.the-laws) (LL.tells L.the-type L′.the-laws) fullShare h vs b o $
         move ! (1 ∷ []) $ peeks ! R (Is R) (shows 𝓤 H A R) h (machine h ∷ []) (λ was. move ! (1 ∷ 0 ∷ []) $
-        -- [the cell of the ledger; what it owns; the open borrow; obs; auth; the tokens of the call by value; what it is lent; _9; …; _0; …]
-        assigns ! (of-opd ! (load ! (from ! (hop ! (look ! 23 refl) (stop !))) (look-raw ! 0 refl))) (from ! (stop !)) (init ! 7 refl (LL.lawful L.the-type L′.the-laws 𝓤 H A W .typed h (machine h ∷ []) was .0)) $
+        -- [the cell of the ledger; what it owns; the open borrow; obs; auth; the tokens of the call by value; what it is lent; _11; …; _0; …]
+        assigns ! (of-opd ! (load ! (from ! (hop ! (look ! 27 refl) (stop !))) (look-raw ! 0 refl))) (from ! (stop !)) (init ! 11 refl (LL.lawful L.the-type L′.the-laws 𝓤 H A W .typed h (machine h ∷ []) was .0)) $
+        -- the buffer is lent on
+        assigns ! (addr ! (from ! (fld ! refl (hop ! (look-in ! 15 (sub ! 0 refl (whole !))) (stop !))))) (from ! (stop !)) (init ! 9 refl (tt, tt)) $
+        assigns ! (agg ! (and-then ! (load ! (from ! (stop !)) (look ! 9 refl)) (and-then ! (load ! (from ! (fld ! refl (stop !))) (look-in ! 15 (sub ! 1 refl (whole !)))) (no-more !)))) (from ! (stop !)) (init ! 7 refl (tt, (tt, (record { fits = g₆ .0 }, tt)))) $
         -- the call
         move ! (5 ∷ 1 ∷ 6 ∷ []) $ use3 W (raw (Callee 𝓤 H A at-mem run .pre (to, tt))) goes $
         asks ! (fmOf 𝓤 H (W .laws) 𝓣) callee.ended (callee.clauses 𝓤 H A at-mem run) known to tt (λ r ws. Ensured r (ws .1 .1 .1 .1 .1 .1 .0)) (λ r ws. id⊢ 𝓤 _)
-        (and-then ! (load ! (from ! (stop !)) (look ! 5 refl)) (and-then ! (load ! (from ! (stop !)) (look ! 19 refl)) (and-then ! (load ! (from ! (stop !)) (look ! 17 refl)) (and-then ! (load ! (from ! (stop !)) (look ! 15 refl)) (and-then ! (load ! (from ! (stop !)) (look ! 13 refl)) (and-then ! (load ! (from ! (stop !)) (look ! 11 refl)) (and-then ! (load ! (from ! (stop !)) (look ! 9 refl)) (no-more !)))))))) (λ v r ws e.
-        -- [the tokens; what the outcome owns; the last values; the cell of the ledger; the open borrow; obs; auth; _9; …]
-        move ! (2 ∷ []) $ fsplit ! $ drop ! $ fsplit ! $ drop ! $ fsplit ! $ drop ! $ fsplit ! $ drop ! $ fsplit ! $ drop ! $ fsplit ! $ drop ! $ fsplit ! $ move ! (1 ∷ []) $ drop ! $ fsplit ! $ feqL ! (λ l.
+        (and-then ! (load ! (from ! (stop !)) (look ! 9 refl)) (and-then ! (load ! (from ! (stop !)) (look ! 23 refl)) (and-then ! (load ! (from ! (stop !)) (look ! 21 refl)) (and-then ! (load ! (from ! (stop !)) (look ! 19 refl)) (and-then ! (load ! (from ! (stop !)) (look ! 17 refl)) (and-then ! (load ! (from ! (stop !)) (look ! 15 refl)) (and-then ! (load ! (from ! (stop !)) (look ! 5 refl)) (no-more !)))))))) (λ v r ws e.
+        -- [the tokens; what the outcome owns; the last values; the cell of the ledger; the open borrow; obs; auth; _11; …]
+        move ! (2 ∷ []) $ fsplit ! $ drop ! $ fsplit ! $ drop ! $ fsplit ! $ drop ! $ fsplit ! $ drop ! $ fsplit ! $ drop ! $ fsplit ! $ drop ! $ fsplit ! $ move ! (1 ∷ []) $ drop ! $ fsplit ! $ move ! (1 ∷ []) $ feqL ! (λ l.
         move ! (2 ∷ []) $ facts ! O.the-row (Is O.the-row) (shows 𝓤 H A O.the-row) r (v ∷ []) (λ is. move ! (1 ∷ 0 ∷ []) $
-        land ! (from ! (stop !)) (init ! 8 refl (LL.lawful O.the-type O′.the-laws 𝓤 H A W .typed r (v ∷ []) is .0)) $
-        rewrite ! 8 (λ (u : Val). ‵ (fat fullShare O′.mir l₈ 0 u)) (ap only (LL.tells O.the-type O′.the-laws r (v ∷ []) is)) refl $
+        land ! (from ! (stop !)) (init ! 12 refl (LL.lawful O.the-type O′.the-laws 𝓤 H A W .typed r (v ∷ []) is .0)) $
+        rewrite ! 12 (λ (u : Val). ‵ (fat fullShare O′.mir l₈ 0 u)) (ap only (LL.tells O.the-type O′.the-laws r (v ∷ []) is)) refl $
         -- the ledger is written back
-        assigns ! (of-opd ! (load ! (from ! (fld ! refl (stop !))) (look-in ! 8 (sub ! 2 refl (whole !))))) (from ! (hop ! (look ! 22 refl) (stop !))) (store-raw ! 2 refl (LL.lawful L.the-type L′.the-laws 𝓤 H A W .typed (r .ledger) (machine (r .ledger) ∷ []) (kept r (v ∷ []) is) .0)) $
-        assigns ! (agg ! (and-then ! (load ! (from ! (fld ! refl (stop !))) (look-in ! 8 (sub ! 0 refl (whole !)))) (and-then ! (load ! (from ! (fld ! refl (stop !))) (look-in ! 8 (sub ! 1 refl (whole !)))) (no-more !)))) (from ! (stop !))
-        (init ! 24 refl (LL.lawful P.the-type P′.the-laws 𝓤 H A W .typed (reply r) (replyVal r ∷ []) (replied r (v ∷ []) is) .0)) $
+        assigns ! (of-opd ! (load ! (from ! (fld ! refl (stop !))) (look-in ! 12 (sub ! 2 refl (whole !))))) (from ! (hop ! (look ! 26 refl) (stop !))) (store-raw ! 2 refl (LL.lawful L.the-type L′.the-laws 𝓤 H A W .typed (r .ledger) (machine (r .ledger) ∷ []) (kept r (v ∷ []) is) .0)) $
+        assigns ! (agg ! (and-then ! (load ! (from ! (fld ! refl (stop !))) (look-in ! 12 (sub ! 0 refl (whole !)))) (and-then ! (load ! (from ! (fld ! refl (stop !))) (look-in ! 12 (sub ! 1 refl (whole !)))) (no-more !)))) (from ! (stop !))
+        (init ! 28 refl (LL.lawful P.the-type P′.the-laws 𝓤 H A W .typed (reply r) (replyVal r ∷ []) (replied r (v ∷ []) is) .0)) $
         owned ! R (Is R) (LL.makes L.the-type L′.the-plain 𝓤 H A) (r .ledger) (machine (r .ledger) ∷ []) (kept r (v ∷ []) is) $
         move ! (3 ∷ 0 ∷ 4 ∷ 5 ∷ 6 ∷ []) $ closes ! tt R (r .ledger) (machine (r .ledger) ∷ []) b o $
-        -- [obs; the borrow; its token; the other tokens; the last bytes; _9; …]
-        returns ! (look ! 23 refl) $ forget ! 5 refl $ forget ! 7 refl $ forget ! 9 refl $ forget ! 11 refl $ forget ! 13 refl $ forget ! 15 refl $ forget ! 17 refl $ forget ! 19 refl $ forget ! 21 refl $ forget ! 23 refl $
-        move ! (23 ∷ 24 ∷ []) $ free1 ! $ move ! (21 ∷ 22 ∷ []) $ free1 ! $ move ! (19 ∷ 20 ∷ []) $ free1 ! $ move ! (17 ∷ 18 ∷ []) $ free1 ! $ move ! (15 ∷ 16 ∷ []) $ free1 ! $ move ! (13 ∷ 14 ∷ []) $ free1 ! $ move ! (11 ∷ 12 ∷ []) $ free1 ! $ move ! (9 ∷ 10 ∷ []) $ free1 ! $ move ! (7 ∷ 8 ∷ []) $ free1 ! $ move ! (5 ∷ 6 ∷ []) $ free1 ! $ free0 ! $
-        by ! (exits r (ws .1 .1 .1 .1 .1 .1 .0) l (replied r (v ∷ []) is) e))))))))))))))))
+        -- [obs; the borrow; its token; the other tokens; the last bytes; _11; …]
+        returns ! (look ! 27 refl) $ forget ! 5 refl $ forget ! 7 refl $ forget ! 9 refl $ forget ! 11 refl $ forget ! 13 refl $ forget ! 15 refl $ forget ! 17 refl $ forget ! 19 refl $ forget ! 21 refl $ forget ! 23 refl $ forget ! 25 refl $ forget ! 27 refl $
+        move ! (27 ∷ 28 ∷ []) $ free1 ! $ move ! (25 ∷ 26 ∷ []) $ free1 ! $ move ! (23 ∷ 24 ∷ []) $ free1 ! $ move ! (21 ∷ 22 ∷ []) $ free1 ! $ move ! (19 ∷ 20 ∷ []) $ free1 ! $ move ! (17 ∷ 18 ∷ []) $ free1 ! $ move ! (15 ∷ 16 ∷ []) $ free1 ! $ move ! (13 ∷ 14 ∷ []) $ free1 ! $ move ! (11 ∷ 12 ∷ []) $ free1 ! $ move ! (9 ∷ 10 ∷ []) $ free1 ! $ move ! (7 ∷ 8 ∷ []) $ free1 ! $ move ! (5 ∷ 6 ∷ []) $ free1 ! $ free0 ! $
+        by ! (exits r (ws .1 .1 .1 .1 .1 .1 .0) l (replied r (v ∷ []) is) e))))))))))))))))))
 
 module _ {M : Type 1} (𝓤 : URA M) (H : Heap 𝓤) (A : Atoms 𝓤) (W : Given 𝓤 H A) (at-mem : Memory → SProp 𝓤) (run : Routine → Fun 𝓤) (𝓣 : Tables 𝓤 H) (known : Triple 𝓤 (𝓣 .C #callee) (Callee 𝓤 H A at-mem run)) where
   walks : Walks 𝓤 H A this.ended stayed (WpFn 𝓤 H (𝓣 .C) (𝓣 .Λ) code.function) (this.clauses 𝓤 H A at-mem run)
