@@ -253,8 +253,8 @@ verdicts-tellable (verdicts.Refused r) = refusal-from-1 r
 abbrev verdictBack : VerdictInNumbers → DeskReply
 verdictBack j =
     if eqb (j .refusal) 0 then
-      if eqb (j .step) 0 then accepting (record { approach = j .approach; protection = j .protection; recoverable = j .recoverable })
-      else failing (getD steps (j .step) WV1)
+    if eqb (j .step) 0 then accepting (record { approach = j .approach; protection = j .protection; recoverable = j .recoverable })
+    else failing (getD steps (j .step) WV1)
     else refusing (j .refusal)
 
 verdict-back : (r : DeskReply) → VerdictTellable r → verdictBack (hostVerdictFor r) ≡ r
@@ -279,7 +279,7 @@ trims-tellable (trims.Refused r) = refusal-from-1 r
 abbrev trimBack : TrimInNumbers → TrimReply
 trimBack t =
     if eqb (t .refusal) 0 then
-      if eqb (t .step) 0 then trimmed (t .acl) (t .hints) else untrimmed (getD steps (t .step) WV1)
+    if eqb (t .step) 0 then trimmed (t .acl) (t .hints) else untrimmed (getD steps (t .step) WV1)
     else unread (t .refusal)
 
 trim-back : (r : TrimReply) → TrimTellable r → trimBack (hostTrimFor r) ≡ r
