@@ -47,7 +47,7 @@ use Rattle.surface.specs.declared.HostVerdict.{HostVerdict}
 use Rattle.surface.specs.declared.HostSubject.{HostSubject}
 use Rattle.surface.specs.declared.HostText.{HostText}
 use Rattle.surface.specs.declared.HostTrim.{HostTrim}
-use Rattle.surface.specs.Surface.{groupNumber, groupOrNone, ReplyInNumbers, hostReplyAs, hostReplyFor, OutcomeInNumbers, hostOutcomeAs, hostOutcomeIn, hostOutcomeFor, CabinetInNumbers, hostCabinetOutcomeAs, hostCabinetOutcomeIn, hostCabinetOutcomeFor, VerdictInNumbers, hostVerdictAs, hostVerdictFor, SubjectInNumbers, hostSubjectAs, hostSubjectFor, TextInNumbers, hostTextAs, hostTextFor, TrimInNumbers, hostTrimAs, hostTrimFor}
+use Rattle.surface.specs.Surface.{groupNumber, ReplyInNumbers, hostReplyAs, hostReplyFor, OutcomeInNumbers, hostOutcomeAs, hostOutcomeIn, hostOutcomeFor, CabinetInNumbers, hostCabinetOutcomeAs, hostCabinetOutcomeIn, hostCabinetOutcomeFor, VerdictInNumbers, hostVerdictAs, hostVerdictFor, SubjectInNumbers, hostSubjectAs, hostSubjectFor, TextInNumbers, hostTextAs, hostTextFor, TrimInNumbers, hostTrimAs, hostTrimFor}
 
 -- The structs.
 pub reply-determined : (r s : HostReply) → hostReplyAs r ≡ hostReplyAs s → r ≡ s
