@@ -20,6 +20,9 @@ mod edge_request;
 mod encode;
 mod ends;
 mod gate;
+#[cfg(fuzzing)]
+#[path = "../checks/fuzz.rs"]
+mod fuzz;
 mod generate;
 mod grade;
 mod host_calls;

@@ -353,10 +353,9 @@ fn answer(letter: u8, s: &mut Script, state: &mut State) -> Option<String> {
     Some(words(reply) + &ledger_words(&state.ledger))
 }
 
-fn main() -> std::io::Result<()> {
-    let mut s = Script { bytes: Vec::new(), at: 0 };
-    std::io::stdin().read_to_end(&mut s.bytes)?;
-    let mut out = std::io::BufWriter::new(std::io::stdout());
+/// Answers a script, a line for each call.
+pub fn replay(bytes: Vec<u8>, out: &mut impl Write) -> std::io::Result<()> {
+    let mut s = Script { bytes, at: 0 };
     let mut state = State {
         ledger: Ledger::fresh(),
         #[cfg(not(ordinary))]
@@ -376,4 +375,10 @@ fn main() -> std::io::Result<()> {
         }
     }
     out.flush()
+}
+
+fn main() -> std::io::Result<()> {
+    let mut script = Vec::new();
+    std::io::stdin().read_to_end(&mut script)?;
+    replay(script, &mut std::io::BufWriter::new(std::io::stdout()))
 }
