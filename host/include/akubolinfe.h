@@ -274,6 +274,26 @@ AKUBOLINFE_MUST_USE akubolinfe_reply akubolinfe_expand_in_place(akubolinfe_ledge
                                                                 size_t request_length, const uint8_t *new_acl,
                                                                 size_t new_acl_length);
 
+/* The same three calls on the tables of a ledger: its counts, its counters and its last time are charged where they are, and nothing is
+ * copied. akubolinfe_request_in_place(&l, ..) copies the ledger twice, which costs more than the decision where the ACL is short; reply and
+ * ledger are the same. For a ledger `l` pass l.counts, l.counters, l.loaded, &l.last. The three pointers lead to different places, aligned as
+ * C aligns their numbers, and are never NULL. */
+AKUBOLINFE_MUST_USE akubolinfe_reply akubolinfe_request_on_tables(
+    uint32_t counts[AKUBOLINFE_GROUPS], uint32_t counters[AKUBOLINFE_COUNTERS], uint64_t loaded, uint64_t *last, const uint8_t *km0,
+    size_t km0_length, const uint8_t *acl, size_t acl_length, const uint8_t *request, size_t request_length);
+
+/* A narrowing on tables. */
+AKUBOLINFE_MUST_USE akubolinfe_reply akubolinfe_narrow_on_tables(
+    uint32_t counts[AKUBOLINFE_GROUPS], uint32_t counters[AKUBOLINFE_COUNTERS], uint64_t loaded, uint64_t *last, const uint8_t *km0,
+    size_t km0_length, const uint8_t *acl, size_t acl_length, const uint8_t *request, size_t request_length, const uint8_t *new_acl,
+    size_t new_acl_length, const uint8_t *hints, size_t hints_length);
+
+/* An expansion on tables. */
+AKUBOLINFE_MUST_USE akubolinfe_reply akubolinfe_expand_on_tables(
+    uint32_t counts[AKUBOLINFE_GROUPS], uint32_t counters[AKUBOLINFE_COUNTERS], uint64_t loaded, uint64_t *last, const uint8_t *km0,
+    size_t km0_length, const uint8_t *acl, size_t acl_length, const uint8_t *request, size_t request_length, const uint8_t *new_acl,
+    size_t new_acl_length);
+
 /* Asks up to 100 requests, each of one record, in order, all with the certificates of `row`, at most 32. Answer k is at
  * answers[8 * k]: the refusal, 0 for a permit, in four bytes, then the group in four, both with the greatest byte first, 0xffffffff if
  * no group is named. The answers, and the ledger, are those of akubolinfe_request_in_place for each request in turn; a request that is

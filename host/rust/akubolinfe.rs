@@ -207,6 +207,18 @@ extern "C" {
         l: Ledger, k: *const u8, kn: usize, a: *const u8, an: usize, c: *const Certificate, cn: usize, r: *const u8,
         rn: usize, b: *mut u8, bn: usize,
     ) -> RawRunOutcome;
+    fn akubolinfe_request_on_tables(
+        g: &mut [u32; 64], c: &mut [u32; 256], l: u64, t: &mut u64, k: *const u8, kn: usize, a: *const u8, an: usize,
+        r: *const u8, rn: usize,
+    ) -> RawReply;
+    fn akubolinfe_narrow_on_tables(
+        g: &mut [u32; 64], c: &mut [u32; 256], l: u64, t: &mut u64, k: *const u8, kn: usize, a: *const u8, an: usize,
+        r: *const u8, rn: usize, n: *const u8, nn: usize, h: *const u8, hn: usize,
+    ) -> RawReply;
+    fn akubolinfe_expand_on_tables(
+        g: &mut [u32; 64], c: &mut [u32; 256], l: u64, t: &mut u64, k: *const u8, kn: usize, a: *const u8, an: usize,
+        r: *const u8, rn: usize, n: *const u8, nn: usize,
+    ) -> RawReply;
     fn akubolinfe_run_in_place(
         l: &mut Ledger, k: *const u8, kn: usize, a: *const u8, an: usize, c: *const Certificate, cn: usize, r: *const u8,
         rn: usize, b: *mut u8, bn: usize,
@@ -330,17 +342,22 @@ impl Ledger {
         replied(unsafe { akubolinfe_clear_in_place(self, counter) })
     }
 
-    /// Asks for a use of the key or for a blob: `req` is the request record with what goes with it, at most 50 records.
+    /// Asks for a use of the key or for a blob: `req` is the request record with what goes with it, at most 50 records. Nothing is copied.
     pub fn request(&mut self, km0: &[u8], acl: &[u8], req: &[u8]) -> Reply {
-        replied(unsafe { akubolinfe_request_in_place(self, ptr(km0), km0.len(), ptr(acl), acl.len(), ptr(req), req.len()) })
+        replied(unsafe {
+            akubolinfe_request_on_tables(
+                &mut self.counts, &mut self.counters, self.loaded, &mut self.last, ptr(km0), km0.len(), ptr(acl), acl.len(),
+                ptr(req), req.len(),
+            )
+        })
     }
 
     /// Asks to replace the ACL by a narrower one; if it is permitted the new ACL is in force.
     pub fn narrow(&mut self, km0: &[u8], acl: &[u8], req: &[u8], new: &[u8], hints: &[u8]) -> Reply {
         replied(unsafe {
-            akubolinfe_narrow_in_place(
-                self, ptr(km0), km0.len(), ptr(acl), acl.len(), ptr(req), req.len(), ptr(new), new.len(), ptr(hints),
-                hints.len(),
+            akubolinfe_narrow_on_tables(
+                &mut self.counts, &mut self.counters, self.loaded, &mut self.last, ptr(km0), km0.len(), ptr(acl), acl.len(),
+                ptr(req), req.len(), ptr(new), new.len(), ptr(hints), hints.len(),
             )
         })
     }
@@ -348,8 +365,9 @@ impl Ledger {
     /// Asks to replace the ACL by any other; if it is permitted the new ACL is in force.
     pub fn expand(&mut self, km0: &[u8], acl: &[u8], req: &[u8], new: &[u8]) -> Reply {
         replied(unsafe {
-            akubolinfe_expand_in_place(
-                self, ptr(km0), km0.len(), ptr(acl), acl.len(), ptr(req), req.len(), ptr(new), new.len(),
+            akubolinfe_expand_on_tables(
+                &mut self.counts, &mut self.counters, self.loaded, &mut self.last, ptr(km0), km0.len(), ptr(acl), acl.len(),
+                ptr(req), req.len(), ptr(new), new.len(),
             )
         })
     }
@@ -506,6 +524,32 @@ pub fn write_listing(acl: &[u8], buffer: &mut [u8]) -> Result<u64, NotListed> {
 /// Writes the ACL of a listing to the front of the buffer and returns its length.
 pub fn read_listing(text: &[u8], buffer: &mut [u8]) -> Result<u64, NotListed> {
     listed(unsafe { akubolinfe_read_listing(ptr(text), text.len(), ptr_mut(buffer), buffer.len()) })
+}
+
+/// The three calls of a ledger by C's functions over a lent ledger, which copy it; the ledger's own methods answer the same.
+pub mod in_place {
+    use super::*;
+
+    pub fn request(ledger: &mut Ledger, km0: &[u8], acl: &[u8], req: &[u8]) -> Reply {
+        replied(unsafe { akubolinfe_request_in_place(ledger, ptr(km0), km0.len(), ptr(acl), acl.len(), ptr(req), req.len()) })
+    }
+
+    pub fn narrow(ledger: &mut Ledger, km0: &[u8], acl: &[u8], req: &[u8], new: &[u8], hints: &[u8]) -> Reply {
+        replied(unsafe {
+            akubolinfe_narrow_in_place(
+                ledger, ptr(km0), km0.len(), ptr(acl), acl.len(), ptr(req), req.len(), ptr(new), new.len(), ptr(hints),
+                hints.len(),
+            )
+        })
+    }
+
+    pub fn expand(ledger: &mut Ledger, km0: &[u8], acl: &[u8], req: &[u8], new: &[u8]) -> Reply {
+        replied(unsafe {
+            akubolinfe_expand_in_place(
+                ledger, ptr(km0), km0.len(), ptr(acl), acl.len(), ptr(req), req.len(), ptr(new), new.len(),
+            )
+        })
+    }
 }
 
 /// The same calls by value: each takes the ledger or the cabinet whole and returns it, changed unless the call is refused.

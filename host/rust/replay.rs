@@ -8,7 +8,7 @@ mod akubolinfe;
 
 use akubolinfe::{assess, write_subject, Ledger, Reply, Verdict};
 #[cfg(not(ordinary))]
-use akubolinfe::{by_value, prepare, read_listing, trim, write_listing, Cabinet, Certificate, Form, NotListed, NotTrimmed, Ran, Slot};
+use akubolinfe::{by_value, in_place, prepare, read_listing, trim, write_listing, Cabinet, Certificate, Form, NotListed, NotTrimmed, Ran, Slot};
 use std::io::{Read, Write};
 
 // The rest of a script.
@@ -246,12 +246,27 @@ fn lent(letter: u8, s: &mut Script) -> Option<Lent> {
     Some(Lent { km0, acl, req, new, hints })
 }
 
+// The same call by C's functions over a lent ledger, and the ledger that it leaves.
+#[cfg(not(ordinary))]
+fn copied(letter: u8, mut ledger: Ledger, number: u64, [km0, acl, req, new, hints]: [&Vec<u8>; 5]) -> (Ledger, Reply) {
+    let reply = match letter {
+        b'L' => ledger.load(number),
+        b'C' => ledger.clear(number as usize),
+        b'R' => in_place::request(&mut ledger, km0, acl, req),
+        b'N' => in_place::narrow(&mut ledger, km0, acl, req, new, hints),
+        _ => in_place::expand(&mut ledger, km0, acl, req, new),
+    };
+    (ledger, reply)
+}
+
 // A call on a ledger, which is made in place; by value it has to reply the same and to return the same ledger.
 fn asked(letter: u8, s: &mut Script, ledger: &mut Ledger) -> Option<Reply> {
     #[cfg(not(ordinary))]
     let before = ledger.clone();
     let number = if matches!(letter, b'L' | b'C') { s.number()? } else { 0 };
     let Lent { km0, acl, req, new, hints } = &if matches!(letter, b'L' | b'C') { Lent::default() } else { lent(letter, s)? };
+    #[cfg(not(ordinary))]
+    let copied = copied(letter, before.clone(), number, [km0, acl, req, new, hints]);
     let reply = match letter {
         b'L' => ledger.load(number),
         b'C' => ledger.clear(number as usize),
@@ -269,6 +284,8 @@ fn asked(letter: u8, s: &mut Script, ledger: &mut Ledger) -> Option<Reply> {
     };
     #[cfg(not(ordinary))]
     assert!(whole == (ledger.clone(), reply), "by value");
+    #[cfg(not(ordinary))]
+    assert!(copied == (ledger.clone(), reply), "in place");
     Some(reply)
 }
 
