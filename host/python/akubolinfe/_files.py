@@ -16,6 +16,10 @@ class Trouble(Exception):
     """What keeps the command from an answer: exit status 2."""
 
 
+class Lost(Trouble):
+    """Standard output could not be written."""
+
+
 class Written(NamedTuple):
     """A file that is to be written."""
 
@@ -158,4 +162,4 @@ def write_output(content: bytes) -> None:
         while view:
             view = view[os.write(1, view) :]
     except OSError as error:
-        raise Trouble(f'standard output: {reason(error)}') from None
+        raise Lost(f'standard output: {reason(error)}') from None

@@ -16,7 +16,7 @@ from typing import Dict, List, NoReturn, Optional, Sequence
 from . import __version__
 from ._desk_commands import attest_key, trim_acl
 from ._file_commands import ARTICLES, check, day, explain_key, make, make_request, show, write_subject
-from ._files import Trouble, write_output
+from ._files import Lost, Trouble, write_output
 from ._library import ABI, LibraryError, library
 from ._outcome import TROUBLE, YES, Outcome
 from .words import CERTIFICATES, PERMISSIONS, PROTECTIONS, SUITES
@@ -191,12 +191,9 @@ def _complain(message: str) -> None:
 def _troubled(error: Exception, as_json: bool) -> int:
     """One line on standard error; with --json the same on standard output."""
     _complain(f'{PROGRAM}: {error}')
-    if as_json:
+    if as_json and not isinstance(error, Lost):
         value = {'error': str(error), **getattr(error, 'value', {})}
-        try:
-            write_output(Outcome(TROUBLE, value=value).output(True))
-        except Trouble as lost:
-            _complain(f'{PROGRAM}: {lost}')
+        write_output(Outcome(TROUBLE, value=value).output(True))
     return TROUBLE
 
 
@@ -227,7 +224,7 @@ def main(words: Optional[Sequence[str]] = None) -> int:
         sys.stderr.reconfigure(errors='backslashreplace')
     try:
         return _answered(words)
-    except Trouble as error:  # help that could not be written
+    except Lost as error:  # help, or an error as JSON
         return _troubled(error, False)
     except KeyboardInterrupt:
         return 130
