@@ -79,7 +79,7 @@ def _rests_on(given: Evidence) -> Tuple[List[str], Dict[str, Any]]:
     lines = [
         f'policy     {_policy_line(policy)}',
         f'key        pubkeydata {_fact(facts, "pubkeydata")}, module ESN {_fact(facts, "warrantESN")}',
-        f'acl        {groups} groups, {acl["bytes"]} bytes, sha256 {acl["sha256"]}',
+        f'acl        {groups} group{"" if groups == 1 else "s"}, {acl["bytes"]} bytes, sha256 {acl["sha256"]}',
     ]
     key = {'pubkeydata': _fact(facts, 'pubkeydata'), 'module_esn': _fact(facts, 'warrantESN')}
     return lines, {'policy': policy._asdict(), 'key': key, 'acl': acl, 'bundle': digest(given.bundle)}

@@ -109,7 +109,8 @@ def check(args) -> Outcome:
     if number:
         raise Refused(args.file, number)
     about = {'kind': args.kind, **digest(content), 'records': len(content) // 64}
-    line = f'{shown(args.file)}: {ARTICLES[args.kind]}, {about["records"]} records, {len(content)} bytes, sha256 {about["sha256"]}'
+    records = f'{about["records"]} record{"" if about["records"] == 1 else "s"}'
+    line = f'{shown(args.file)}: {ARTICLES[args.kind]}, {records}, {len(content)} bytes, sha256 {about["sha256"]}'
     return Outcome(YES, [line], about)
 
 

@@ -28,7 +28,7 @@ STATUSES = """exit status:
   1  no, by the rules: a refusal 4 to 8, a failing step, a requirement that is not met
   2  trouble: usage, a file that cannot be read, written or understood, standard output lost"""
 
-FILES_NOTE = 'A file is given as bytes or as text, told apart by its first byte; - is standard input.'
+FILES_NOTE = 'A file is given as bytes or as text; its first byte decides which. - is standard input.'
 
 
 class Parser(argparse.ArgumentParser):
