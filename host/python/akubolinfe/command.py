@@ -7,6 +7,7 @@ of the parsed arguments that returns an `Outcome` and raises `Trouble` for exit 
 from __future__ import annotations
 
 import argparse
+import contextlib
 import importlib
 import importlib.util
 import sys
@@ -31,6 +32,13 @@ STATUSES = """exit status:
 FILES_NOTE = 'A file is given as bytes or as text; its first byte decides which. - is standard input.'
 
 
+def _complain(message: str) -> None:
+    """A message on standard error; where that is lost too the exit status remains."""
+    if sys.stderr is not None:
+        with contextlib.suppress(OSError):
+            sys.stderr.write(f'{message}\n')
+
+
 class Parser(argparse.ArgumentParser):
     """A parser whose help is written like every other output, and whose words are never guessed from their beginning."""
 
@@ -43,8 +51,8 @@ class Parser(argparse.ArgumentParser):
             return
         if file is sys.stdout:
             write_output(message.encode('utf-8'))
-        elif sys.stderr is not None:
-            sys.stderr.write(message)
+        else:
+            _complain(message.rstrip('\n'))
 
 
 def build_info(path: str) -> Dict[str, str]:
@@ -183,11 +191,6 @@ def parser() -> Parser:
     return top
 
 
-def _complain(message: str) -> None:
-    if sys.stderr is not None:
-        sys.stderr.write(f'{message}\n')
-
-
 def _troubled(error: Exception, as_json: bool) -> int:
     """One line on standard error; with --json the same on standard output."""
     _complain(f'{PROGRAM}: {error}')
@@ -228,6 +231,9 @@ def main(words: Optional[Sequence[str]] = None) -> int:
         return _troubled(error, False)
     except KeyboardInterrupt:
         return 130
+    except Exception as error:  # a status of 1 would say no
+        _complain(f'{PROGRAM}: internal error: {type(error).__name__}: {error}')
+        return TROUBLE
 
 
 def run() -> NoReturn:

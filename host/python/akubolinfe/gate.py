@@ -11,8 +11,8 @@ from threading import Lock
 from typing import Iterable, NamedTuple, Sequence, Tuple
 
 from ._library import (
-    ANSWER_BYTES, COUNTERS, GROUPS, HASH, NO_GROUP, RECORD, SLOTS, CabinetStruct, CertificateStruct, FormStruct, LedgerStruct,
-    Library, library,
+    ANSWER_BYTES, COUNTERS, GROUPS, NO_GROUP, PREPARED_RECORDS, RECORD, SLOTS, CabinetStruct, CertificateStruct, FormStruct,
+    LedgerStruct, Library, library,
 )
 from ._values import Bytes, Hash, hash_bytes, lent, number
 from .answers import Reply, Run
@@ -126,8 +126,14 @@ def _answers(buffer, count: int) -> Tuple[Reply, ...]:
 
 
 def _room(requests: bytes):
-    """A buffer for the answers of a run, whatever the length of its requests."""
-    return create_string_buffer(max(1, len(requests) // RECORD * ANSWER_BYTES))
+    """A buffer for the answers of a run. A longer run is refused before its buffer is looked at."""
+    return create_string_buffer(max(1, min(len(requests) // RECORD, PREPARED_RECORDS) * ANSWER_BYTES))
+
+
+def _form(form: Form) -> FormStruct:
+    if not isinstance(form, Form):
+        raise TypeError(f'form: a Form is wanted, not {type(form).__name__}')
+    return form._raw
 
 
 class Ledger:
@@ -259,7 +265,7 @@ class Ledger:
         buffer = _room(requests)
         with self._lock:
             made = self._library.prepared_run_in_place(
-                self._ref, km0, len(km0), acl, len(acl), row, certified, form._raw, requests, len(requests), buffer, len(buffer))
+                self._ref, km0, len(km0), acl, len(acl), row, certified, _form(form), requests, len(requests), buffer, len(buffer))
         return Run(made.refusal, _answers(buffer, made.count))
 
 
@@ -385,7 +391,7 @@ class Cabinet:
         buffer = _room(requests)
         with self._lock:
             made = self._library.cabinet_prepared_run_in_place(
-                self._ref, slot, km0, len(km0), acl, len(acl), row, certified, form._raw, requests, len(requests), buffer,
+                self._ref, slot, km0, len(km0), acl, len(acl), row, certified, _form(form), requests, len(requests), buffer,
                 len(buffer))
         return Run(made.refusal, _answers(buffer, made.count))
 

@@ -8,6 +8,7 @@ import sys
 import tempfile
 import unittest
 from pathlib import Path
+from unittest import mock
 
 from .support import ACL, BUNDLE, DAY, FAILING_ACL, FAILING_BUNDLE, GROUP, SIGN_GROUP, command, environment, use
 
@@ -270,7 +271,7 @@ class TroubleTest(CommandTest):
         for path, words in ((self.path('absent'), 'No such file'), (self.folder, 'Is a directory'), ('x' * 5000, 'too long'), ('a/' * 2500, 'too long')):
             self.assertIn(words, self.troubled('acl', 'show', path))
             self.assertIn('error', self.json(2, 'acl', 'show', path))
-        for path, words in ((self.folder, 'not a regular file'), (self.path('absent') / 'made', 'No such file'), ('x' * 5000, 'too long'),
+        for path, words in (('', 'a file name is wanted'), (self.folder, 'not a regular file'), (self.path('absent') / 'made', 'No such file'), ('x' * 5000, 'too long'),
                             ('/dev/null', 'not a regular file'), (ACL / 'made', 'Not a directory')):
             self.assertIn(words, self.troubled('acl', 'make', ACL, '-o', path))
 
@@ -345,7 +346,24 @@ class TroubleTest(CommandTest):
     def test_names_that_are_not_text(self):
         path = os.fsencode(self.folder) + b'/\xff\n'
         ran = subprocess.run([sys.executable, '-m', 'akubolinfe', 'acl', 'check', path, '--json'], env=environment(), stdout=subprocess.PIPE, stderr=subprocess.PIPE)
-        self.assertEqual((ran.returncode, json.loads(ran.stdout)['status']), (2, 2))
+        self.assertEqual((ran.returncode, json.loads(ran.stdout)['status'], ran.stderr.count(b'\n')), (2, 2, 1))
+
+    def test_a_terminal_gets_no_bytes(self):
+        master, slave = os.openpty()
+        _, err = self.ran(2, 'acl', 'make', ACL, stdout=slave)
+        self.assertIn('not written to a terminal', err)
+        self.ran(0, 'acl', 'make', ACL, '--json', stdout=slave)
+        os.close(master)
+        os.close(slave)
+
+    def test_an_error_of_the_program_is_trouble(self):
+        with mock.patch('akubolinfe._file_commands.fault', side_effect=ZeroDivisionError('no')):
+            self.assertEqual(self.troubled('acl', 'check', ACL), 'akubolinfe: internal error: ZeroDivisionError: no\n')
+
+    def test_lost_errors(self):
+        with open('/dev/full', 'wb') as full:
+            words = [sys.executable, '-m', 'akubolinfe', 'acl', 'show', 'absent']
+            self.assertEqual(subprocess.run(words, env=environment(), stderr=full).returncode, 2)
 
     def test_no_library(self):
         env = environment(AKUBOLINFE_LIBRARY=str(self.path('absent.so')))
