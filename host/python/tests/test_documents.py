@@ -61,6 +61,21 @@ class InstallTest(unittest.TestCase):
             self.assertTrue((prefix / 'share' / 'bash-completion' / 'completions' / 'akubolinfe').exists())
             self.installed(prefix, env)
 
+    def test_a_prefix_without_pip(self):
+        with tempfile.TemporaryDirectory() as name:
+            script, prefix = PACKAGE / 'tools' / 'install.py', Path(name).resolve() / 'root' / 'prefix'
+            library = Path(_library.library().path)
+            subprocess.run([sys.executable, script, '/prefix', Path(name).resolve() / 'root'], check=True)
+            if library.is_absolute():
+                (prefix / 'lib').mkdir()
+                shutil.copy(library, prefix / 'lib' / 'libakubolinfe.so.1')
+                env = {k: v for k, v in os.environ.items() if k not in ('PYTHONPATH', 'AKUBOLINFE_LIBRARY')}
+                ran = subprocess.run([sys.executable, prefix / 'bin' / 'akubolinfe', '--version'], env=env, stdout=subprocess.PIPE, check=True)
+                self.assertIn(f'library {prefix}/lib/libakubolinfe.so.1\nkit ', ran.stdout.decode())
+                shutil.rmtree(prefix / 'lib')
+            subprocess.run([sys.executable, script, '--uninstall', prefix], check=True)
+            self.assertEqual([path for path in prefix.rglob('*') if path.is_file()], [])
+
     def installed(self, prefix, env):
         """The installed command finds the library of its prefix, with what was proved of it."""
         library = Path(_library.library().path)
