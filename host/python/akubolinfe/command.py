@@ -111,7 +111,9 @@ def _add_desk(commands, parents: List[Parser]) -> None:
 
 def _add_kind(commands, kind: str, parents: List[Parser]) -> None:
     what = ARTICLES[kind]
-    parser = commands.add_parser(kind, help=f'show, make or check {what}', description=f'Shows, makes or checks {what}.')
+    parser = commands.add_parser(
+        kind, help=f'show, make or check {what}', description=f'Show, make or check {what}.',
+        epilog=f'example:\n  akubolinfe {kind} show --numbered FILE\n\n{STATUSES}')
     actions = parser.add_subparsers(title='actions', metavar='ACTION', required=True, parser_class=Parser)
     showing = _add(actions, 'show', show, f'print {what} as text', f'akubolinfe {kind} show --numbered FILE', parents, more=FILES_NOTE)
     showing.add_argument('file', metavar='FILE')

@@ -259,7 +259,7 @@ class FileTest(CommandTest):
         out, _ = self.ran(0, '--version')
         self.assertEqual([line.split(' ')[0] for line in out.splitlines()], ['akubolinfe', 'abi', 'library', 'kit', 'logic', 'commit'])
         self.assertEqual(self.json(0, 'version')['abi'], 1)
-        for words in ((), ('attest',), ('acl', 'show'), ('request', 'make'), ('day',)):
+        for words in ((), ('attest',), ('acl',), ('acl', 'show'), ('request', 'make'), ('day',)):
             self.assertIn('example:', self.ran(0, *words, '--help')[0])
         for words in ((), ('wrong',), ('acl',), ('--vers',)):
             self.assertEqual(self.ran(2, *words)[0], '')
