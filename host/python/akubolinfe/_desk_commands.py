@@ -6,6 +6,7 @@ from typing import Any, Dict, List, NamedTuple, Tuple
 from . import _records
 from ._file_commands import digest, groups_of, is_text, load, text_of
 from ._files import Files, Trouble, Written, shown
+from ._library import RECORD
 from ._outcome import NO, YES, Outcome, Refused, status_of
 from .answers import Trimmed, Verdict
 from .builders import Facts, Hints, Policy, read_bundle
@@ -52,7 +53,7 @@ def evidence(files: Files, args) -> Evidence:
 def _joined(files: Files, policy_path: str, facts_path: str) -> bytes:
     """The bundle of a policy and facts, each in a file of its own. The facts may not bring a policy of their own."""
     policy = load(files, 'bundle', policy_path)
-    if len(policy) != 64 or fault('bundle', policy):
+    if len(policy) != RECORD or fault('bundle', policy):
         raise Trouble(f'{shown(policy_path)}: one policy is wanted, and nothing else')
     facts = files.read(facts_path)
     if is_text(facts):

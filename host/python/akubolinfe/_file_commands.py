@@ -9,6 +9,7 @@ from typing import Any, Dict, List, NamedTuple, Optional, Tuple
 
 from . import _records
 from ._files import Files, Trouble, Written, shown
+from ._library import RECORD
 from ._outcome import NO, TROUBLE, YES, Outcome, Refused, status_of
 from .builders import Certificate, Delegation, Request, Token
 from .checking import fault
@@ -109,7 +110,7 @@ def check(args) -> Outcome:
     number = fault(args.kind, content)
     if number:
         raise Refused(args.file, number)
-    about = {'kind': args.kind, **digest(content), 'records': len(content) // 64}
+    about = {'kind': args.kind, **digest(content), 'records': len(content) // RECORD}
     records = f'{about["records"]} record{"" if about["records"] == 1 else "s"}'
     line = f'{shown(args.file)}: {ARTICLES[args.kind]}, {records}, {len(content)} bytes, sha256 {about["sha256"]}'
     return Outcome(YES, [line], about)
