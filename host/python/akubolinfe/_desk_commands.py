@@ -6,6 +6,7 @@ from typing import Any, Dict, List, NamedTuple, Tuple
 from . import _records
 from ._file_commands import digest, groups_of, is_text, load, text_of
 from ._files import Files, Trouble, Written, shown
+from ._library import RECORD
 from ._outcome import NO, YES, Outcome, Refused, status_of
 from .answers import Trimmed, Verdict
 from .builders import Facts, Hints, Policy, read_bundle
@@ -15,6 +16,10 @@ from .words import PROTECTIONS, SUITES
 
 # The steps that judge the ACL: what fails one of them can be trimmed away.
 ACL_STEPS = ('ACLV3', 'WB1', 'WB2', 'WB3', 'WB6', 'RB1', 'RB2', 'RB3')
+
+
+# What names the key and its module in an answer as JSON, and the fact that it is.
+KEY_FACTS = {'pubkeydata': 'pubkeydata', 'module_esn': 'warrantESN'}
 
 
 class Evidence(NamedTuple):
@@ -48,7 +53,7 @@ def evidence(files: Files, args) -> Evidence:
 def _joined(files: Files, policy_path: str, facts_path: str) -> bytes:
     """The bundle of a policy and facts, each in a file of its own. The facts may not bring a policy of their own."""
     policy = load(files, 'bundle', policy_path)
-    if len(policy) != 64 or fault('bundle', policy):
+    if len(policy) != RECORD or fault('bundle', policy):
         raise Trouble(f'{shown(policy_path)}: one policy is wanted, and nothing else')
     facts = files.read(facts_path)
     if is_text(facts):
@@ -79,9 +84,9 @@ def _rests_on(given: Evidence) -> Tuple[List[str], Dict[str, Any]]:
     lines = [
         f'policy     {_policy_line(policy)}',
         f'key        pubkeydata {_fact(facts, "pubkeydata")}, module ESN {_fact(facts, "warrantESN")}',
-        f'acl        {groups} groups, {acl["bytes"]} bytes, sha256 {acl["sha256"]}',
+        f'acl        {groups} group{"" if groups == 1 else "s"}, {acl["bytes"]} bytes, sha256 {acl["sha256"]}',
     ]
-    key = {'pubkeydata': _fact(facts, 'pubkeydata'), 'module_esn': _fact(facts, 'warrantESN')}
+    key = {name: facts.facts[fact].hex() if fact in facts.facts else None for name, fact in KEY_FACTS.items()}
     return lines, {'policy': policy._asdict(), 'key': key, 'acl': acl, 'bundle': digest(given.bundle)}
 
 

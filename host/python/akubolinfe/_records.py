@@ -2,8 +2,8 @@
 
 The library has a proved text form for ACLs. For the other kinds of file `write` and `read` ask it first and, as long as
 it has none, convert here: the layouts and the words below are written from documents 01 and 02 of the build's papers
-and are not proved. Nothing outside this file knows a layout. A library that has all text forms makes everything but
-`write` and `read` unused, and these become two calls of `Text`.
+and are not proved. Nothing else in the package knows a layout, except that `checking` has one use request. A library that
+has all text forms makes everything but `write` and `read` unused, and these become two calls of `Text`.
 
 Converting decides nothing: `write` takes a file that the library finds good, and what `read` makes of a text is a file
 that the library finds good, of which `write` gives that text.
