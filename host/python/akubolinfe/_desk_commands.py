@@ -17,6 +17,10 @@ from .words import PROTECTIONS, SUITES
 ACL_STEPS = ('ACLV3', 'WB1', 'WB2', 'WB3', 'WB6', 'RB1', 'RB2', 'RB3')
 
 
+# What names the key and its module in an answer as JSON, and the fact that it is.
+KEY_FACTS = {'pubkeydata': 'pubkeydata', 'module_esn': 'warrantESN'}
+
+
 class Evidence(NamedTuple):
     """What the desk is given, with the words that name it on the command line."""
 
@@ -79,9 +83,9 @@ def _rests_on(given: Evidence) -> Tuple[List[str], Dict[str, Any]]:
     lines = [
         f'policy     {_policy_line(policy)}',
         f'key        pubkeydata {_fact(facts, "pubkeydata")}, module ESN {_fact(facts, "warrantESN")}',
-        f'acl        {groups} groups, {acl["bytes"]} bytes, sha256 {acl["sha256"]}',
+        f'acl        {groups} group{"" if groups == 1 else "s"}, {acl["bytes"]} bytes, sha256 {acl["sha256"]}',
     ]
-    key = {'pubkeydata': _fact(facts, 'pubkeydata'), 'module_esn': _fact(facts, 'warrantESN')}
+    key = {name: facts.facts[fact].hex() if fact in facts.facts else None for name, fact in KEY_FACTS.items()}
     return lines, {'policy': policy._asdict(), 'key': key, 'acl': acl, 'bundle': digest(given.bundle)}
 
 

@@ -2,6 +2,7 @@
 from __future__ import annotations
 
 import hashlib
+import os
 import re
 import time
 from typing import Any, Dict, List, NamedTuple, Optional, Tuple
@@ -109,7 +110,8 @@ def check(args) -> Outcome:
     if number:
         raise Refused(args.file, number)
     about = {'kind': args.kind, **digest(content), 'records': len(content) // 64}
-    line = f'{shown(args.file)}: {ARTICLES[args.kind]}, {about["records"]} records, {len(content)} bytes, sha256 {about["sha256"]}'
+    records = f'{about["records"]} record{"" if about["records"] == 1 else "s"}'
+    line = f'{shown(args.file)}: {ARTICLES[args.kind]}, {records}, {len(content)} bytes, sha256 {about["sha256"]}'
     return Outcome(YES, [line], about)
 
 
@@ -126,7 +128,9 @@ def make(args) -> Outcome:
 def made(files: Files, args, kind: str, content: bytes) -> Outcome:
     """A file that was made, written to the file named by --output, or else to standard output."""
     about = {'kind': kind, **digest(content)}
-    if args.output is None:
+    if args.output in (None, '-'):
+        if not args.json and os.isatty(1):
+            raise Trouble('bytes are not written to a terminal; give --output')
         return Outcome(YES, value={**about, 'hex': content.hex()}, content=content)
     files.write(Written(args.output, content))
     return Outcome(YES, [f'{args.output}: {len(content)} bytes, sha256 {about["sha256"]}'], {**about, 'output': args.output})
@@ -234,7 +238,7 @@ def write_subject(args) -> Outcome:
         return Outcome(status_of(made_subject.refusal), value=value, notes=[f'akubolinfe: subject: {words}'])
     content = made_subject.content
     value = {'certificate': certificate, 'suite': suite, **digest(content), 'hex': content.hex()}
-    if args.output is None:
+    if args.output in (None, '-'):
         return Outcome(YES, [content.hex()], value)
     Files().write(Written(args.output, content))
     return Outcome(YES, [f'{args.output}: {len(content)} bytes'], {**value, 'output': args.output})

@@ -16,6 +16,10 @@ class Trouble(Exception):
     """What keeps the command from an answer: exit status 2."""
 
 
+class Lost(Trouble):
+    """Standard output could not be written."""
+
+
 class Written(NamedTuple):
     """A file that is to be written."""
 
@@ -86,8 +90,10 @@ class Files:
 
     def _target(self, path: str) -> str:
         """The path that is renamed to, with links resolved."""
-        target = os.path.realpath(path)
+        if path in ('', '-'):
+            raise Trouble('a file name is wanted for each output')
         try:
+            target = os.path.realpath(path)
             status = os.stat(target)
         except FileNotFoundError:
             return target
@@ -145,10 +151,11 @@ def _renamed(temporary: str, target: str, path: str, done: Sequence[str]) -> Non
 
 
 def shown(path: str) -> str:
-    """A path as it is named in a message."""
+    """A path as it is named in a message, on one line."""
     if path == '-':
         return 'standard input'
-    return path if len(path) <= 200 else path[:200] + '..'
+    short = path if len(path) <= 200 else path[:200] + '..'
+    return short if short.isprintable() else ascii(short)
 
 
 def write_output(content: bytes) -> None:
@@ -158,4 +165,4 @@ def write_output(content: bytes) -> None:
         while view:
             view = view[os.write(1, view) :]
     except OSError as error:
-        raise Trouble(f'standard output: {reason(error)}') from None
+        raise Lost(f'standard output: {reason(error)}') from None

@@ -191,13 +191,22 @@ class Library:
         return function
 
 
+def _prefix_folder() -> Optional[Path]:
+    """The folder `lib` of the prefix that the package is installed in: by pip in PREFIX/lib/python3.X/site-packages, by
+    make in PREFIX/share/akubolinfe/python."""
+    site = Path(__file__).resolve().parent.parent
+    if site.name in ('site-packages', 'dist-packages'):
+        return site.parent.parent
+    if site.parts[-3:] == ('share', 'akubolinfe', 'python'):
+        return site.parents[2] / 'lib'
+    return None
+
+
 def candidates() -> List[str]:
     """The places where the library is looked for, in their order: beside this module, in the prefix that the package
     is installed in, then wherever the loader looks."""
-    package = Path(__file__).resolve().parent
-    folders = [package]
-    folders += [above for above in package.parents if above.name in ('lib', 'lib64')][:1]
-    found = [str(folder / name) for folder in folders for name in NAMES]
+    folders = [Path(__file__).resolve().parent, _prefix_folder()]
+    found = [str(folder / name) for folder in folders if folder for name in NAMES]
     return [path for path in found if os.path.exists(path)] + list(NAMES)
 
 

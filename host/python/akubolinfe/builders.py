@@ -1,7 +1,7 @@
 """Builders: files made from names and numbers.
 
 Each builder writes lines of text and has them read as a file, so that no builder writes a record. A value that has no
-line, or a line that may not stand where it is, raises ValueError.
+line, or a line that is not valid at its place, raises ValueError.
 """
 from __future__ import annotations
 

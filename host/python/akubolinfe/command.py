@@ -7,6 +7,7 @@ of the parsed arguments that returns an `Outcome` and raises `Trouble` for exit 
 from __future__ import annotations
 
 import argparse
+import contextlib
 import importlib
 import importlib.util
 import sys
@@ -16,7 +17,7 @@ from typing import Dict, List, NoReturn, Optional, Sequence
 from . import __version__
 from ._desk_commands import attest_key, trim_acl
 from ._file_commands import ARTICLES, check, day, explain_key, make, make_request, show, write_subject
-from ._files import Trouble, write_output
+from ._files import Lost, Trouble, write_output
 from ._library import ABI, LibraryError, library
 from ._outcome import TROUBLE, YES, Outcome
 from .words import CERTIFICATES, PERMISSIONS, PROTECTIONS, SUITES
@@ -28,7 +29,14 @@ STATUSES = """exit status:
   1  no, by the rules: a refusal 4 to 8, a failing step, a requirement that is not met
   2  trouble: usage, a file that cannot be read, written or understood, standard output lost"""
 
-FILES_NOTE = 'A file is given as bytes or as text, told apart by its first byte; - is standard input.'
+FILES_NOTE = 'A file is given as bytes or as text; its first byte decides which. - is standard input.'
+
+
+def _complain(message: str) -> None:
+    """A message on standard error; where that is lost too the exit status remains."""
+    if sys.stderr is not None:
+        with contextlib.suppress(OSError):
+            sys.stderr.write(f'{message}\n')
 
 
 class Parser(argparse.ArgumentParser):
@@ -43,8 +51,8 @@ class Parser(argparse.ArgumentParser):
             return
         if file is sys.stdout:
             write_output(message.encode('utf-8'))
-        elif sys.stderr is not None:
-            sys.stderr.write(message)
+        else:
+            _complain(message.rstrip('\n'))
 
 
 def build_info(path: str) -> Dict[str, str]:
@@ -183,20 +191,12 @@ def parser() -> Parser:
     return top
 
 
-def _complain(message: str) -> None:
-    if sys.stderr is not None:
-        sys.stderr.write(f'{message}\n')
-
-
 def _troubled(error: Exception, as_json: bool) -> int:
     """One line on standard error; with --json the same on standard output."""
     _complain(f'{PROGRAM}: {error}')
-    if as_json:
+    if as_json and not isinstance(error, Lost):
         value = {'error': str(error), **getattr(error, 'value', {})}
-        try:
-            write_output(Outcome(TROUBLE, value=value).output(True))
-        except Trouble as lost:
-            _complain(f'{PROGRAM}: {lost}')
+        write_output(Outcome(TROUBLE, value=value).output(True))
     return TROUBLE
 
 
@@ -227,10 +227,13 @@ def main(words: Optional[Sequence[str]] = None) -> int:
         sys.stderr.reconfigure(errors='backslashreplace')
     try:
         return _answered(words)
-    except Trouble as error:  # help that could not be written
+    except Lost as error:  # help, or an error as JSON
         return _troubled(error, False)
     except KeyboardInterrupt:
         return 130
+    except Exception as error:  # a status of 1 would say no
+        _complain(f'{PROGRAM}: internal error: {type(error).__name__}: {error}')
+        return TROUBLE
 
 
 def run() -> NoReturn:

@@ -8,19 +8,19 @@ from __future__ import annotations
 import struct
 from ctypes import byref, create_string_buffer
 from threading import Lock
-from typing import Iterable, NamedTuple, Sequence, Tuple
+from typing import Iterable, List, NamedTuple, Sequence, Tuple
 
 from ._library import (
-    ANSWER_BYTES, COUNTERS, GROUPS, HASH, NO_GROUP, RECORD, SLOTS, CabinetStruct, CertificateStruct, FormStruct, LedgerStruct,
-    Library, library,
+    ANSWER_BYTES, COUNTERS, GROUPS, NO_GROUP, PREPARED_RECORDS, RECORD, SLOTS, CabinetStruct, CertificateStruct, FormStruct,
+    LedgerStruct, Library, library,
 )
 from ._values import Bytes, Hash, hash_bytes, lent, number
 from .answers import Reply, Run
 
 _ANSWER = struct.Struct('>II')
 _LEDGER = struct.Struct(f'={GROUPS}I{COUNTERS}I2Q')
-_SLOT = struct.Struct(f'={GROUPS}I2Q')
-_COUNTERS = struct.Struct(f'={COUNTERS}I')
+_CABINET = struct.Struct('=' + f'{GROUPS}I2Q' * SLOTS + f'{COUNTERS}I')
+_SLOT_NUMBERS = GROUPS + 2
 _FORM = struct.Struct('=18Q')
 
 # The hash of a certificate's key and its mechanism. `Certificate` is such a pair.
@@ -45,8 +45,7 @@ class Form:
     __slots__ = ('_raw', '_refusal')
 
     def __init__(self, uses: Sequence[int] = (), working: int = 0, recovery: int = 0, refusal: int = 0) -> None:
-        sets = (*_table(uses, 16, 64, 'uses'), number(working, 'working'), number(recovery, 'recovery'))
-        self._raw = FormStruct.from_buffer_copy(_FORM.pack(*sets))
+        self._raw = FormStruct.from_buffer_copy(_packed(_FORM, (*_table(uses, 16, 'uses'), working, recovery)))
         self._refusal = number(refusal, 'refusal', 32)
 
     @property
@@ -96,12 +95,21 @@ def prepare(acl: Bytes) -> Form:
     return form
 
 
-def _table(values: Sequence[int], size: int, bits: int, name: str) -> Tuple[int, ...]:
+def _table(values: Sequence[int], size: int, name: str) -> Tuple[int, ...]:
     """A table of numbers. Those that are not given are zero."""
-    given = tuple(number(value, name, bits) for value in values)
+    given = tuple(values)
     if len(given) > size:
         raise ValueError(f'{name}: at most {size} numbers are wanted, not {len(given)}')
     return given + (0,) * (size - len(given))
+
+
+def _packed(layout: struct.Struct, numbers: Sequence[int]) -> bytes:
+    """Numbers as the library lays them out. Raises TypeError or ValueError for what is no number of its place's size."""
+    try:
+        return layout.pack(*numbers)
+    except struct.error as error:
+        wrong = [value for value in numbers if not isinstance(value, int)]
+        raise (TypeError if wrong else ValueError)(f'numbers: {error}') from None
 
 
 def _reply(answer) -> Reply:
@@ -126,8 +134,14 @@ def _answers(buffer, count: int) -> Tuple[Reply, ...]:
 
 
 def _room(requests: bytes):
-    """A buffer for the answers of a run, whatever the length of its requests."""
-    return create_string_buffer(max(1, len(requests) // RECORD * ANSWER_BYTES))
+    """A buffer for the answers of a run. A longer run is refused before its buffer is looked at."""
+    return create_string_buffer(max(1, min(len(requests) // RECORD, PREPARED_RECORDS) * ANSWER_BYTES))
+
+
+def _form(form: Form) -> FormStruct:
+    if not isinstance(form, Form):
+        raise TypeError(f'form: a Form is wanted, not {type(form).__name__}')
+    return form._raw
 
 
 class Ledger:
@@ -149,9 +163,8 @@ class Ledger:
     def __init__(self, counts: Sequence[int] = (), counters: Sequence[int] = (), loaded: int = 0, last: int = 0) -> None:
         self._library: Library = library()
         if counts or counters or loaded or last:
-            tables = (*_table(counts, GROUPS, 32, 'counts'), *_table(counters, COUNTERS, 32, 'counters'))
-            packed = _LEDGER.pack(*tables, number(loaded, 'loaded'), number(last, 'last'))
-            self._raw = LedgerStruct.from_buffer_copy(packed)
+            tables = (*_table(counts, GROUPS, 'counts'), *_table(counters, COUNTERS, 'counters'))
+            self._raw = LedgerStruct.from_buffer_copy(_packed(_LEDGER, (*tables, loaded, last)))
         else:
             self._raw = self._library.fresh()
         self._ref = byref(self._raw)
@@ -259,7 +272,7 @@ class Ledger:
         buffer = _room(requests)
         with self._lock:
             made = self._library.prepared_run_in_place(
-                self._ref, km0, len(km0), acl, len(acl), row, certified, form._raw, requests, len(requests), buffer, len(buffer))
+                self._ref, km0, len(km0), acl, len(acl), row, certified, _form(form), requests, len(requests), buffer, len(buffer))
         return Run(made.refusal, _answers(buffer, made.count))
 
 
@@ -286,9 +299,10 @@ class Cabinet:
     def numbers(self) -> Tuple[Tuple[Slot, ...], Tuple[int, ...]]:
         """Slots and counters, as they are at one moment."""
         with self._lock:
-            content = bytes(self._raw)
-        slots = (_SLOT.unpack_from(content, place * _SLOT.size) for place in range(SLOTS))
-        return tuple(Slot(s[:GROUPS], s[-2], s[-1]) for s in slots), _COUNTERS.unpack_from(content, SLOTS * _SLOT.size)
+            entries = _CABINET.unpack(self._raw)
+        starts = range(0, SLOTS * _SLOT_NUMBERS, _SLOT_NUMBERS)
+        slots = tuple(Slot(entries[at : at + GROUPS], entries[at + GROUPS], entries[at + GROUPS + 1]) for at in starts)
+        return slots, entries[SLOTS * _SLOT_NUMBERS :]
 
     @property
     def slots(self) -> Tuple[Slot, ...]:
@@ -385,7 +399,7 @@ class Cabinet:
         buffer = _room(requests)
         with self._lock:
             made = self._library.cabinet_prepared_run_in_place(
-                self._ref, slot, km0, len(km0), acl, len(acl), row, certified, form._raw, requests, len(requests), buffer,
+                self._ref, slot, km0, len(km0), acl, len(acl), row, certified, _form(form), requests, len(requests), buffer,
                 len(buffer))
         return Run(made.refusal, _answers(buffer, made.count))
 
@@ -393,11 +407,11 @@ class Cabinet:
 def _cabinet_bytes(slots: Sequence[Tuple[Sequence[int], int, int]], counters: Sequence[int]) -> bytes:
     if len(slots) > SLOTS:
         raise ValueError(f'slots: at most {SLOTS} are wanted, not {len(slots)}')
-    packed = b''
+    numbers: List[int] = []
     for counts, loaded, last in slots:
-        packed += _SLOT.pack(*_table(counts, GROUPS, 32, 'counts'), number(loaded, 'loaded'), number(last, 'last'))
-    packed = packed.ljust(SLOTS * _SLOT.size, b'\0')
-    return packed + _COUNTERS.pack(*_table(counters, COUNTERS, 32, 'counters'))
+        numbers += (*_table(counts, GROUPS, 'counts'), loaded, last)
+    numbers += [0] * ((SLOTS - len(slots)) * _SLOT_NUMBERS)
+    return _packed(_CABINET, (*numbers, *_table(counters, COUNTERS, 'counters')))
 
 
 def _used(table: Sequence[int]) -> dict:

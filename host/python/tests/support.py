@@ -1,8 +1,10 @@
 """What the tests share: the files that ship, records made by hand, and the command."""
+import io
 import os
 import subprocess
 import sys
 from pathlib import Path
+from unittest import mock
 
 PACKAGE = Path(__file__).resolve().parent.parent
 ROOT = PACKAGE.parent.parent
@@ -51,9 +53,24 @@ def environment(**changes):
     return {**os.environ, 'PYTHONPATH': str(PACKAGE), **changes}
 
 
-def command(*words, stdin=b'', env=None, **options):
-    """Runs the command: its exit status, standard output and standard error."""
-    ran = subprocess.run(
-        [sys.executable, '-m', 'akubolinfe', *map(str, words)], input=stdin, stdout=options.pop('stdout', subprocess.PIPE),
-        stderr=subprocess.PIPE, env=env or environment(), timeout=60, **options)
+def command(*words, **options):
+    """Runs the command: its exit status, standard output and standard error. Without options it runs in this process."""
+    words = [str(word) for word in words]
+    return spawned(words, **options) if options else called(words)
+
+
+def spawned(words, stdin=b'', env=None, stdout=subprocess.PIPE, **options):
+    ran = subprocess.run([sys.executable, '-m', 'akubolinfe', *words], input=stdin, stdout=stdout, stderr=subprocess.PIPE,
+                         env=env or environment(), timeout=60, **options)
     return ran.returncode, ran.stdout, ran.stderr
+
+
+def called(words):
+    from akubolinfe import command as module
+    out, err = [], io.StringIO()
+    with mock.patch.object(module, 'write_output', out.append), mock.patch.object(sys, 'stderr', err):
+        try:
+            status = module.main(words)
+        except SystemExit as end:
+            status = end.code
+    return status, b''.join(out), err.getvalue().encode('utf-8', 'backslashreplace')

@@ -60,24 +60,28 @@ class FoundTest(unittest.TestCase):
         folder = tempfile.TemporaryDirectory()
         self.addCleanup(folder.cleanup)
         self.prefix = Path(folder.name).resolve()
-        self.site = self.prefix / 'lib' / 'python3' / 'site-packages'
-        shutil.copytree(PACKAGE / 'akubolinfe', self.site / 'akubolinfe')
         self.library = Path(_library.library().path)
         if not self.library.is_absolute():
             self.skipTest('the library was found by the loader')
 
-    def found(self):
-        env = {**os.environ, 'PYTHONPATH': str(self.site), 'LD_LIBRARY_PATH': ''}
+    def found(self, site):
+        env = {**os.environ, 'PYTHONPATH': str(site), 'LD_LIBRARY_PATH': ''}
         env.pop('AKUBOLINFE_LIBRARY', None)
         code = 'import akubolinfe._library as l; print(l.library().path)'
         return subprocess.run([sys.executable, '-c', code], env=env, stdout=subprocess.PIPE, stderr=subprocess.PIPE, cwd=self.prefix)
 
     def test_beside_the_module_then_in_the_prefix(self):
-        self.assertIn(b'is not found', self.found().stderr)
-        in_prefix, beside = self.prefix / 'lib' / 'libakubolinfe.so.1', self.site / 'akubolinfe' / 'libakubolinfe.so.1'
-        for path in (in_prefix, beside):
-            shutil.copy(self.library, path)
-            self.assertEqual(self.found().stdout.decode().strip(), str(path))
+        sites = [self.prefix / place for place in ('lib/python3/site-packages', 'share/akubolinfe/python')]
+        for site in sites:
+            shutil.copytree(PACKAGE / 'akubolinfe', site / 'akubolinfe')
+            self.assertIn(b'is not found', self.found(site).stderr)
+        in_prefix = self.prefix / 'lib' / 'libakubolinfe.so.1'
+        shutil.copy(self.library, in_prefix)
+        for site in sites:
+            self.assertEqual(self.found(site).stdout.decode().strip(), str(in_prefix))
+            beside = site / 'akubolinfe' / 'libakubolinfe.so.1'
+            shutil.copy(self.library, beside)
+            self.assertEqual(self.found(site).stdout.decode().strip(), str(beside))
 
 
 class HeaderTest(unittest.TestCase):

@@ -1,6 +1,8 @@
 """Files as text: both ways, what is refused, and that the library finds good what is read."""
 import random
 import unittest
+from types import SimpleNamespace
+from unittest import mock
 
 from .support import ACL, BUNDLE, CRATES, DAY, FAILING_ACL, FAILING_BUNDLE, GROUP, record, use
 
@@ -92,6 +94,28 @@ class AclTest(unittest.TestCase):
         for kind in KINDS:
             self.assertRaises(Unsupported, Text(kind).write, b'')
             self.assertRaises(NotImplementedError, Text(kind).read, b'')
+
+
+class LaterLibraryTest(unittest.TestCase):
+    """A library that has a text form for every kind of file is asked for it, and nothing is converted here."""
+
+    def test_every_kind_is_asked_of_the_library(self):
+        asked = []
+
+        def answer(name):
+            def call(kind, given, length, buffer, room):
+                asked.append((name, kind, given[:length]))
+                buffer[0:3] = b'abc'
+                return SimpleNamespace(refusal=0, line=0, length=3)
+            return call
+
+        later = SimpleNamespace(write_text=answer('write'), read_text=answer('read'))
+        with mock.patch('akubolinfe.text.library', return_value=later):
+            for kind in ('acl', *KINDS):
+                self.assertEqual(_records.write(kind, b'x'), Converted(0, b'abc'))
+                self.assertEqual(_records.read(kind, b'y'), Converted(0, b'abc'))
+        expected = [(name, kind, given) for kind in range(5) for name, given in (('write', b'x'), ('read', b'y'))]
+        self.assertEqual(asked, expected)
 
 
 class RecordsTest(unittest.TestCase):

@@ -53,7 +53,7 @@ def command_value(action):
 
 
 def roff(text):
-    """Text as it stands in a manual page."""
+    """Text as roff."""
     return re.sub(r"^([.'])", r'\\&\1', text.replace('\\', '\\e').replace('-', '\\-'), flags=re.M)
 
 
