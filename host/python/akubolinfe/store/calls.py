@@ -41,6 +41,8 @@ _LENGTH = struct.Struct('>I')
 _ANSWER = struct.Struct('>II')
 _CERTIFICATE = struct.Struct(f'>{HASH}sH')
 _LONG = 512
+# The files that a process keeps in memory. A call needs two at most.
+_HELD_FILES = 64
 _ENTRY_BYTES = 4 * INPUT_BYTES
 
 Answer = Union[Reply, Run]
@@ -60,10 +62,12 @@ class Files:
     def hold(self, content: bytes) -> bytes:
         """Keeps a file in memory. Returns its SHA-256."""
         digest = hashlib.sha256(content).digest()
-        if len(self._held) >= 64:
-            self._held.clear()
-            self._forms.clear()
+        self._held.pop(digest, None)
         self._held[digest] = content
+        if len(self._held) > _HELD_FILES:
+            oldest = next(iter(self._held))
+            del self._held[oldest]
+            self._forms.pop(oldest, None)
         return digest
 
     def content(self, digest: bytes) -> bytes:
