@@ -21,7 +21,6 @@ from __future__ import annotations
 import hashlib
 import struct
 import zlib
-from array import array
 from typing import Callable, Dict, List, NamedTuple, Sequence, Tuple, Union
 
 from .._library import HASH, NO_GROUP, SLOTS
@@ -204,16 +203,15 @@ class Entry(NamedTuple):
         return [value for (_, kind), value in zip(CALLS[self.call].inputs, self.inputs) if kind == 'file']
 
 
-def _numbers(reply: Reply) -> Tuple[int, int]:
-    return reply.refusal, NO_GROUP if reply.group is None else reply.group
-
-
 def _answer_bytes(answer: Answer) -> bytes:
     if not isinstance(answer, Run):
-        return _ANSWER.pack(*_numbers(answer)) + _LENGTH.pack(0)
-    numbers = array('I', [number for reply in answer.answers for number in _numbers(reply)])
-    packed = struct.pack(f'>{len(numbers)}I', *numbers)
-    return _ANSWER.pack(answer.refusal, NO_GROUP) + _LENGTH.pack(len(packed)) + packed
+        return _ANSWER.pack(answer.refusal, _group(answer)) + _LENGTH.pack(0)
+    numbers = [number for reply in answer.answers for number in (reply.refusal, _group(reply))]
+    return _ANSWER.pack(answer.refusal, NO_GROUP) + _LENGTH.pack(4 * len(numbers)) + struct.pack(f'>{len(numbers)}I', *numbers)
+
+
+def _group(reply: Reply) -> int:
+    return NO_GROUP if reply.group is None else reply.group
 
 
 def encode(entry: Entry) -> bytes:
