@@ -237,6 +237,28 @@ class OnSQLite(unittest.TestCase):
         self.assertEqual((len(permits), sum(permits)), (80, 40))
         self.assertSound(store)
 
+    def test_many_acls(self):
+        """More ACLs than a process keeps in memory, some of them in the log alone."""
+        store = self.store(TWO)
+        for uses in range(2000, 1800, -1):
+            new = acl_of(f'group\nlimit uses 3\nlimit counter 4 uses {uses}\nOpPermissions Sign\n')
+            self.assertEqual(store.narrow(0, use(REDUCE, 20), new, HINT), Reply(8))
+            if uses % 50 == 0:
+                self.assertEqual(store.put(1, KM0, new, 20, replace=True), Reply(0))
+        self.assertSound(store)
+
+    def test_a_forked_process_opens_the_store_again(self):
+        store = self.store(ONE)
+        child = os.fork()
+        if child == 0:
+            try:
+                store.request(0, use(SIGN, 20))
+            except Misuse:
+                os._exit(7)
+            finally:
+                os._exit(1)
+        self.assertEqual(os.waitpid(child, 0)[1] >> 8, 7)
+
     def history(self):
         """A store with an entry of each kind, and what was noted of it halfway."""
         store = self.store(TWO, ONE)
@@ -350,6 +372,24 @@ class OnPostgreSQL(OnSQLite):
             store.request(0, use(SIGN, 20))
         self.assertEqual(store.request(0, use(SIGN, 20)), Reply(0, 0))
         self.assertSound(store)
+
+    def test_rights_that_a_user_needs(self):
+        store = self.store(ONE)
+        import psycopg2
+        address, _, schema = store.place.partition('#')
+        with contextlib.closing(psycopg2.connect(address)) as connection, connection.cursor() as cursor:
+            cursor.execute(f'SET search_path TO {schema}; CREATE ROLE asker LOGIN; GRANT USAGE ON SCHEMA {schema} TO asker;'
+                           f' GRANT SELECT ON ALL TABLES IN SCHEMA {schema} TO asker; GRANT INSERT ON akubolinfe_log, akubolinfe_file TO asker;'
+                           ' GRANT UPDATE ON akubolinfe_store TO asker')
+            connection.commit()
+        with Store.open(store.place.replace('postgres@', 'asker@')) as asker:
+            self.assertEqual(asker.request(0, use(SIGN, 20)), Reply(0, 0))
+            self.assertEqual(asker.put(1, KM0, acl_of(TWO), 0), Reply(0))
+            self.assertSound(asker)
+            for change in ('DELETE FROM akubolinfe_log', 'UPDATE akubolinfe_log SET number = 9', 'UPDATE akubolinfe_file SET content = sha256'):
+                with self.assertRaises(Unavailable):
+                    asker.engine.write([(change, ())])
+                asker.engine.rollback()
 
     def test_a_bad_address(self):
         for place in ('postgresql://postgres@127.0.0.1:1/postgres', self.server.place('nothing_there'), self.server.place('Bad-Name'), 'mysql://x'):

@@ -21,7 +21,6 @@ from __future__ import annotations
 import hashlib
 import struct
 import zlib
-from array import array
 from typing import Callable, Dict, List, NamedTuple, Sequence, Tuple, Union
 
 from .._library import HASH, NO_GROUP, SLOTS
@@ -41,6 +40,8 @@ _LENGTH = struct.Struct('>I')
 _ANSWER = struct.Struct('>II')
 _CERTIFICATE = struct.Struct(f'>{HASH}sH')
 _LONG = 512
+# The files that a process keeps in memory. A call needs two at most.
+_HELD_FILES = 64
 _ENTRY_BYTES = 4 * INPUT_BYTES
 
 Answer = Union[Reply, Run]
@@ -60,10 +61,12 @@ class Files:
     def hold(self, content: bytes) -> bytes:
         """Keeps a file in memory. Returns its SHA-256."""
         digest = hashlib.sha256(content).digest()
-        if len(self._held) >= 64:
-            self._held.clear()
-            self._forms.clear()
+        self._held.pop(digest, None)
         self._held[digest] = content
+        if len(self._held) > _HELD_FILES:
+            oldest = next(iter(self._held))
+            del self._held[oldest]
+            self._forms.pop(oldest, None)
         return digest
 
     def content(self, digest: bytes) -> bytes:
@@ -200,16 +203,15 @@ class Entry(NamedTuple):
         return [value for (_, kind), value in zip(CALLS[self.call].inputs, self.inputs) if kind == 'file']
 
 
-def _numbers(reply: Reply) -> Tuple[int, int]:
-    return reply.refusal, NO_GROUP if reply.group is None else reply.group
-
-
 def _answer_bytes(answer: Answer) -> bytes:
     if not isinstance(answer, Run):
-        return _ANSWER.pack(*_numbers(answer)) + _LENGTH.pack(0)
-    numbers = array('I', [number for reply in answer.answers for number in _numbers(reply)])
-    packed = struct.pack(f'>{len(numbers)}I', *numbers)
-    return _ANSWER.pack(answer.refusal, NO_GROUP) + _LENGTH.pack(len(packed)) + packed
+        return _ANSWER.pack(answer.refusal, _group(answer)) + _LENGTH.pack(0)
+    numbers = [number for reply in answer.answers for number in (reply.refusal, _group(reply))]
+    return _ANSWER.pack(answer.refusal, NO_GROUP) + _LENGTH.pack(4 * len(numbers)) + struct.pack(f'>{len(numbers)}I', *numbers)
+
+
+def _group(reply: Reply) -> int:
+    return NO_GROUP if reply.group is None else reply.group
 
 
 def encode(entry: Entry) -> bytes:

@@ -183,16 +183,23 @@ class PostgreSQL:
         with self._failures():
             self._connect()
             if create:
-                self._execute(f'CREATE SCHEMA IF NOT EXISTS {self._schema}')
-                if self._execute("SELECT to_regclass('akubolinfe_store')").fetchone()[0] is not None:
-                    raise Misuse(f'{self.place}: a store is there already')
+                self._claim()
+
+    def _claim(self) -> None:
+        """Makes the schema if it is not there. It must not hold a store yet."""
+        if self._execute('SELECT 1 FROM pg_namespace WHERE nspname = ?', (self._schema,)).fetchone() is None:
+            self._execute(f'CREATE SCHEMA {self._schema}')
+        if self._execute("SELECT to_regclass('akubolinfe_store')").fetchone()[0] is not None:
+            raise Misuse(f'{self.place}: a store is there already')
 
     def _connect(self) -> None:
         self._connection = self._driver.connect(self._address, application_name='akubolinfe')
         self._connection.autocommit = True
         self._prepared: Dict[str, str] = {}
-        # Nothing is answered that is not durable, whatever the server's default is.
-        self._execute(f'SET search_path TO {self._schema}; SET synchronous_commit TO on')
+        # Nothing is answered that is not durable, whatever the server's default is. A client that hangs does not stop the others for ever.
+        patience = int(1000 * _PATIENCE)
+        self._execute(f'SET search_path TO {self._schema}; SET synchronous_commit TO on; SET lock_timeout TO {patience};'
+                      f' SET idle_in_transaction_session_timeout TO {patience}')
         for setting in ('fsync', 'full_page_writes'):
             if self._execute(f'SHOW {setting}').fetchone()[0] != 'on':
                 raise Unavailable(f'{self.place}: the server has {setting} off, so that it loses commits in a crash')

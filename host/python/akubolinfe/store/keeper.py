@@ -63,6 +63,7 @@ class Store:
     def __init__(self, engine) -> None:
         self._engine = engine
         self._lock = RLock()
+        self._process = os.getpid()
         self._files = Files(self._fetch)
         self._encoded: Optional[bytes] = None
         self._state: Optional[State] = None
@@ -194,8 +195,10 @@ class Store:
 
     def _call(self, name: str, *given) -> Answer:
         """One call: lock and read, the proved function, write state and log entry, commit; then the answer."""
-        inputs, statements = self._inputs(name, given)
         with self._lock:
+            if os.getpid() != self._process:
+                raise Misuse(f'{self.place}: a process that forks opens the store again')
+            inputs, statements = self._inputs(name, given)
             try:
                 entries, head = self._begin()
                 before = self._state.generation
