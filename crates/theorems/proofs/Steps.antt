@@ -18,7 +18,7 @@ use Rattle.rules.specs.Runs.{withRow, askGate, bytesOfAnswer, askedInOrder, run
 use Rattle.rules.specs.Prepared.{Form, preparedFault, preparedRun}
 use Rattle.theorems.specs.Demands.{Call, requesting, State, outcome, inForce, after, afterAll, EveryPermit, wantedIn, officerSigned, Allowed, tally, lentInForce}
 use Rattle.theorems.specs.Account.{AllPutDown, isExpansion}
-use Rattle.theorems.specs.Steps.{Step, calling, running, runningPrepared, afterStep, afterSteps, requestsOf, askedUnless, callsBy, callsIn, answersTo}
+use Rattle.theorems.specs.Steps.{HostStep, calling, running, runningPrepared, afterStep, afterSteps, requestsOf, askedUnless, callsBy, callsIn, answersTo}
 use Rattle.theorems.proofs.Counters.{counters-count}
 use Rattle.theorems.proofs.Demand3.{demand-3}
 use Rattle.theorems.proofs.Uses.{narrowing-never-buys-uses}
@@ -69,13 +69,13 @@ module _ (km0 acl : Bytes) (row : List Certificate) where
       (sym (a .0), ap (λ (b : Bytes). b ++ drop (length b) buffer) (sym (a .1)))
 
 -- A step is the calls that it comes to.
-step-calls : (s : State) (x : Step) → afterStep s x ≡ afterAll s (callsBy s x)
+step-calls : (s : State) (x : HostStep) → afterStep s x ≡ afterAll s (callsBy s x)
 unfolding afterStep run preparedRun afterAll
 step-calls s (calling c) = refl
 step-calls s (running km0 row requests buffer) = ended km0 (s .acl) row (s .ledger) requests buffer (runFault runRecords km0 (s .acl) row requests buffer) .0
 step-calls s (runningPrepared km0 row f requests buffer) = ended km0 (s .acl) row (s .ledger) requests buffer (preparedFault km0 (s .acl) row f requests buffer) .0
 
-pub steps-as-calls : (s : State) (xs : List Step) → afterSteps s xs ≡ afterAll s (callsIn s xs)
+pub steps-as-calls : (s : State) (xs : List HostStep) → afterSteps s xs ≡ afterAll s (callsIn s xs)
 unfolding afterSteps callsIn afterAll
 steps-as-calls s [] = refl
 steps-as-calls s (x ∷ xs) =
@@ -97,14 +97,14 @@ prepared-answers s km0 row f requests buffer = ended km0 (s .acl) row (s .ledger
 -- Demand 3, with runs among the calls: of the calls that the steps come to, none of which presents a certificate by the officer's key or a chain that starts
 -- there, every one that is permitted is allowed by the verdict.
 pub demand-3-steps : (bundle acl : Bytes) (verdict : Grade) → desk bundle acl ≡ accepted (approach2 verdict)
-    → (ledger : Ledger) (steps : List Step)
+    → (ledger : Ledger) (steps : List HostStep)
     → let start : State = record { ledger = ledger; acl = acl } in
     Every (λ c. officerSigned (records bundle) c ≡ false) (callsIn start steps)
     → EveryPermit (λ s c. Allowed (records bundle) verdict (wantedIn c)) start (callsIn start steps)
 demand-3-steps bundle acl verdict e ledger steps d = demand-3 bundle acl verdict e ledger (callsIn (record { ledger = ledger; acl = acl }) steps) d
 
 -- Demand 2, the counters, with runs among the calls.
-pub counters-count-steps : (acl : Bytes) (steps : List Step) (counter : ℕ) → counter < countersMax
+pub counters-count-steps : (acl : Bytes) (steps : List HostStep) (counter : ℕ) → counter < countersMax
     → let start : State = record { ledger = freshLedger; acl = acl } in
     getD (afterSteps start steps .ledger .counters) counter 0 ≡ tally counter freshLedger 0 (lentInForce start (callsIn start steps))
 counters-count-steps acl steps counter b =
@@ -112,7 +112,7 @@ counters-count-steps acl steps counter b =
     ap (λ (s : State). getD (s .ledger .counters) counter 0) (steps-as-calls start steps) ∙ counters-count acl (callsIn start steps) counter b
 
 -- Request m, with runs among the calls.
-pub never-buys-uses-steps : (ledger : Ledger) (time : ℕ) (acl : Bytes) (steps : List Step)
+pub never-buys-uses-steps : (ledger : Ledger) (time : ℕ) (acl : Bytes) (steps : List HostStep)
     → let start : State = record { ledger = load ledger time .ledger; acl = acl } in
     EveryPermit (λ s c. isExpansion c ≡ false) start (callsIn start steps) → AllPutDown (aclOf acl) (load ledger time .ledger) start (callsIn start steps)
 never-buys-uses-steps ledger time acl steps d =

@@ -11,20 +11,20 @@ use Rattle.rules.specs.Prepared.{Form, preparedFault, preparedRun}
 use Rattle.theorems.specs.Demands.{Call, requesting, State, outcome, after}
 
 -- A step of a host, with what it gives; the ledger last handed back and the ACL in force go with it.
-pub data Step : Type 0 where
-  calling : Call → Step
-  running : Bytes → List Certificate → Bytes → Bytes → Step  -- KM0, row of certificates, request records, answer buffer
-  runningPrepared : Bytes → List Certificate → Form → Bytes → Bytes → Step  -- KM0, row of certificates, form, request records, answer buffer
+pub data HostStep : Type 0 where
+  calling : Call → HostStep
+  running : Bytes → List Certificate → Bytes → Bytes → HostStep  -- KM0, row of certificates, request records, answer buffer
+  runningPrepared : Bytes → List Certificate → Form → Bytes → Bytes → HostStep  -- KM0, row of certificates, form, request records, answer buffer
 
 -- the state after a step; a run replaces no ACL
-unfoldable pub afterStep : State → Step → State
+unfoldable pub afterStep : State → HostStep → State
 afterStep s (calling c) = after s c
 afterStep s (running km0 row requests buffer) = record { ledger = run (s .ledger) km0 (s .acl) row requests buffer .ledger; acl = s .acl }
 afterStep s (runningPrepared km0 row f requests buffer) =
     record { ledger = preparedRun (s .ledger) km0 (s .acl) row f requests buffer .ledger; acl = s .acl }
 
 -- .. after several, the first of them first
-unfoldable pub afterSteps : State → List Step → State
+unfoldable pub afterSteps : State → List HostStep → State
 afterSteps s [] = s
 afterSteps s (x ∷ xs) = afterSteps (afterStep s x) xs
 
@@ -38,14 +38,14 @@ askedUnless none cs = cs
 askedUnless (some n) cs = []
 
 -- the calls that a step comes to
-abbrev pub callsBy : State → Step → List Call
+abbrev pub callsBy : State → HostStep → List Call
 callsBy s (calling c) = c ∷ []
 callsBy s (running km0 row requests buffer) = askedUnless (runFault runRecords km0 (s .acl) row requests buffer) (requestsOf km0 row requests)
 callsBy s (runningPrepared km0 row f requests buffer) =
     askedUnless (preparedFault km0 (s .acl) row f requests buffer) (requestsOf km0 row requests)
 
 -- .. that several come to
-unfoldable pub callsIn : State → List Step → List Call
+unfoldable pub callsIn : State → List HostStep → List Call
 callsIn s [] = []
 callsIn s (x ∷ xs) = callsBy s x ++ callsIn (afterStep s x) xs
 
