@@ -488,7 +488,7 @@ expand-same = Loops.expand-same
 pub certified-more : (q r : Request) (h : PresentsMore q r) (g : Group) → certified q g ≡ true → certified r g ≡ true
 certified-more = Loops.certified-more
 
--- A chain that comes to a key twice can be replaced by a part of it that does not.
+-- A chain that visits a key twice can be replaced by a part of it that does not.
 pub chain-straight : (p : ℕ) (cs : List Certificate) (ds : List Delegation) (k : Bytes) (m : Option ℕ) → ChainPresents p cs ds k m
     → Presents cs k m ⊎ ((h : Bytes) × (c : Chain p ds k h) × Straight k (c .links) × Presents cs h m)
 chain-straight = Loops.chain-straight
@@ -701,7 +701,7 @@ pub refusal-goes-on : (km0 acl : Bytes) (row : List Certificate) (l : Ledger) (r
     → askedInOrder (askGate km0 acl row) l (r ∷ rs) ≡ answeredFirst (refuse n near) (askedInOrder (askGate km0 acl row) l rs)
 refusal-goes-on = Runs.refusal-goes-on
 
--- The answers, refused as a whole or not, are those of the calls that the run stands for.
+-- The answers are those of its requests as calls of the gate, or none if it is refused as a whole.
 pub run-answers : (s : State) (km0 : Bytes) (row : List Certificate) (requests buffer : Bytes)
     → let answers = answersTo s (callsBy s (running km0 row requests buffer)) in
     run (s .ledger) km0 (s .acl) row requests buffer .buffer ≡ answers ++ drop (length answers) buffer
@@ -770,7 +770,7 @@ pub prepared-plain : (l : Ledger) (km0 acl : Bytes) (row : List Certificate) (f 
     → preparedRun l km0 acl row f requests buffer ≡ run l km0 acl row requests buffer
 prepared-plain = Prepared.prepared-plain
 
--- The answers are those of the calls that the run stands for.
+-- The answers are those of its requests as calls of the gate, or none if it is refused as a whole.
 pub prepared-answers : (s : State) (km0 : Bytes) (row : List Certificate) (f : Form) (requests buffer : Bytes)
     → let answers = answersTo s (callsBy s (runningPrepared km0 row f requests buffer)) in
     preparedRun (s .ledger) km0 (s .acl) row f requests buffer .buffer ≡ answers ++ drop (length answers) buffer
