@@ -23,8 +23,9 @@ use Rattle.rules.specs.CabinetRuns.{runInSlot, cabinetRun, cabinetPreparedRun}
 use Rattle.rules.proofs.Laws.{never}
 use Rattle.theorems.specs.Demands.{outcome}
 use Rattle.theorems.specs.CabinetSteps.{CabinetStep, callingCabinet, runningAt, runningPreparedAt, cabinetAfterStep, cabinetAfterSteps, cabinetRequestsOf, cabinetAnswers, askedInSlot, cabinetCallsBy, cabinetCallsIn}
-use Rattle.theorems.specs.Cabinets.{CabinetCall, requestingAt, cabinetAfter, cabinetAfterAll, cabinetTally, turns, LentInForce, Unsigned, PermitAllowed}
+use Rattle.theorems.specs.Cabinets.{CabinetCall, requestingAt, cabinetAfter, cabinetAfterAll, cabinetTally, callsTo, turns, readingsBefore, LentInForce, Unsigned, PermitAllowed}
 use Rattle.theorems.proofs.SharedCounters.{counters-count-all}
+use Rattle.theorems.proofs.Isolation.{isolation}
 use Rattle.theorems.proofs.SlotDemand3.{demand-3-slot}
 use Rattle.theorems.proofs.Slots.{inside, as-the-gate, slots-kept, put-back}
 
@@ -32,50 +33,48 @@ use Rattle.theorems.proofs.Slots.{inside, as-the-gate, slots-kept, put-
 put-over : (c : Cabinet) (slot : ℕ) (l m : Ledger) → putBack (putBack c slot l) slot m ≡ putBack c slot m
 put-over c slot l m = ap (λ (ss : List Slot). let d : Cabinet = record { slots = ss; counters = m .counters } in d) (set-set (c .slots) slot (countsAndTimes l) (countsAndTimes m))
 
-module _ (slot : ℕ) (km0 acl : Bytes) (row : List Certificate) where
-  abbrev callOf : Bytes → CabinetCall
-  callOf r = requestingAt slot km0 acl (withRow r row)
+abbrev callOf : (slot : ℕ) (km0 acl : Bytes) (row : List Certificate) → Bytes → CabinetCall
+callOf slot km0 acl row r = requestingAt slot km0 acl (withRow r row)
 
-  module _ (h : slot < slotsMax) where
-    asked-at : (c : Cabinet) (rs : List Bytes) → length (c .slots) ≡ slotsMax
-        → (cabinetAfterAll c (map callOf rs) ≡ putBack c slot (askedInOrder (askGate km0 acl row) (ledgerAt c slot) rs .ledger))
-        × (cabinetAnswers c (map callOf rs) ≡ askedInOrder (askGate km0 acl row) (ledgerAt c slot) rs .answers)
-    unfolding askedInOrder cabinetAfterAll cabinetAnswers outcome
-    asked-at c [] n = (sym (put-back c slot), refl)
-    asked-at c (r ∷ rs) n =
-        let x = callOf r in
-        let ask = askGate km0 acl row in
-        let o = ask (ledgerAt c slot) r in
-        let g = as-the-gate c x slot n refl h in
-        let i = asked-at (cabinetAfter c x) rs (slots-kept c x ∙ n) in
-        let e : askedInOrder ask (ledgerAt (cabinetAfter c x) slot) rs ≡ askedInOrder ask (o .ledger) rs = ap (λ (l : Ledger). askedInOrder ask l rs) (g .1) in
-        let d : cabinetAfter c x ≡ putBack c slot (o .ledger) = ap (λ (y : _). y .cabinet) (inside c x slot refl h) in
-        let p : putBack (cabinetAfter c x) slot (askedInOrder ask (o .ledger) rs .ledger) ≡ putBack c slot (askedInOrder ask (o .ledger) rs .ledger) = ap (λ (k : Cabinet). putBack k slot (askedInOrder ask (o .ledger) rs .ledger)) d ∙ put-over c slot (o .ledger) (askedInOrder ask (o .ledger) rs .ledger) in (
-          i .0 ∙ ap (λ (y : Ran). putBack (cabinetAfter c x) slot (y .ledger)) e ∙ p,
-          ap₂ (λ (a b : Bytes). a ++ b) (ap bytesOfAnswer (g .0)) (i .1 ∙ ap (λ (y : Ran). y .answers) e),
-        )
+asked-at : (slot : ℕ) (km0 acl : Bytes) (row : List Certificate) (h : slot < slotsMax) (c : Cabinet) (rs : List Bytes) → length (c .slots) ≡ slotsMax
+    → (cabinetAfterAll c (map (callOf slot km0 acl row) rs) ≡ putBack c slot (askedInOrder (askGate km0 acl row) (ledgerAt c slot) rs .ledger))
+    × (cabinetAnswers c (map (callOf slot km0 acl row) rs) ≡ askedInOrder (askGate km0 acl row) (ledgerAt c slot) rs .answers)
+unfolding askedInOrder cabinetAfterAll cabinetAnswers outcome
+asked-at slot km0 acl row h c [] n = (sym (put-back c slot), refl)
+asked-at slot km0 acl row h c (r ∷ rs) n =
+    let x = callOf slot km0 acl row r in
+    let ask = askGate km0 acl row in
+    let o = ask (ledgerAt c slot) r in
+    let g = as-the-gate c x slot n refl h in
+    let i = asked-at slot km0 acl row h (cabinetAfter c x) rs (slots-kept c x ∙ n) in
+    let e : askedInOrder ask (ledgerAt (cabinetAfter c x) slot) rs ≡ askedInOrder ask (o .ledger) rs = ap (λ (l : Ledger). askedInOrder ask l rs) (g .1) in
+    let d : cabinetAfter c x ≡ putBack c slot (o .ledger) = ap (λ (y : _). y .cabinet) (inside c x slot refl h) in
+    let p : putBack (cabinetAfter c x) slot (askedInOrder ask (o .ledger) rs .ledger) ≡ putBack c slot (askedInOrder ask (o .ledger) rs .ledger) = ap (λ (k : Cabinet). putBack k slot (askedInOrder ask (o .ledger) rs .ledger)) d ∙ put-over c slot (o .ledger) (askedInOrder ask (o .ledger) rs .ledger) in (
+      i .0 ∙ ap (λ (y : Ran). putBack (cabinetAfter c x) slot (y .ledger)) e ∙ p,
+      ap₂ (λ (a b : Bytes). a ++ b) (ap bytesOfAnswer (g .0)) (i .1 ∙ ap (λ (y : Ran). y .answers) e),
+    )
 
-    -- what a run comes to by its fault
-    ended : (c : Cabinet) (requests buffer : Bytes) → length (c .slots) ≡ slotsMax → (o : RunOutcome)
-        → o ≡ runEnd (ledgerAt c slot) requests buffer none (askedInOrder (askGate km0 acl row) (ledgerAt c slot) (records requests))
-        → runInSlot c slot buffer o
-        ≡ record { reply = ran (requestsIn requests); cabinet = cabinetAfterAll c (cabinetRequestsOf slot km0 acl row requests); buffer = cabinetAnswers c (cabinetRequestsOf slot km0 acl row requests) ++ drop (length (cabinetAnswers c (cabinetRequestsOf slot km0 acl row requests))) buffer }
-    ended c requests buffer n o e =
-        let a = asked-at c (records requests) n in
-        rw (lt-ltb slot slotsMax h, e, a .0, a .1)
+-- what a run comes to by its fault
+ended : (slot : ℕ) (km0 acl : Bytes) (row : List Certificate) (h : slot < slotsMax) (c : Cabinet) (requests buffer : Bytes) → length (c .slots) ≡ slotsMax → (o : RunOutcome)
+    → o ≡ runEnd (ledgerAt c slot) requests buffer none (askedInOrder (askGate km0 acl row) (ledgerAt c slot) (records requests))
+    → runInSlot c slot buffer o
+    ≡ record { reply = ran (requestsIn requests); cabinet = cabinetAfterAll c (cabinetRequestsOf slot km0 acl row requests); buffer = cabinetAnswers c (cabinetRequestsOf slot km0 acl row requests) ++ drop (length (cabinetAnswers c (cabinetRequestsOf slot km0 acl row requests))) buffer }
+ended slot km0 acl row h c requests buffer n o e =
+    let a = asked-at slot km0 acl row h c (records requests) n in
+    rw (lt-ltb slot slotsMax h, e, a .0, a .1)
 
-    -- "On every ledger and run not refused whole, answers and ledger equal those of asking it one by one in order": in a slot
-    pub slot-run : (c : Cabinet) (requests buffer : Bytes) → length (c .slots) ≡ slotsMax → runFault runRecords km0 acl row requests buffer ≡ none
-        → cabinetRun c slot km0 acl row requests buffer
-        ≡ record { reply = ran (requestsIn requests); cabinet = cabinetAfterAll c (cabinetRequestsOf slot km0 acl row requests); buffer = cabinetAnswers c (cabinetRequestsOf slot km0 acl row requests) ++ drop (length (cabinetAnswers c (cabinetRequestsOf slot km0 acl row requests))) buffer }
-    unfolding cabinetRun run
-    slot-run c requests buffer n e = ended c requests buffer n (run (ledgerAt c slot) km0 acl row requests buffer) (rw e)
+-- "On every ledger and run not refused whole, answers and ledger equal those of asking it one by one in order": in a slot
+pub slot-run : (slot : ℕ) (km0 acl : Bytes) (row : List Certificate) (h : slot < slotsMax) (c : Cabinet) (requests buffer : Bytes) → length (c .slots) ≡ slotsMax → runFault runRecords km0 acl row requests buffer ≡ none
+    → cabinetRun c slot km0 acl row requests buffer
+    ≡ record { reply = ran (requestsIn requests); cabinet = cabinetAfterAll c (cabinetRequestsOf slot km0 acl row requests); buffer = cabinetAnswers c (cabinetRequestsOf slot km0 acl row requests) ++ drop (length (cabinetAnswers c (cabinetRequestsOf slot km0 acl row requests))) buffer }
+unfolding cabinetRun run
+slot-run slot km0 acl row h c requests buffer n e = ended slot km0 acl row h c requests buffer n (run (ledgerAt c slot) km0 acl row requests buffer) (rw e)
 
-    pub slot-prepared-run : (c : Cabinet) (f : Form) (requests buffer : Bytes) → length (c .slots) ≡ slotsMax → preparedFault km0 acl row f requests buffer ≡ none
-        → cabinetPreparedRun c slot km0 acl row f requests buffer
-        ≡ record { reply = ran (requestsIn requests); cabinet = cabinetAfterAll c (cabinetRequestsOf slot km0 acl row requests); buffer = cabinetAnswers c (cabinetRequestsOf slot km0 acl row requests) ++ drop (length (cabinetAnswers c (cabinetRequestsOf slot km0 acl row requests))) buffer }
-    unfolding cabinetPreparedRun preparedRun
-    slot-prepared-run c f requests buffer n e = ended c requests buffer n (preparedRun (ledgerAt c slot) km0 acl row f requests buffer) (rw e)
+pub slot-prepared-run : (slot : ℕ) (km0 acl : Bytes) (row : List Certificate) (h : slot < slotsMax) (c : Cabinet) (f : Form) (requests buffer : Bytes) → length (c .slots) ≡ slotsMax → preparedFault km0 acl row f requests buffer ≡ none
+    → cabinetPreparedRun c slot km0 acl row f requests buffer
+    ≡ record { reply = ran (requestsIn requests); cabinet = cabinetAfterAll c (cabinetRequestsOf slot km0 acl row requests); buffer = cabinetAnswers c (cabinetRequestsOf slot km0 acl row requests) ++ drop (length (cabinetAnswers c (cabinetRequestsOf slot km0 acl row requests))) buffer }
+unfolding cabinetPreparedRun preparedRun
+slot-prepared-run slot km0 acl row h c f requests buffer n e = ended slot km0 acl row h c requests buffer n (preparedRun (ledgerAt c slot) km0 acl row f requests buffer) (rw e)
 
 -- a run in a slot, by what it comes to on the slot's ledger: a reply of 13, or of a run refused as a whole, leaves cabinet and buffer
 refused-in : (c : Cabinet) (slot : ℕ) (requests buffer : Bytes) (f : Option ℕ) (o : Ran) (n : ℕ) → runInSlot c slot buffer (runEnd (ledgerAt c slot) requests buffer f o) .reply ≡ refusedWhole n
@@ -95,39 +94,37 @@ others-in c slot other buffer o e = pick (ltb slot slotsMax) refl
     pick true t = rw t (getD-set-other (c .slots) slot other _ emptySlot (λ q. eqb-false slot other e (sym q)))
     pick false t = rw t
 
-module _ (c : Cabinet) (slot : ℕ) (km0 acl : Bytes) (row : List Certificate) (requests buffer : Bytes) where
-  -- "13, first of all"
-  pub slot-run-13 : slotsMax ≤ slot → cabinetRun c slot km0 acl row requests buffer ≡ record { reply = refusedWhole noSlot; cabinet = c; buffer = buffer }
-  unfolding cabinetRun
-  slot-run-13 h = rw (le-ltb slot slotsMax h)
+-- "13, first of all"
+pub slot-run-13 : (c : Cabinet) (slot : ℕ) (km0 acl : Bytes) (row : List Certificate) (requests buffer : Bytes) → slotsMax ≤ slot → cabinetRun c slot km0 acl row requests buffer ≡ record { reply = refusedWhole noSlot; cabinet = c; buffer = buffer }
+unfolding cabinetRun
+slot-run-13 c slot km0 acl row requests buffer h = rw (le-ltb slot slotsMax h)
 
-  -- a run refused whole leaves cabinet and buffer
-  pub slot-run-refused : (n : ℕ) → cabinetRun c slot km0 acl row requests buffer .reply ≡ refusedWhole n
-      → (cabinetRun c slot km0 acl row requests buffer .cabinet ≡ c) × (cabinetRun c slot km0 acl row requests buffer .buffer ≡ buffer)
-  unfolding cabinetRun run
-  slot-run-refused n e =
-      refused-in c slot requests buffer (runFault runRecords km0 acl row requests buffer) (askedInOrder (askGate km0 acl row) (ledgerAt c slot) (records requests)) n e
+-- a run refused whole leaves cabinet and buffer
+pub slot-run-refused : (c : Cabinet) (slot : ℕ) (km0 acl : Bytes) (row : List Certificate) (requests buffer : Bytes) (n : ℕ) → cabinetRun c slot km0 acl row requests buffer .reply ≡ refusedWhole n
+    → (cabinetRun c slot km0 acl row requests buffer .cabinet ≡ c) × (cabinetRun c slot km0 acl row requests buffer .buffer ≡ buffer)
+unfolding cabinetRun run
+slot-run-refused c slot km0 acl row requests buffer n e =
+    refused-in c slot requests buffer (runFault runRecords km0 acl row requests buffer) (askedInOrder (askGate km0 acl row) (ledgerAt c slot) (records requests)) n e
 
-  -- "changes no other slot's counts or times"
-  pub slot-run-others : (other : ℕ) → eqb slot other ≡ false → slotAt (cabinetRun c slot km0 acl row requests buffer .cabinet) other ≡ slotAt c other
-  unfolding cabinetRun
-  slot-run-others other e = others-in c slot other buffer (run (ledgerAt c slot) km0 acl row requests buffer) e
+-- "changes no other slot's counts or times"
+pub slot-run-others : (c : Cabinet) (slot : ℕ) (km0 acl : Bytes) (row : List Certificate) (requests buffer : Bytes) (other : ℕ) → eqb slot other ≡ false → slotAt (cabinetRun c slot km0 acl row requests buffer .cabinet) other ≡ slotAt c other
+unfolding cabinetRun
+slot-run-others c slot km0 acl row requests buffer other e = others-in c slot other buffer (run (ledgerAt c slot) km0 acl row requests buffer) e
 
-  -- .. on a prepared ACL
-  module _ (f : Form) where
-    pub slot-prepared-13 : slotsMax ≤ slot → cabinetPreparedRun c slot km0 acl row f requests buffer ≡ record { reply = refusedWhole noSlot; cabinet = c; buffer = buffer }
-    unfolding cabinetPreparedRun
-    slot-prepared-13 h = rw (le-ltb slot slotsMax h)
+-- .. on a prepared ACL
+pub slot-prepared-13 : (c : Cabinet) (slot : ℕ) (km0 acl : Bytes) (row : List Certificate) (requests buffer : Bytes) (f : Form) → slotsMax ≤ slot → cabinetPreparedRun c slot km0 acl row f requests buffer ≡ record { reply = refusedWhole noSlot; cabinet = c; buffer = buffer }
+unfolding cabinetPreparedRun
+slot-prepared-13 c slot km0 acl row requests buffer f h = rw (le-ltb slot slotsMax h)
 
-    pub slot-prepared-refused : (n : ℕ) → cabinetPreparedRun c slot km0 acl row f requests buffer .reply ≡ refusedWhole n
-        → (cabinetPreparedRun c slot km0 acl row f requests buffer .cabinet ≡ c) × (cabinetPreparedRun c slot km0 acl row f requests buffer .buffer ≡ buffer)
-    unfolding cabinetPreparedRun preparedRun
-    slot-prepared-refused n e =
-        refused-in c slot requests buffer (preparedFault km0 acl row f requests buffer) (askedInOrder (askGate km0 acl row) (ledgerAt c slot) (records requests)) n e
+pub slot-prepared-refused : (c : Cabinet) (slot : ℕ) (km0 acl : Bytes) (row : List Certificate) (requests buffer : Bytes) (f : Form) (n : ℕ) → cabinetPreparedRun c slot km0 acl row f requests buffer .reply ≡ refusedWhole n
+    → (cabinetPreparedRun c slot km0 acl row f requests buffer .cabinet ≡ c) × (cabinetPreparedRun c slot km0 acl row f requests buffer .buffer ≡ buffer)
+unfolding cabinetPreparedRun preparedRun
+slot-prepared-refused c slot km0 acl row requests buffer f n e =
+    refused-in c slot requests buffer (preparedFault km0 acl row f requests buffer) (askedInOrder (askGate km0 acl row) (ledgerAt c slot) (records requests)) n e
 
-    pub slot-prepared-others : (other : ℕ) → eqb slot other ≡ false → slotAt (cabinetPreparedRun c slot km0 acl row f requests buffer .cabinet) other ≡ slotAt c other
-    unfolding cabinetPreparedRun
-    slot-prepared-others other e = others-in c slot other buffer (preparedRun (ledgerAt c slot) km0 acl row f requests buffer) e
+pub slot-prepared-others : (c : Cabinet) (slot : ℕ) (km0 acl : Bytes) (row : List Certificate) (requests buffer : Bytes) (f : Form) (other : ℕ) → eqb slot other ≡ false → slotAt (cabinetPreparedRun c slot km0 acl row f requests buffer .cabinet) other ≡ slotAt c other
+unfolding cabinetPreparedRun
+slot-prepared-others c slot km0 acl row requests buffer f other e = others-in c slot other buffer (preparedRun (ledgerAt c slot) km0 acl row f requests buffer) e
 
 -- ---- runs among calls of the cabinet
 cabinet-append : (c : Cabinet) (xs ys : List CabinetCall) → cabinetAfterAll c (xs ++ ys) ≡ cabinetAfterAll (cabinetAfterAll c xs) ys
@@ -184,3 +181,12 @@ pub demand-3-slot-steps : (bundle acl : Bytes) (verdict : Grade) → desk bundle
     → Every (Unsigned (records bundle)) (turns slot cabinet (cabinetCallsIn steps))
     → Every (PermitAllowed (records bundle) verdict) (turns slot cabinet (cabinetCallsIn steps))
 demand-3-slot-steps bundle acl verdict e cabinet slot steps f d = demand-3-slot bundle acl verdict e cabinet slot (cabinetCallsIn steps) f d
+
+-- Isolation, with runs among the calls: the slot's calls are its own and the requests of its runs.
+pub isolation-steps : (slot : ℕ) (c d : Cabinet) (xs ys : List CabinetStep) → length (c .slots) ≡ slotsMax → length (d .slots) ≡ slotsMax
+    → slotAt c slot ≡ slotAt d slot
+    → callsTo slot (cabinetCallsIn xs) ≡ callsTo slot (cabinetCallsIn ys)
+    → map readingsBefore (turns slot c (cabinetCallsIn xs)) ≡ map readingsBefore (turns slot d (cabinetCallsIn ys))
+    → (map (λ t. t .answer) (turns slot c (cabinetCallsIn xs)) ≡ map (λ t. t .answer) (turns slot d (cabinetCallsIn ys)))
+    × (map (λ t. t .slot) (turns slot c (cabinetCallsIn xs)) ≡ map (λ t. t .slot) (turns slot d (cabinetCallsIn ys)))
+isolation-steps slot c d xs ys n m s e r = isolation slot c d (cabinetCallsIn xs) (cabinetCallsIn ys) n m s e r

@@ -205,7 +205,7 @@ module _ (small large : Capacity) (more : NoSmaller small large) where
         last = refl;
       }
 
-  -- what a judged call comes to, by what its permit comes to
+  -- the outcome of a judged call is carried over, if that of its permit is
   settled-same : (l : Ledger) → SizedUnder small l → (fault : Option ℕ) (km0 : Bytes) (gs : List Group) (q : Request) → AclFitsUnder small gs
       → (onSmall onLarge : ℕ → Ledger → Outcome) → ((k : ℕ) (m : Ledger) → onLarge k (carriedOver small large m) ≡ outcomeCarriedOver small large (onSmall k m))
       → outcomeUnless (carriedOver small large l) fault (settle (carriedOver small large l) (q .time) onLarge (judge (carriedOver small large l) km0 gs q))
@@ -325,7 +325,7 @@ unfolding after
 after-unchanged s c h e =
     ap (λ (o : Outcome). let t : State = record { ledger = o .ledger; acl = inForce (s .acl) (replacement (s .acl) c) (o .answer) } in t) (read-unchanged s c h e)
 
--- .. and so every sequence of such calls has the same answers, and the state after it is that of the smaller tables, carried over.
+-- Every sequence of such calls has the same answers, and the state after it is that of the smaller tables, carried over.
 pub all-unchanged : (s : State) (cs : List Call) → SizedUnder base (s .ledger) → AllAcceptedUnder base s cs
     → (replies (stateCarriedOver base today s) cs ≡ repliesUnder base s cs)
     × (afterAll (stateCarriedOver base today s) cs ≡ stateCarriedOver base today (afterAllUnder base s cs))

@@ -110,12 +110,12 @@ module _ (p : ℕ) (ds : List Delegation) where
         (and-both (bit p (d .mask) && same (d .from) k) _ (and-both (bit p (d .mask)) (same (d .from) k) (u .0 .1) (eq-same (d .from) k (l .0)))
         (or-right (any (serves (d .to) m) cs) _ (of-links n (d .to) h (e ∷ links) (omega arith) (omega arith) (u .1) (l .1) s)))
 
-  -- The definition holds exactly where there is a chain to a presented certificate.
-  pub chained-is : (k : Bytes) (cs : List Certificate) (m : Option ℕ) → (chained chainMax p k m cs ds ≡ true) ↔ ChainPresents p cs ds k m
-  chained-is k cs m = (
-    λ e. let r = linked cs m chainMax k e in let c = r .1 in (r .0, record { links = c .links; any-links = c .any-links; few-links = c .few-links; each = c .each; leads = c .leads }, r .2),
-    λ x. let c = x .1 in of-links cs m chainMax k (x .0) (c .links) (c .any-links) (c .few-links) (c .each) (c .leads) (x .2),
-  )
+-- The definition holds exactly where there is a chain to a presented certificate.
+pub chained-is : (p : ℕ) (ds : List Delegation) (k : Bytes) (cs : List Certificate) (m : Option ℕ) → (chained chainMax p k m cs ds ≡ true) ↔ ChainPresents p cs ds k m
+chained-is p ds k cs m = (
+  λ e. let r = linked p ds cs m chainMax k e in let c = r .1 in (r .0, record { links = c .links; any-links = c .any-links; few-links = c .few-links; each = c .each; leads = c .leads }, r .2),
+  λ x. let c = x .1 in of-links p ds cs m chainMax k (x .0) (c .links) (c .any-links) (c .few-links) (c .each) (c .leads) (x .2),
+)
 
 -- A blob request is certified by no chain.
 use-chained-is : (q : Request) (k : Bytes) (m : Option ℕ) → (delegated (q .wanted) k m (q .certificates) (q .delegations) ≡ true) ↔ UseChained q k m

@@ -65,20 +65,19 @@ unfolding fileRecord fileRuleNext
 file-says file rest e = rw (and-left (eqb (kind file) 15) (fileLaidOut file) e)
 
 -- Of an ACL without fault, any MakeBlob or MakeArchiveBlob action, with the records before and after it.
-module _ (acl : Bytes) (sound : aclFault (records acl) ≡ none) (before : List Bytes) (r : Bytes) (after : List Bytes) (parted : records acl ≡ before ++ (r ∷ after)) (action : IsBlobAction r) where
-  rest-read : (t : AclPlace) × (read (actionAdded t r) after ≡ none)
-  unfolding aclFaultUnder scan
-  rest-read =
-      let t = read-from aclStart before (r ∷ after) (rw parted at sound) in
-      let u = orNext-next (aclRecordFault (t .0) r) (read (afterRecord (t .0) r) after) (t .1) in
-      (t .0, rw (after-action (t .0) r action) at u)
+rest-read : (acl : Bytes) (sound : aclFault (records acl) ≡ none) (before : List Bytes) (r : Bytes) (after : List Bytes) (parted : records acl ≡ before ++ (r ∷ after)) (action : IsBlobAction r) → (t : AclPlace) × (read (actionAdded t r) after ≡ none)
+unfolding aclFaultUnder scan
+rest-read acl sound before r after parted action =
+    let t = read-from aclStart before (r ∷ after) (rw parted at sound) in
+    let u = orNext-next (aclRecordFault (t .0) r) (read (afterRecord (t .0) r) after) (t .1) in
+    (t .0, rw (after-action (t .0) r action) at u)
 
-  -- Where it announces kind 15, that comes next, well formed, and is what its blobfile says; ..
-  pub file-follows : announcesFile r ≡ true → (file : Bytes) × (rest : List Bytes) × (after ≡ file ∷ rest) × (fileRecord file ≡ true) × (fileRuleNext after ≡ some (fileRuleOf file))
-  file-follows a =
-      let w = due-comes (actionAdded (rest-read .0) r) after a (rest-read .1) in
-      (w .0, w .1, w .2, w .3, ap fileRuleNext (w .2) ∙ file-says (w .0) (w .1) (w .3))
+-- Where it announces kind 15, that comes next, well formed, and is what its blobfile says; ..
+pub file-follows : (acl : Bytes) (sound : aclFault (records acl) ≡ none) (before : List Bytes) (r : Bytes) (after : List Bytes) (parted : records acl ≡ before ++ (r ∷ after)) (action : IsBlobAction r) → announcesFile r ≡ true → (file : Bytes) × (rest : List Bytes) × (after ≡ file ∷ rest) × (fileRecord file ≡ true) × (fileRuleNext after ≡ some (fileRuleOf file))
+file-follows acl sound before r after parted action a =
+    let w = due-comes (actionAdded (rest-read acl sound before r after parted action .0) r) after a (rest-read acl sound before r after parted action .1) in
+    (w .0, w .1, w .2, w .3, ap fileRuleNext (w .2) ∙ file-says (w .0) (w .1) (w .3))
 
-  -- .. where it does not, it has no blobfile.
-  pub file-absent : announcesFile r ≡ false → fileRuleNext after ≡ none
-  file-absent a = undue-absent (actionAdded (rest-read .0) r) after a (rest-read .1)
+-- .. where it does not, it has no blobfile.
+pub file-absent : (acl : Bytes) (sound : aclFault (records acl) ≡ none) (before : List Bytes) (r : Bytes) (after : List Bytes) (parted : records acl ≡ before ++ (r ∷ after)) (action : IsBlobAction r) → announcesFile r ≡ false → fileRuleNext after ≡ none
+file-absent acl sound before r after parted action a = undue-absent (actionAdded (rest-read acl sound before r after parted action .0) r) after a (rest-read acl sound before r after parted action .1)

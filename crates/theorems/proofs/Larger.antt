@@ -52,7 +52,7 @@ fits-more m n file h e =
     let a = leb-true (length file) (m * recordBytes) (and-right whole (leb (length file) (m * recordBytes)) e) in
     and-both whole (leb (length file) (n * recordBytes)) (and-left whole (leb (length file) (m * recordBytes)) e) (le-leb (length file) (n * recordBytes) (omega arith))
 
--- .. and has no fault under it, if its records have none
+-- a file without fault has none under a greater length, if its records have none
 file-more : (m n : ℕ) (f g : List Bytes → Option ℕ) (file : Bytes) → m ≤ n → (f (records file) ≡ none → g (records file) ≡ none) → fileFault m f file ≡ none → fileFault n g file ≡ none
 unfolding fileFault firstFault
 file-more m n f g file h k e =

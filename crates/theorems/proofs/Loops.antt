@@ -24,33 +24,32 @@ use Rattle.theorems.proofs.Certification.{certified-is}
 use Rattle.theorems.proofs.Permit.{called}
 use Rattle.theorems.specs.Presented.{PresentsMore, PresentsSame, NotTo, Straight}
 
-module _ (q r : Request) (h : PresentsMore q r) where
-  presents-more : (k : Bytes) (m : Option ℕ) → Presents (q .certificates) k m → Presents (r .certificates) k m
-  presents-more k m s =
-      record { certificate = s .certificate; presented = h .certificates (s .certificate) (s .presented); hash = s .hash; mechanism = s .mechanism }
+presents-more : (q r : Request) (h : PresentsMore q r) (k : Bytes) (m : Option ℕ) → Presents (q .certificates) k m → Presents (r .certificates) k m
+presents-more q r h k m s =
+    record { certificate = s .certificate; presented = h .certificates (s .certificate) (s .presented); hash = s .hash; mechanism = s .mechanism }
 
-  chain-more : (p : ℕ) (k e : Bytes) → Chain p (q .delegations) k e → Chain p (r .delegations) k e
-  chain-more p k e c =
-      record {
-        links = c .links;
-        any-links = c .any-links;
-        few-links = c .few-links;
-        each = every-map _ _ (c .links) (λ d u. (h .delegations d (u .0), u .1)) (c .each);
-        leads = c .leads;
-      }
+chain-more : (q r : Request) (h : PresentsMore q r) (p : ℕ) (k e : Bytes) → Chain p (q .delegations) k e → Chain p (r .delegations) k e
+chain-more q r h p k e c =
+    record {
+      links = c .links;
+      any-links = c .any-links;
+      few-links = c .few-links;
+      each = every-map _ _ (c .links) (λ d u. (h .delegations d (u .0), u .1)) (c .each);
+      leads = c .leads;
+    }
 
-  vouched-more : (k : Bytes) (m : Option ℕ) → Vouched q k m → Vouched r k m
-  vouched-more k m (inl x) = inl (presents-more k m x)
-  vouched-more k m (inr x) =
-      inr (x .0, sym (h .sameWanted) ∙ x .1, (x .2 .0, chain-more (x .0) k (x .2 .0) (x .2 .1), presents-more (x .2 .0) m (x .2 .2)))
+vouched-more : (q r : Request) (h : PresentsMore q r) (k : Bytes) (m : Option ℕ) → Vouched q k m → Vouched r k m
+vouched-more q r h k m (inl x) = inl (presents-more q r h k m x)
+vouched-more q r h k m (inr x) =
+    inr (x .0, sym (h .sameWanted) ∙ x .1, (x .2 .0, chain-more q r h (x .0) k (x .2 .0) (x .2 .1), presents-more q r h (x .2 .0) m (x .2 .2)))
 
-  -- What is presented besides takes no certification away.
-  pub certified-more : (g : Group) → certified q g ≡ true → certified r g ≡ true
-  certified-more g e = certified-is r g .1 (pick (certified-is q g .0 e))
-    where
-      pick : Certified q g → Certified r g
-      pick (inl x) = inl x
-      pick (inr x) = inr (x .0, x .1, vouched-more (x .0) (g .mechanism) (x .2))
+-- What is presented besides takes no certification away.
+pub certified-more : (q r : Request) (h : PresentsMore q r) (g : Group) → certified q g ≡ true → certified r g ≡ true
+certified-more q r h g e = certified-is r g .1 (pick (certified-is q g .0 e))
+  where
+    pick : Certified q g → Certified r g
+    pick (inl x) = inl x
+    pick (inr x) = inr (x .0, x .1, vouched-more q r h (x .0) (g .mechanism) (x .2))
 
 pub certified-same : (q r : Request) (g : Group) → PresentsSame q r → certified q g ≡ certified r g
 certified-same q r g h = both-ways (certified q g) (certified r g) (certified-more q r (h .0) g) (certified-more r q (h .1) g)
@@ -85,23 +84,22 @@ module _ (l : Ledger) (km0 : Bytes) (q r : Request) (h : PresentsSame q r) where
   called-same f g gs onPermit e = rw (e, judge-same gs, h .0 .sameTime)
 
 -- Two request files without fault that present the same come to the same, and so for the replacements.
-module _ (l : Ledger) (km0 acl req req′ : Bytes) (h : PresentsSame (requestOf req) (requestOf req′)) where
-  pub request-same : requestFiles km0 acl req ≡ none → requestFiles km0 acl req′ ≡ none → request l km0 acl req ≡ request l km0 acl req′
-  unfolding request
-  request-same e d =
-      called-same l km0 (requestOf req) (requestOf req′) h (requestFiles km0 acl req) (requestFiles km0 acl req′) (aclOf acl) permitted (e ∙ sym d)
+pub request-same : (l : Ledger) (km0 acl req req′ : Bytes) (h : PresentsSame (requestOf req) (requestOf req′)) → requestFiles km0 acl req ≡ none → requestFiles km0 acl req′ ≡ none → request l km0 acl req ≡ request l km0 acl req′
+unfolding request
+request-same l km0 acl req req′ h e d =
+    called-same l km0 (requestOf req) (requestOf req′) h (requestFiles km0 acl req) (requestFiles km0 acl req′) (aclOf acl) permitted (e ∙ sym d)
 
-  pub narrow-same : (new hints : Bytes) → narrowFiles km0 acl req new hints ≡ none → narrowFiles km0 acl req′ new hints ≡ none
-      → narrow l km0 acl req new hints ≡ narrow l km0 acl req′ new hints
-  unfolding narrow
-  narrow-same new hints e d =
-      called-same l km0 (requestOf req) (requestOf req′) h (narrowFiles km0 acl req new hints) (narrowFiles km0 acl req′ new hints) (aclOf acl)
-      (narrowed l (aclOf acl) (aclOf new) (hintsOf hints)) (e ∙ sym d)
+pub narrow-same : (l : Ledger) (km0 acl req req′ : Bytes) (h : PresentsSame (requestOf req) (requestOf req′)) (new hints : Bytes) → narrowFiles km0 acl req new hints ≡ none → narrowFiles km0 acl req′ new hints ≡ none
+    → narrow l km0 acl req new hints ≡ narrow l km0 acl req′ new hints
+unfolding narrow
+narrow-same l km0 acl req req′ h new hints e d =
+    called-same l km0 (requestOf req) (requestOf req′) h (narrowFiles km0 acl req new hints) (narrowFiles km0 acl req′ new hints) (aclOf acl)
+    (narrowed l (aclOf acl) (aclOf new) (hintsOf hints)) (e ∙ sym d)
 
-  pub expand-same : (new : Bytes) → expandFiles km0 acl req new ≡ none → expandFiles km0 acl req′ new ≡ none → expand l km0 acl req new ≡ expand l km0 acl req′ new
-  unfolding expand
-  expand-same new e d =
-      called-same l km0 (requestOf req) (requestOf req′) h (expandFiles km0 acl req new) (expandFiles km0 acl req′ new) (aclOf acl) expanded (e ∙ sym d)
+pub expand-same : (l : Ledger) (km0 acl req req′ : Bytes) (h : PresentsSame (requestOf req) (requestOf req′)) (new : Bytes) → expandFiles km0 acl req new ≡ none → expandFiles km0 acl req′ new ≡ none → expand l km0 acl req new ≡ expand l km0 acl req′ new
+unfolding expand
+expand-same l km0 acl req req′ h new e d =
+    called-same l km0 (requestOf req) (requestOf req′) h (expandFiles km0 acl req new) (expandFiles km0 acl req′ new) (aclOf acl) expanded (e ∙ sym d)
 
 module _ (P : Delegation → Type 0) (h : Bytes) where
   -- straight links, no more than n of them, from a key

@@ -82,35 +82,34 @@ module _ (a b : List ℕ) where
     judge-agrees gs h =
         ap (λ (r : Lowest). if tooEarly (ledgerWith s a) q then denied early else orElse r granted (ungranted (lowest (λ place. admitsCertified km0 q) 0 gs) (lowest (λ place. groupAdmits km0 q) 0 gs))) (lowest-agrees 0 gs h)
 
-module _ (s : Slot) (a b : List ℕ) where
-  called-alike : (fault : Option ℕ) (km0 : Bytes) (gs : List Group) (q : Request) (shown : Bool) (recount : List ℕ → List ℕ) → (fault ≡ none → Agree a b (countersIn gs))
-      → Alike (called fault (ledgerWith s a) km0 gs q (recounts shown recount (ledgerWith s a))) (called fault (ledgerWith s b) km0 gs q (recounts shown recount (ledgerWith s b)))
-  unfolding charge
-  called-alike (some x) km0 gs q shown recount h = record { answers = refl; slots = refl }
-  called-alike none km0 gs q shown recount h = rw (judge-agrees a b s km0 q gs (h refl)) (pick shown (judge (ledgerWith s b) km0 gs q))
-    where
-      pick : (t : Bool) (j : Judgement) → Alike (settle (ledgerWith s a) (q .time) (recounts t recount (ledgerWith s a)) j) (settle (ledgerWith s b) (q .time) (recounts t recount (ledgerWith s b)) j)
-      pick t (denied d) = record { answers = refl; slots = refl }
-      pick true (granted k g) = record { answers = refl; slots = refl }
-      pick false (granted k g) = record { answers = refl; slots = refl }
+called-alike : (s : Slot) (a b : List ℕ) (fault : Option ℕ) (km0 : Bytes) (gs : List Group) (q : Request) (shown : Bool) (recount : List ℕ → List ℕ) → (fault ≡ none → Agree a b (countersIn gs))
+    → Alike (called fault (ledgerWith s a) km0 gs q (recounts shown recount (ledgerWith s a))) (called fault (ledgerWith s b) km0 gs q (recounts shown recount (ledgerWith s b)))
+unfolding charge
+called-alike s a b (some x) km0 gs q shown recount h = record { answers = refl; slots = refl }
+called-alike s a b none km0 gs q shown recount h = rw (judge-agrees a b s km0 q gs (h refl)) (pick shown (judge (ledgerWith s b) km0 gs q))
+  where
+    pick : (t : Bool) (j : Judgement) → Alike (settle (ledgerWith s a) (q .time) (recounts t recount (ledgerWith s a)) j) (settle (ledgerWith s b) (q .time) (recounts t recount (ledgerWith s b)) j)
+    pick t (denied d) = record { answers = refl; slots = refl }
+    pick true (granted k g) = record { answers = refl; slots = refl }
+    pick false (granted k g) = record { answers = refl; slots = refl }
 
-  -- One call, of any bytes.
-  call-alike : (acl : Bytes) (c : Call) → Agree a b (countersLent acl)
-      → Alike (outcome (record { ledger = ledgerWith s a; acl = acl }) c) (outcome (record { ledger = ledgerWith s b; acl = acl }) c)
-  call-alike acl c h = pick c (λ l. outcome (record { ledger = l; acl = acl }) c) (kind acl c)
-    where
-      pick : (c : Call) (f : Ledger → Outcome) → Kind acl c f → Alike (f (ledgerWith s a)) (f (ledgerWith s b))
-      pick c f (judged fault shown recount z file x) = called-alike fault (km0Given c) (aclOf acl) (requestAsked c) shown recount (λ e. rw (file e) at h)
-      pick c f (loaded time) = record { answers = refl; slots = refl }
-      pick c f (within n e) = record { answers = refl; slots = refl }
-      pick c f (past n z) = record { answers = refl; slots = refl }
+-- One call, of any bytes.
+call-alike : (s : Slot) (a b : List ℕ) (acl : Bytes) (c : Call) → Agree a b (countersLent acl)
+    → Alike (outcome (record { ledger = ledgerWith s a; acl = acl }) c) (outcome (record { ledger = ledgerWith s b; acl = acl }) c)
+call-alike s a b acl c h = pick c (λ l. outcome (record { ledger = l; acl = acl }) c) (kind acl c)
+  where
+    pick : (c : Call) (f : Ledger → Outcome) → Kind acl c f → Alike (f (ledgerWith s a)) (f (ledgerWith s b))
+    pick c f (judged fault shown recount z file x) = called-alike s a b fault (km0Given c) (aclOf acl) (requestAsked c) shown recount (λ e. rw (file e) at h)
+    pick c f (loaded time) = record { answers = refl; slots = refl }
+    pick c f (within n e) = record { answers = refl; slots = refl }
+    pick c f (past n z) = record { answers = refl; slots = refl }
 
-  -- Two ledgers with the same group counts and times, of which the counters that the lent ACL names read the same: the same answer, and the same group
-  -- counts and times after it.
-  pub only-named : (acl : Bytes) (c : Call)
-      → map (λ n. getD a n 0) (countersLent acl) ≡ map (λ n. getD b n 0) (countersLent acl)
-      → Alike (outcome (record { ledger = ledgerWith s a; acl = acl }) c) (outcome (record { ledger = ledgerWith s b; acl = acl }) c)
-  only-named acl c e = call-alike acl c (readings-agree a b (countersLent acl) e)
+-- Two ledgers with the same group counts and times, of which the counters that the lent ACL names read the same: the same answer, and the same group
+-- counts and times after it.
+pub only-named : (s : Slot) (a b : List ℕ) (acl : Bytes) (c : Call)
+    → map (λ n. getD a n 0) (countersLent acl) ≡ map (λ n. getD b n 0) (countersLent acl)
+    → Alike (outcome (record { ledger = ledgerWith s a; acl = acl }) c) (outcome (record { ledger = ledgerWith s b; acl = acl }) c)
+only-named s a b acl c e = call-alike s a b acl c (readings-agree a b (countersLent acl) e)
 
 -- the counters listed are those that a limit names
 named-limits : (n : ℕ) (ms : List Limit) → oneOf (countersNamed ms) n ≡ names n ms

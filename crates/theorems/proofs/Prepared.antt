@@ -54,12 +54,12 @@ pub uses-exact : (acl : Bytes) (f : Form) → prepare acl ≡ prepared f
 uses-exact acl f e p i h =
     ap (λ (x : Form). bit i (getD (x .uses) p 0)) (prepared-is acl f e .1) ∙ ap (bit i) (form-use (aclOf acl) p h) ∙ set-exact (λ g. any (admitsUse p) (g .actions)) (aclOf acl) i
 
--- "for each blob kind exactly those with an action for it": of working blobs ..
+-- "for each blob kind exactly those with an action for it": of working blobs
 pub working-exact : (acl : Bytes) (f : Form) → prepare acl ≡ prepared f → (i : ℕ) → bit i (f .working) ≡ holdsAt (λ g. any isBlobAction (g .actions)) (getElem? (aclOf acl) i)
 unfolding formOf
 working-exact acl f e i = ap (λ (x : Form). bit i (x .working)) (prepared-is acl f e .1) ∙ set-exact (λ g. any isBlobAction (g .actions)) (aclOf acl) i
 
--- .. and of recovery blobs
+-- "for each blob kind exactly those with an action for it": of recovery blobs
 pub recovery-exact : (acl : Bytes) (f : Form) → prepare acl ≡ prepared f → (i : ℕ) → bit i (f .recovery) ≡ holdsAt (λ g. any isArchive (g .actions)) (getElem? (aclOf acl) i)
 unfolding formOf
 recovery-exact acl f e i = ap (λ (x : Form). bit i (x .recovery)) (prepared-is acl f e .1) ∙ set-exact (λ g. any isArchive (g .actions)) (aclOf acl) i

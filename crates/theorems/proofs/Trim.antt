@@ -96,153 +96,151 @@ unfolding firstFault
 both-none t p u q = rw (p, q)
 
 -- The trimmed ACL and its hints, of an ACL file without fault. b is any bundle's records.
-module _ (b : List Bytes) (acl : Bytes) (fit : fits aclRecords acl ≡ true) (sound : aclFault (records acl) ≡ none) where
-  trimmed-records : records (trimmedAcl b acl) ≡ trimmedFrom b false true (records acl)
-  unfolding trimmedAcl
-  trimmed-records = joined-records (trimmedFrom b false true (records acl)) (trimmed-whole b false true (records acl) (records-sized acl))
+trimmed-records : (b : List Bytes) (acl : Bytes) (fit : fits aclRecords acl ≡ true) (sound : aclFault (records acl) ≡ none) → records (trimmedAcl b acl) ≡ trimmedFrom b false true (records acl)
+unfolding trimmedAcl
+trimmed-records b acl fit sound = joined-records (trimmedFrom b false true (records acl)) (trimmed-whole b false true (records acl) (records-sized acl))
 
-  hint-records : records (trimHints b acl) ≡ hintsFrom b 0 (records acl)
-  unfolding trimHints aclFaultUnder
-  hint-records =
-      joined-records (hintsFrom b 0 (records acl)) (every-map (λ h. Whole h × (hintRecord h ≡ true)) Whole (hintsFrom b 0 (records acl)) (λ h k. k .0) (hints-sound b 0 aclStart (records acl) sound))
+hint-records : (b : List Bytes) (acl : Bytes) (fit : fits aclRecords acl ≡ true) (sound : aclFault (records acl) ≡ none) → records (trimHints b acl) ≡ hintsFrom b 0 (records acl)
+unfolding trimHints aclFaultUnder
+hint-records b acl fit sound =
+    joined-records (hintsFrom b 0 (records acl)) (every-map (λ h. Whole h × (hintRecord h ≡ true)) Whole (hintsFrom b 0 (records acl)) (λ h k. k .0) (hints-sound b 0 aclStart (records acl) sound))
 
-  -- The result is read without fault ..
-  pub trimmed-fits : fits aclRecords (trimmedAcl b acl) ≡ true
-  unfolding trimmedAcl records fits
-  trimmed-fits =
-      let l = leb-true (length acl) (aclRecords * 64) (and-right (eqb (length acl % 64) 0) (leb (length acl) (aclRecords * 64)) fit) in
-      let c = chunks-length (length acl / 64) acl in
-      let f = trimmed-few b false true (records acl) in
-      joined-fits aclRecords (trimmedFrom b false true (records acl)) (trimmed-whole b false true (records acl) (records-sized acl)) (omega arith)
+-- The result is read without fault ..
+pub trimmed-fits : (b : List Bytes) (acl : Bytes) (fit : fits aclRecords acl ≡ true) (sound : aclFault (records acl) ≡ none) → fits aclRecords (trimmedAcl b acl) ≡ true
+unfolding trimmedAcl records fits
+trimmed-fits b acl fit sound =
+    let l = leb-true (length acl) (aclRecords * 64) (and-right (eqb (length acl % 64) 0) (leb (length acl) (aclRecords * 64)) fit) in
+    let c = chunks-length (length acl / 64) acl in
+    let f = trimmed-few b false true (records acl) in
+    joined-fits aclRecords (trimmedFrom b false true (records acl)) (trimmed-whole b false true (records acl) (records-sized acl)) (omega arith)
 
-  pub trimmed-sound : aclFault (records (trimmedAcl b acl)) ≡ none
-  trimmed-sound = rw trimmed-records (trimmed-acl-sound b (records acl) (records-sized acl) sound)
+pub trimmed-sound : (b : List Bytes) (acl : Bytes) (fit : fits aclRecords acl ≡ true) (sound : aclFault (records acl) ≡ none) → aclFault (records (trimmedAcl b acl)) ≡ none
+trimmed-sound b acl fit sound = rw (trimmed-records b acl fit sound) (trimmed-acl-sound b (records acl) (records-sized acl) sound)
 
-  pub trimmed-read : aclFileFault (trimmedAcl b acl) ≡ none
-  unfolding fileFault firstFault
-  trimmed-read = rw (trimmed-fits, trimmed-sound)
+pub trimmed-read : (b : List Bytes) (acl : Bytes) (fit : fits aclRecords acl ≡ true) (sound : aclFault (records acl) ≡ none) → aclFileFault (trimmedAcl b acl) ≡ none
+unfolding fileFault firstFault
+trimmed-read b acl fit sound = rw (trimmed-fits b acl fit sound, trimmed-sound b acl fit sound)
 
-  -- .. and so are its hints.
-  pub hints-fit : fits hintRecords (trimHints b acl) ≡ true
-  unfolding trimHints aclFaultUnder
-  hints-fit =
-      let m = hints-many b 0 (records acl) in
-      let l = acl-fits acl sound .groups in
-      joined-fits hintRecords (hintsFrom b 0 (records acl)) (every-map (λ h. Whole h × (hintRecord h ≡ true)) Whole (hintsFrom b 0 (records acl)) (λ h k. k .0) (hints-sound b 0 aclStart (records acl) sound)) (omega arith)
+-- .. and so are its hints.
+pub hints-fit : (b : List Bytes) (acl : Bytes) (fit : fits aclRecords acl ≡ true) (sound : aclFault (records acl) ≡ none) → fits hintRecords (trimHints b acl) ≡ true
+unfolding trimHints aclFaultUnder
+hints-fit b acl fit sound =
+    let m = hints-many b 0 (records acl) in
+    let l = acl-fits acl sound .groups in
+    joined-fits hintRecords (hintsFrom b 0 (records acl)) (every-map (λ h. Whole h × (hintRecord h ≡ true)) Whole (hintsFrom b 0 (records acl)) (λ h k. k .0) (hints-sound b 0 aclStart (records acl) sound)) (omega arith)
 
-  pub hints-no-fault : hintsFault (records (trimHints b acl)) ≡ none
-  unfolding hintsFault eachFault hintFault aclFaultUnder
-  hints-no-fault =
-      rw hint-records
-      (every-fault-none hintFault (hintsFrom b 0 (records acl))
-      (every-map (λ h. Whole h × (hintRecord h ≡ true)) (λ h. hintFault h ≡ none) (hintsFrom b 0 (records acl)) (λ h k. rw (k .1)) (hints-sound b 0 aclStart (records acl) sound)))
+pub hints-no-fault : (b : List Bytes) (acl : Bytes) (fit : fits aclRecords acl ≡ true) (sound : aclFault (records acl) ≡ none) → hintsFault (records (trimHints b acl)) ≡ none
+unfolding hintsFault eachFault hintFault aclFaultUnder
+hints-no-fault b acl fit sound =
+    rw (hint-records b acl fit sound)
+    (every-fault-none hintFault (hintsFrom b 0 (records acl))
+    (every-map (λ h. Whole h × (hintRecord h ≡ true)) (λ h. hintFault h ≡ none) (hintsFrom b 0 (records acl)) (λ h k. rw (k .1)) (hints-sound b 0 aclStart (records acl) sound)))
 
-  pub hints-read : hintsFileFault (trimHints b acl) ≡ none
-  unfolding fileFault firstFault
-  hints-read = rw (hints-fit, hints-no-fault)
+pub hints-read : (b : List Bytes) (acl : Bytes) (fit : fits aclRecords acl ≡ true) (sound : aclFault (records acl) ≡ none) → hintsFileFault (trimHints b acl) ≡ none
+unfolding fileFault firstFault
+hints-read b acl fit sound = rw (hints-fit b acl fit sound, hints-no-fault b acl fit sound)
 
-  -- Nothing but the failing actions and bits is gone: every group is kept with its certifier, mechanism and limits, each action of it is kept or failed
-  -- a WB or RB step, each bit of it is kept or failed ACLV3, and the hints name the old places.
-  pub trimmed-exactly : GroupsTrimmed b 0 (aclOf acl) (aclOf (trimmedAcl b acl)) (hintsOf (trimHints b acl))
-  unfolding aclFaultUnder
-  trimmed-exactly = rw (trimmed-records, hint-records) (same-groups b false true 0 aclStart (records acl) (records-sized acl) sound)
+-- Nothing but the failing actions and bits is gone: every group is kept with its certifier, mechanism and limits, each action of it is kept or failed
+-- a WB or RB step, each bit of it is kept or failed ACLV3, and the hints name the old places.
+pub trimmed-exactly : (b : List Bytes) (acl : Bytes) (fit : fits aclRecords acl ≡ true) (sound : aclFault (records acl) ≡ none) → GroupsTrimmed b 0 (aclOf acl) (aclOf (trimmedAcl b acl)) (hintsOf (trimHints b acl))
+unfolding aclFaultUnder
+trimmed-exactly b acl fit sound = rw (trimmed-records b acl fit sound, hint-records b acl fit sound) (same-groups b false true 0 aclStart (records acl) (records-sized acl) sound)
 
-  -- "The result is a narrowing of the old ACL"
-  pub trimmed-narrows : narrows (aclOf acl) (aclOf (trimmedAcl b acl)) (hintsOf (trimHints b acl)) ≡ true
-  trimmed-narrows = groups-narrow b (aclOf acl) 0 (aclOf acl) (aclOf (trimmedAcl b acl)) (hintsOf (trimHints b acl)) (λ j g e. rw zero-add e) trimmed-exactly
+-- "The result is a narrowing of the old ACL"
+pub trimmed-narrows : (b : List Bytes) (acl : Bytes) (fit : fits aclRecords acl ≡ true) (sound : aclFault (records acl) ≡ none) → narrows (aclOf acl) (aclOf (trimmedAcl b acl)) (hintsOf (trimHints b acl)) ≡ true
+trimmed-narrows b acl fit sound = groups-narrow b (aclOf acl) 0 (aclOf acl) (aclOf (trimmedAcl b acl)) (hintsOf (trimHints b acl)) (λ j g e. rw zero-add e) (trimmed-exactly b acl fit sound)
 
-  -- "fails none of those steps"
-  pub trimmed-fails-none : aclFailure b (aclOf (trimmedAcl b acl)) ≡ none
-  trimmed-fails-none = rw trimmed-records (trimmed-passes b false true (records acl) (records-sized acl))
+-- "fails none of those steps"
+pub trimmed-fails-none : (b : List Bytes) (acl : Bytes) (fit : fits aclRecords acl ≡ true) (sound : aclFault (records acl) ≡ none) → aclFailure b (aclOf (trimmedAcl b acl)) ≡ none
+trimmed-fails-none b acl fit sound = rw (trimmed-records b acl fit sound) (trimmed-passes b false true (records acl) (records-sized acl))
 
-  -- "An ACL that fails none comes back byte for byte."
-  pub passing-unchanged : aclFailure b (aclOf acl) ≡ none → trimmedAcl b acl ≡ acl
-  unfolding trimmedAcl
-  passing-unchanged e = ap joined (passing-untouched b (records acl) e) ∙ fits-joined aclRecords acl fit
+-- "An ACL that fails none comes back byte for byte."
+pub passing-unchanged : (b : List Bytes) (acl : Bytes) (fit : fits aclRecords acl ≡ true) (sound : aclFault (records acl) ≡ none) → aclFailure b (aclOf acl) ≡ none → trimmedAcl b acl ≡ acl
+unfolding trimmedAcl
+passing-unchanged b acl fit sound e = ap joined (passing-untouched b (records acl) e) ∙ fits-joined aclRecords acl fit
 
-  -- the results are of bytes, if the ACL is
-  pub results-octets : Octets acl → Octets (trimmedAcl b acl) × Octets (trimHints b acl)
-  unfolding trimmedAcl trimHints aclFaultUnder
-  results-octets h = (
-    joined-octets (trimmedFrom b false true (records acl)) (trimmed-octets b false true (records acl) (records-octets acl h)),
-    joined-octets (hintsFrom b 0 (records acl)) (hints-octets b 0 aclStart (records acl) sound refl),
-  )
+-- the results are of bytes, if the ACL is
+pub results-octets : (b : List Bytes) (acl : Bytes) (fit : fits aclRecords acl ≡ true) (sound : aclFault (records acl) ≡ none) → Octets acl → Octets (trimmedAcl b acl) × Octets (trimHints b acl)
+unfolding trimmedAcl trimHints aclFaultUnder
+results-octets b acl fit sound h = (
+  joined-octets (trimmedFrom b false true (records acl)) (trimmed-octets b false true (records acl) (records-octets acl h)),
+  joined-octets (hintsFrom b 0 (records acl)) (hints-octets b 0 aclStart (records acl) sound refl),
+)
 
-  -- so, of the desk's steps under approach 2, only one before the ACL, KV3 or CSRL1 can fail on the result
-  pub trimmed-attested : beforeAcl b ≡ none → fullFailure b (aclOf (trimmedAcl b acl)) ≡ afterAcl b (aclOf (trimmedAcl b acl))
-  unfolding fullFailure firstFault
-  trimmed-attested e = rw (e, trimmed-fails-none) (last (afterAcl b (aclOf (trimmedAcl b acl))))
-    where
-      last : (o : Option Step) → orNext o none ≡ o
-      last none = refl
-      last (some s) = refl
+-- so, of the desk's steps under approach 2, only one before the ACL, KV3 or CSRL1 can fail on the result
+pub trimmed-attested : (b : List Bytes) (acl : Bytes) (fit : fits aclRecords acl ≡ true) (sound : aclFault (records acl) ≡ none) → beforeAcl b ≡ none → fullFailure b (aclOf (trimmedAcl b acl)) ≡ afterAcl b (aclOf (trimmedAcl b acl))
+unfolding fullFailure firstFault
+trimmed-attested b acl fit sound e = rw (e, trimmed-fails-none b acl fit sound) (last (afterAcl b (aclOf (trimmedAcl b acl))))
+  where
+    last : (o : Option Step) → orNext o none ≡ o
+    last none = refl
+    last (some s) = refl
 
-  -- and the gate takes it as a narrowing, wherever a use of ReduceACL is granted
-  pub gate-accepts : (l : Ledger) (km0 req : Bytes) (k : ℕ) (g : Group)
-      → Permitted (firstFault (unless (lengthsFit km0 acl req) badLength ∷ requestFault (useOf reduceAcl) (records req) ∷ [])) l km0 (aclOf acl) (requestOf req) k g
-      → narrow l km0 acl req (trimmedAcl b acl) (trimHints b acl) .answer ≡ permit k
-  gate-accepts l km0 req k g p = rw (narrow-comes l km0 acl req (trimmedAcl b acl) (trimHints b acl) k g p′ trimmed-narrows)
-    where
-      files : narrowFiles km0 acl req (trimmedAcl b acl) (trimHints b acl) ≡ none
-      files =
-          let h = fault-none-every _ (p .files) in
-          let a : lengthsFit km0 acl req ≡ true = unless-passed (lengthsFit km0 acl req) badLength (h .0) in
-          all-none (lengthsFit km0 acl req && fits aclRecords (trimmedAcl b acl) && fits hintRecords (trimHints b acl))
-          (and-both (lengthsFit km0 acl req && fits aclRecords (trimmedAcl b acl)) (fits hintRecords (trimHints b acl)) (and-both (lengthsFit km0 acl req) (fits aclRecords (trimmedAcl b acl)) a trimmed-fits) hints-fit)
-          (aclFault (records acl)) sound (requestFault (useOf reduceAcl) (records req)) (h .1 .0) (aclFault (records (trimmedAcl b acl))) trimmed-sound (hintsFault (records (trimHints b acl))) hints-no-fault
+-- and the gate takes it as a narrowing, wherever a use of ReduceACL is granted
+pub gate-accepts : (b : List Bytes) (acl : Bytes) (fit : fits aclRecords acl ≡ true) (sound : aclFault (records acl) ≡ none) (l : Ledger) (km0 req : Bytes) (k : ℕ) (g : Group)
+    → Permitted (firstFault (unless (lengthsFit km0 acl req) badLength ∷ requestFault (useOf reduceAcl) (records req) ∷ [])) l km0 (aclOf acl) (requestOf req) k g
+    → narrow l km0 acl req (trimmedAcl b acl) (trimHints b acl) .answer ≡ permit k
+gate-accepts b acl fit sound l km0 req k g p = rw (narrow-comes l km0 acl req (trimmedAcl b acl) (trimHints b acl) k g p′ (trimmed-narrows b acl fit sound))
+  where
+    files : narrowFiles km0 acl req (trimmedAcl b acl) (trimHints b acl) ≡ none
+    files =
+        let h = fault-none-every _ (p .files) in
+        let a : lengthsFit km0 acl req ≡ true = unless-passed (lengthsFit km0 acl req) badLength (h .0) in
+        all-none (lengthsFit km0 acl req && fits aclRecords (trimmedAcl b acl) && fits hintRecords (trimHints b acl))
+        (and-both (lengthsFit km0 acl req && fits aclRecords (trimmedAcl b acl)) (fits hintRecords (trimHints b acl)) (and-both (lengthsFit km0 acl req) (fits aclRecords (trimmedAcl b acl)) a (trimmed-fits b acl fit sound)) (hints-fit b acl fit sound))
+        (aclFault (records acl)) sound (requestFault (useOf reduceAcl) (records req)) (h .1 .0) (aclFault (records (trimmedAcl b acl))) (trimmed-sound b acl fit sound) (hintsFault (records (trimHints b acl))) (hints-no-fault b acl fit sound)
 
-      p′ : Permitted (narrowFiles km0 acl req (trimmedAcl b acl) (trimHints b acl)) l km0 (aclOf acl) (requestOf req) k g
-      p′ = record { files = files; inTime = p .inTime; lowestGroup = p .lowestGroup }
+    p′ : Permitted (narrowFiles km0 acl req (trimmedAcl b acl) (trimHints b acl)) l km0 (aclOf acl) (requestOf req) k g
+    p′ = record { files = files; inTime = p .inTime; lowestGroup = p .lowestGroup }
 
-  -- .. short: whatever narrowing of the old ACL the gate takes with this request, it takes this one, by the same group
-  pub gate-takes : (l : Ledger) (km0 req new hints : Bytes) (k : ℕ) → narrow l km0 acl req new hints .answer ≡ permit k
-      → narrow l km0 acl req (trimmedAcl b acl) (trimHints b acl) .answer ≡ permit k
-  gate-takes l km0 req new hints k e =
-      let r = narrow-needs l km0 acl req new hints k e in
-      let h = fault-none-every _ (r .1 .files) in
-      let a : lengthsFit km0 acl req ≡ true = and-left (lengthsFit km0 acl req) (fits aclRecords new) (and-left (lengthsFit km0 acl req && fits aclRecords new) (fits hintRecords hints) (unless-passed (lengthsFit km0 acl req && fits aclRecords new && fits hintRecords hints) badLength (h .0))) in
-      gate-accepts l km0 req k (r .0) (record { files = both-none (lengthsFit km0 acl req) a (requestFault (useOf reduceAcl) (records req)) (h .1 .1 .0); inTime = r .1 .inTime; lowestGroup = r .1 .lowestGroup })
+-- .. short: whatever narrowing of the old ACL the gate takes with this request, it takes this one, by the same group
+pub gate-takes : (b : List Bytes) (acl : Bytes) (fit : fits aclRecords acl ≡ true) (sound : aclFault (records acl) ≡ none) (l : Ledger) (km0 req new hints : Bytes) (k : ℕ) → narrow l km0 acl req new hints .answer ≡ permit k
+    → narrow l km0 acl req (trimmedAcl b acl) (trimHints b acl) .answer ≡ permit k
+gate-takes b acl fit sound l km0 req new hints k e =
+    let r = narrow-needs l km0 acl req new hints k e in
+    let h = fault-none-every _ (r .1 .files) in
+    let a : lengthsFit km0 acl req ≡ true = and-left (lengthsFit km0 acl req) (fits aclRecords new) (and-left (lengthsFit km0 acl req && fits aclRecords new) (fits hintRecords hints) (unless-passed (lengthsFit km0 acl req && fits aclRecords new && fits hintRecords hints) badLength (h .0))) in
+    gate-accepts b acl fit sound l km0 req k (r .0) (record { files = both-none (lengthsFit km0 acl req) a (requestFault (useOf reduceAcl) (records req)) (h .1 .1 .0); inTime = r .1 .inTime; lowestGroup = r .1 .lowestGroup })
 
 -- The reply and the buffers. The ways that the tool ends: as the desk refuses, at a step before the ACL, with 9, or with both results written.
-module _ (bundle acl aclBuffer hintBuffer : Bytes) where
-  -- "Refusals and failing steps before the ACL are reported as the desk reports them"
-  pub refused-as-desk : (f : ℕ) → deskFault bundle acl ≡ some f → (trimReply bundle acl aclBuffer hintBuffer ≡ unread f) × (desk bundle acl ≡ faulty f)
-  unfolding trimReply desk
-  refused-as-desk f e = (rw (fault-refused bundle acl aclBuffer hintBuffer f e), rw e)
+-- "Refusals and failing steps before the ACL are reported as the desk reports them"
+pub refused-as-desk : (bundle acl aclBuffer hintBuffer : Bytes) (f : ℕ) → deskFault bundle acl ≡ some f → (trimReply bundle acl aclBuffer hintBuffer ≡ unread f) × (desk bundle acl ≡ faulty f)
+unfolding trimReply desk
+refused-as-desk bundle acl aclBuffer hintBuffer f e = (rw (fault-refused bundle acl aclBuffer hintBuffer f e), rw e)
 
-  pub fails-as-desk : (s : Step) → deskFault bundle acl ≡ none → beforeAcl (records bundle) ≡ some s
-      → (trimReply bundle acl aclBuffer hintBuffer ≡ untrimmed s) × (eqb (policyOf (records bundle) .approach) 2 ≡ true → desk bundle acl ≡ failed s)
-  unfolding trimReply desk fullFailure firstFault
-  fails-as-desk s e d = (rw (fault-step bundle acl aclBuffer hintBuffer s e d), λ a. rw (e, a, d))
+pub fails-as-desk : (bundle acl aclBuffer hintBuffer : Bytes) (s : Step) → deskFault bundle acl ≡ none → beforeAcl (records bundle) ≡ some s
+    → (trimReply bundle acl aclBuffer hintBuffer ≡ untrimmed s) × (eqb (policyOf (records bundle) .approach) 2 ≡ true → desk bundle acl ≡ failed s)
+unfolding trimReply desk fullFailure firstFault
+fails-as-desk bundle acl aclBuffer hintBuffer s e d = (rw (fault-step bundle acl aclBuffer hintBuffer s e d), λ a. rw (e, a, d))
 
-  -- "If either buffer is short the answer is 9"
-  pub short-refused : deskFault bundle acl ≡ none → beforeAcl (records bundle) ≡ none → roomy bundle acl aclBuffer hintBuffer ≡ false → trimReply bundle acl aclBuffer hintBuffer ≡ unread shortBuffer
-  unfolding trimReply
-  short-refused e d r = rw (fault-short bundle acl aclBuffer hintBuffer e d r)
+-- "If either buffer is short the answer is 9"
+pub short-refused : (bundle acl aclBuffer hintBuffer : Bytes) → deskFault bundle acl ≡ none → beforeAcl (records bundle) ≡ none → roomy bundle acl aclBuffer hintBuffer ≡ false → trimReply bundle acl aclBuffer hintBuffer ≡ unread shortBuffer
+unfolding trimReply
+short-refused bundle acl aclBuffer hintBuffer e d r = rw (fault-short bundle acl aclBuffer hintBuffer e d r)
 
-  -- "on any of these both stay untouched": where the reply is not both lengths
-  pub buffers-stand : ((n m : ℕ) → trimReply bundle acl aclBuffer hintBuffer ≡ trimmed n m → ⊥)
-      → (trimAclBuffer bundle acl aclBuffer hintBuffer ≡ aclBuffer) × (trimHintBuffer bundle acl aclBuffer hintBuffer ≡ hintBuffer)
-  unfolding trimReply trimAclBuffer trimHintBuffer
-  buffers-stand h = pick (trimFault bundle acl aclBuffer hintBuffer) refl
-    where
-      pick : (o : Option TrimReply) → trimFault bundle acl aclBuffer hintBuffer ≡ o
-          → (trimAclBuffer bundle acl aclBuffer hintBuffer ≡ aclBuffer) × (trimHintBuffer bundle acl aclBuffer hintBuffer ≡ hintBuffer)
-      pick none e = absurd (h (length (trimmedAcl (records bundle) acl)) (length (trimHints (records bundle) acl)) (rw e))
-      pick (some f) e = (rw e, rw e)
+-- "on any of these both stay untouched": where the reply is not both lengths
+pub buffers-stand : (bundle acl aclBuffer hintBuffer : Bytes) → ((n m : ℕ) → trimReply bundle acl aclBuffer hintBuffer ≡ trimmed n m → ⊥)
+    → (trimAclBuffer bundle acl aclBuffer hintBuffer ≡ aclBuffer) × (trimHintBuffer bundle acl aclBuffer hintBuffer ≡ hintBuffer)
+unfolding trimReply trimAclBuffer trimHintBuffer
+buffers-stand bundle acl aclBuffer hintBuffer h = pick (trimFault bundle acl aclBuffer hintBuffer) refl
+  where
+    pick : (o : Option TrimReply) → trimFault bundle acl aclBuffer hintBuffer ≡ o
+        → (trimAclBuffer bundle acl aclBuffer hintBuffer ≡ aclBuffer) × (trimHintBuffer bundle acl aclBuffer hintBuffer ≡ hintBuffer)
+    pick none e = absurd (h (length (trimmedAcl (records bundle) acl)) (length (trimHints (records bundle) acl)) (rw e))
+    pick (some f) e = (rw e, rw e)
 
-  -- "otherwise the reply is both lengths and bytes past the results stay"
-  pub both-written : trimFault bundle acl aclBuffer hintBuffer ≡ none
-      → (trimReply bundle acl aclBuffer hintBuffer ≡ trimmed (length (trimmedAcl (records bundle) acl)) (length (trimHints (records bundle) acl)))
-      × (trimAclBuffer bundle acl aclBuffer hintBuffer ≡ trimmedAcl (records bundle) acl ++ drop (length (trimmedAcl (records bundle) acl)) aclBuffer)
-      × (trimHintBuffer bundle acl aclBuffer hintBuffer ≡ trimHints (records bundle) acl ++ drop (length (trimHints (records bundle) acl)) hintBuffer)
-  unfolding trimReply trimAclBuffer trimHintBuffer
-  both-written e = (rw e, rw e, rw e)
+-- "otherwise the reply is both lengths and bytes past the results stay"
+pub both-written : (bundle acl aclBuffer hintBuffer : Bytes) → trimFault bundle acl aclBuffer hintBuffer ≡ none
+    → (trimReply bundle acl aclBuffer hintBuffer ≡ trimmed (length (trimmedAcl (records bundle) acl)) (length (trimHints (records bundle) acl)))
+    × (trimAclBuffer bundle acl aclBuffer hintBuffer ≡ trimmedAcl (records bundle) acl ++ drop (length (trimmedAcl (records bundle) acl)) aclBuffer)
+    × (trimHintBuffer bundle acl aclBuffer hintBuffer ≡ trimHints (records bundle) acl ++ drop (length (trimHints (records bundle) acl)) hintBuffer)
+unfolding trimReply trimAclBuffer trimHintBuffer
+both-written bundle acl aclBuffer hintBuffer e = (rw e, rw e, rw e)
 
-  -- "The tool judges by approach 2 whatever the policy names", "KV3 and CSRL1 are not judged": nothing else is asked
-  pub trims : deskFault bundle acl ≡ none → beforeAcl (records bundle) ≡ none → roomy bundle acl aclBuffer hintBuffer ≡ true
-      → trimReply bundle acl aclBuffer hintBuffer ≡ trimmed (length (trimmedAcl (records bundle) acl)) (length (trimHints (records bundle) acl))
-  trims e d r = both-written (fault-none bundle acl aclBuffer hintBuffer e d r) .0
+-- "The tool judges by approach 2 whatever the policy names", "KV3 and CSRL1 are not judged": nothing else is asked
+pub trims : (bundle acl aclBuffer hintBuffer : Bytes) → deskFault bundle acl ≡ none → beforeAcl (records bundle) ≡ none → roomy bundle acl aclBuffer hintBuffer ≡ true
+    → trimReply bundle acl aclBuffer hintBuffer ≡ trimmed (length (trimmedAcl (records bundle) acl)) (length (trimHints (records bundle) acl))
+trims bundle acl aclBuffer hintBuffer e d r = both-written bundle acl aclBuffer hintBuffer (fault-none bundle acl aclBuffer hintBuffer e d r) .0
 
 -- a desk that finds no fault has read a sound ACL file
 desk-reads : (bundle acl : Bytes) → deskFault bundle acl ≡ none → (fits aclRecords acl ≡ true) × (aclFault (records acl) ≡ none)

@@ -108,11 +108,12 @@ abbrev pub afterUnder : Capacity → State → Call → State
 afterUnder z s c =
     record { ledger = outcomeUnder z s c .ledger; acl = inForce (s .acl) (replacement (s .acl) c) (outcomeUnder z s c .answer) }
 
--- .. after a sequence of calls, the first of them first, and what is answered to each
+-- the state after a sequence of calls, the first call first
 unfoldable pub afterAllUnder : Capacity → State → List Call → State
 afterAllUnder z s [] = s
 afterAllUnder z s (c ∷ cs) = afterAllUnder z (afterUnder z s c) cs
 
+-- the answer to each call of a sequence
 unfoldable pub repliesUnder : Capacity → State → List Call → List Answer
 repliesUnder z s [] = []
 repliesUnder z s (c ∷ cs) = outcomeUnder z s c .answer ∷ repliesUnder z (afterUnder z s c) cs
@@ -127,7 +128,7 @@ carriedOver small large l =
       last = l .last;
     }
 
--- .. with the ACL in force
+-- the state with its ledger carried over
 abbrev pub stateCarriedOver : Capacity → Capacity → State → State
 stateCarriedOver small large s = record { ledger = carriedOver small large (s .ledger); acl = s .acl }
 
@@ -143,7 +144,7 @@ AcceptedUnder z acl (clearing counter) = counter < z .counters
 AcceptedUnder z acl (narrowing km0 req new hints) = (aclFileFaultUnder z acl ≡ none) × (aclFileFaultUnder z new ≡ none) × (fits (z .groups) hints ≡ true)
 AcceptedUnder z acl (expanding km0 req new) = (aclFileFaultUnder z acl ≡ none) × (aclFileFaultUnder z new ≡ none)
 
--- .. each call of a sequence, with the ACL in force then
+-- each call of a sequence is accepted under these sizes, with the ACL that is then in force
 abbrev pub AllAcceptedUnder : Capacity → State → List Call → Type 0
 AllAcceptedUnder z s [] = Unit {0}
 AllAcceptedUnder z s (c ∷ cs) = AcceptedUnder z (s .acl) c × AllAcceptedUnder z (afterUnder z s c) cs
