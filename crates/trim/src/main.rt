@@ -13,6 +13,7 @@ use desk::Verdict;
 use libc::STDERR_FILENO;
 use printing::print;
 use printing::print_number;
+use refusals::Refusal;
 use steps::Failure;
 use steps::Step;
 use trimming::TrimReply;
@@ -23,6 +24,11 @@ fn print_verdict(v: Verdict, bundle: &[u8]) {
     let n = verdicts::verdict_line(v, &mut line);
     print(arguments::prefix(&line, n));
     messages::explain(v, bundle);
+}
+
+// The desk's line for files that are refused, and its meaning.
+fn print_refusal(why: Refusal, bundle: &[u8]) {
+    print_verdict(Verdict::Refused(why), bundle);
 }
 
 // What a line begins with: an action's old place, and the step that it fails.
@@ -217,7 +223,7 @@ fn trim_files(bundle: &[u8], acl: &[u8]) {
             arguments::prefix(&hints, n),
         ),
         TrimReply::Failed(s) => print_verdict(Verdict::Failed(s), bundle),
-        TrimReply::Refused(why) => print_verdict(Verdict::Refused(why), bundle),
+        TrimReply::Refused(why) => print_refusal(why, bundle),
     }
 }
 
