@@ -50,9 +50,9 @@ class EncodingError(ValueError):
     """Bytes that are not the encoding they should be."""
 
 
-def frame(kind: int, body: bytes) -> bytes:
-    """The body in a frame, with its SHA-256."""
-    framed = _HEADER.pack(_MAGIC, VERSION, kind, ABI, len(body)) + body
+def frame(kind: int, length: int, *parts) -> bytes:
+    """A body of this length, given in parts, in a frame with its SHA-256."""
+    framed = b''.join((_HEADER.pack(_MAGIC, VERSION, kind, ABI, length), *parts))
     return framed + hashlib.sha256(framed).digest()
 
 
@@ -76,33 +76,32 @@ def unframe(kind: int, data: bytes, length: int) -> bytes:
     return data[_HEADER.size:-DIGEST_BYTES]
 
 
-def _reordered(data: bytes, times: Tuple[slice, ...]) -> bytes:
-    """From the byte order of this machine to big-endian, or back."""
-    if sys.byteorder == 'big':
-        return data
-    words = array('I', data)
-    words.byteswap()
-    for first in times:
-        second = slice(first.start + 1, first.stop, first.step)
-        words[first], words[second] = words[second], words[first]
-    return words.tobytes()
+def _reordered(data, times: Tuple[slice, ...]) -> array:
+    """From the byte order of this machine to big-endian, or back, as four-byte words."""
+    words = array('I', bytes(data))
+    if sys.byteorder == 'little':
+        words.byteswap()
+        for first in times:
+            second = slice(first.start + 1, first.stop, first.step)
+            words[first], words[second] = words[second], words[first]
+    return words
 
 
-def cabinet_body(cabinet: Cabinet) -> bytes:
+def cabinet_body(cabinet: Cabinet) -> array:
     """The tables of a cabinet, big-endian, without a frame."""
-    return _reordered(bytes(cabinet._raw), _CABINET_TIMES)
+    return _reordered(cabinet._raw, _CABINET_TIMES)
 
 
 def cabinet_of_body(body: bytes) -> Cabinet:
     """The cabinet with these tables."""
     cabinet = Cabinet()
-    ctypes.memmove(ctypes.addressof(cabinet._raw), _reordered(body, _CABINET_TIMES), CABINET_BYTES)
+    ctypes.memmove(ctypes.addressof(cabinet._raw), _reordered(body, _CABINET_TIMES).tobytes(), CABINET_BYTES)
     return cabinet
 
 
 def encode_cabinet(cabinet: Cabinet) -> bytes:
     """The portable encoding of a cabinet."""
-    return frame(CABINET, cabinet_body(cabinet))
+    return frame(CABINET, CABINET_BYTES, cabinet_body(cabinet))
 
 
 def decode_cabinet(data: bytes) -> Cabinet:
@@ -112,12 +111,12 @@ def decode_cabinet(data: bytes) -> Cabinet:
 
 def encode_ledger(ledger: Ledger) -> bytes:
     """The portable encoding of a ledger."""
-    return frame(LEDGER, _reordered(bytes(ledger._raw), _LEDGER_TIMES))
+    return frame(LEDGER, LEDGER_BYTES, _reordered(ledger._raw, _LEDGER_TIMES))
 
 
 def decode_ledger(data: bytes) -> Ledger:
     """The ledger that was encoded. Raises EncodingError."""
     ledger = Ledger()
     body = unframe(LEDGER, data, LEDGER_BYTES)
-    ctypes.memmove(ctypes.addressof(ledger._raw), _reordered(body, _LEDGER_TIMES), LEDGER_BYTES)
+    ctypes.memmove(ctypes.addressof(ledger._raw), _reordered(body, _LEDGER_TIMES).tobytes(), LEDGER_BYTES)
     return ledger

@@ -82,15 +82,44 @@ def audited(place: str) -> None:
     check(bool(report), f'audit: {report.finding}')
 
 
-def charged(place: str) -> int:
-    """How many permits the state of a store has, read under its lock: what was in flight is in it, or never will be."""
+def logged(place: str) -> Tuple[int, int]:
+    """How many calls the log of a store has, and how many permits its state, read under its lock: what was in flight is in both, or never will be."""
     engine = engine_of(place)
     try:
-        state = State.decode(engine.begin()[2])
+        row = engine.begin()
         engine.rollback()
     finally:
         engine.close()
-    return state.cabinet.counters[TOTAL]
+    return row[0], State.decode(row[2]).cabinet.counters[TOTAL]
+
+
+def charged(place: str) -> int:
+    """How many permits the state of a store has."""
+    return logged(place)[1]
+
+
+class Account:
+    """What a store is known to hold, before and after each fault."""
+
+    def __init__(self) -> None:
+        self.answers = self.in_flight = 0
+
+    def begin(self, place: str) -> None:
+        """Takes up a store."""
+        self._place, self._known = place, logged(place)
+
+    def settle(self, where: str, permits: List[int], workers: int) -> None:
+        """Compares the store with what workers were answered: the permits of each call. Of each worker one more call may be there, the one in flight."""
+        calls, charges = (now - before for now, before in zip(logged(self._place), self._known))
+        check(charges >= sum(permits), f'{where}: {sum(permits)} permits were answered, and {charges} are in the state')
+        check(calls >= len(permits), f'{where}: {len(permits)} calls were answered, and {calls} are in the log')
+        check(calls <= len(permits) + workers, f'{where}: {len(permits)} calls were answered, and {calls} are in the log')
+        audited(self._place)
+        self.answers, self.in_flight = self.answers + len(permits), self.in_flight + calls - len(permits)
+        self._known = logged(self._place)
+
+    def __str__(self) -> str:
+        return f'{self.answers} calls answered, no permit lost; besides these {self.in_flight} calls that were in flight are in the log'
 
 
 def create(place: str, uses: int = 4_000_000_000) -> None:
@@ -165,28 +194,23 @@ class Clock:
 
 def survive_kills(fresh: Callable[[int], str], kills: int, longest: float, clock: Clock) -> str:
     """Kills workers of a store, one after the other, each within `longest` seconds. Now and then the store is a new one, so that audits stay short."""
-    answers = in_flight = known = 0
-    place = ''
+    account = Account()
     for kill in range(kills):
         clock.ticks()
         if kill % 40 == 0:
-            place, known = fresh(kill), 0
+            place = fresh(kill)
             create(place)
-        permits = killed(place, kill, longest)
-        now = charged(place)
-        # A run in flight may have charged many; it is one call, and none of it was answered.
-        check(now >= known + sum(permits), f'kill {kill}: {sum(permits)} permits were answered, and {now - known} are in the state')
-        check(now <= known + sum(permits) + 40, f'kill {kill}: more than one call in flight is in the state')
-        audited(place)
-        answers, in_flight, known = answers + len(permits), in_flight + (now > known + sum(permits)), now
-    return f'{kills} kills, {answers} calls answered, no permit lost; {in_flight} times the call in flight was in the state too'
+            account.begin(place)
+        account.settle(f'kill {kill}', killed(place, kill, longest), 1)
+    return f'{kills} kills, {account}'
 
 
 def survive_crashes(server: 'servers.Server', crashes: int, clock: Clock, workers: int = 4) -> str:
     """Crashes a PostgreSQL server while workers use a store in it."""
     place = server.place('crashes')
     create(place)
-    answers = in_flight = known = 0
+    account = Account()
+    account.begin(place)
     for crash in range(crashes):
         clock.ticks()
         started = [forked(lambda pipe, seed=crash * workers + number: work(place, pipe, seed)) for number in range(workers)]
@@ -197,12 +221,8 @@ def survive_crashes(server: 'servers.Server', crashes: int, clock: Clock, worker
             os.waitpid(child, 0)
             permits += drained(readable)
         server.start()
-        now = charged(place)
-        check(now >= known + sum(permits), f'crash {crash}: {sum(permits)} permits were answered, and {now - known} are in the state')
-        check(now <= known + sum(permits) + 40 * workers, f'crash {crash}: more than one call in flight of each worker is in the state')
-        audited(place)
-        answers, in_flight, known = answers + len(permits), in_flight + (now > known + sum(permits)), now
-    return f'{crashes} crashes under {workers} workers, {answers} calls answered, no permit lost; {in_flight} times a call in flight was in the state too'
+        account.settle(f'crash {crash}', permits, workers)
+    return f'{crashes} crashes under {workers} workers, {account}'
 
 
 def survive_race(place: str, workers: int = 8, uses: int = 1000) -> str:

@@ -35,7 +35,7 @@ _SQLITE_ERRORS = (sqlite3.Error, UnicodeError)
 
 
 class SQLite:
-    """A store in one file of SQLite, in WAL mode with synchronous=FULL. While it is open, and after a crash, two files stand beside it (`-wal`,
+    """A store in one file of SQLite, in WAL mode with synchronous=FULL. While it is open, and after a crash, two files are beside it (`-wal`,
     `-shm`) that belong to it."""
 
     _TYPES = {'bytes': 'BLOB', 'key': 'INTEGER'}
@@ -303,7 +303,7 @@ class PostgreSQL:
             return _plain(self._execute(statement, arguments).fetchone())
 
     def faults(self) -> List[str]:
-        """What the engine itself finds wrong. The server checks its files when it is told to (pg_checksums, pg_amcheck)."""
+        """What the engine itself finds wrong. The server checks its files on demand (pg_checksums, pg_amcheck)."""
         return []
 
     def close(self) -> None:

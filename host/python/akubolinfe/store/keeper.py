@@ -57,7 +57,7 @@ def decoded(state: bytes) -> State:
 class Store:
     """A durable cabinet. `Store.create` makes one, `Store.open` opens one.
 
-    Threads may share a Store; a process that forks opens its own. `identity` tells stores apart: an `open` that names one refuses any other store.
+    Threads may share a Store; a process that forks opens its own. Each store has an identity of its own: an `open` that names one refuses any other store.
     """
 
     def __init__(self, engine) -> None:

@@ -52,7 +52,7 @@ class State:
 
     def encode(self) -> bytes:
         """The portable encoding. It ends with its SHA-256."""
-        return frame(STATE, _FRONT.pack(self.identity, self.generation) + self._keys + cabinet_body(self.cabinet))
+        return frame(STATE, _BODY_BYTES, _FRONT.pack(self.identity, self.generation), self._keys, cabinet_body(self.cabinet))
 
     @staticmethod
     def decode(data: bytes) -> 'State':

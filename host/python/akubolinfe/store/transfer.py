@@ -1,7 +1,7 @@
 """A store as one text file, and back: for moving it to another machine or engine, and for reading its log.
 
 Each line is a JSON object. The first is the store: version, ABI, identity, number of entries, head, and the state (base64). Then a line for each
-file that it keeps (SHA-256, content), and a line for each entry of the log (its bytes, the SHA-256 of the state, its hash). An entry's call, inputs and answer stand
+file that it keeps (SHA-256, content), and a line for each entry of the log (its bytes, the SHA-256 of the state, its hash). An entry's call, inputs and answer are
 beside its bytes for a reader; nothing else reads them.
 """
 from __future__ import annotations
