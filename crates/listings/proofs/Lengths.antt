@@ -14,17 +14,18 @@ use Rattle.rules.specs.Sizes.{recordBytes, hashBytes, countersMax}
 use Rattle.rules.specs.Basics.{Bytes, Every, ascii, bit, part, number, byte, blank, kind, flag, scan, records}
 use Rattle.rules.specs.Layout.{tokenParametersAt, tokenParametersIf, counterUnder, counterOfSort, limitUnder, limitLaidOut, blobActionLaidOut}
 use Rattle.rules.specs.Day.{decimal}
-use Rattle.rules.specs.Acl.{AclPlace, aclStart, limitKey, limitInPlace, actionInPlace, actionLaidOut, placedUnder, placedByKind, inPlace, afterRecord, aclRecordFault, aclEnd, aclFaultUnder, aclFileFault}
+use Rattle.rules.specs.Acl.{AclPlace, limitKey, limitInPlace, actionInPlace, actionLaidOut, placedUnder, placedByKind, inPlace, aclRecordFault, aclFaultUnder, aclFileFault}
 use Rattle.rules.proofs.Laws.{and-left, and-right, and-both, orNext-first, orNext-next}
 use Rattle.rules.proofs.Places.{placed, file-due}
-use Rattle.listings.specs.Words.{space, hex, Word, bare, withNumber, withHash, spaced, wordsText, groupWords, limitWords, permissionNames, permissionWords, blobWords, archiveWords, fileWords, lineOf, listingOf, groupLineMax, limitLineMax, fileLineMax, lineMax, listingMax}
-use Rattle.listings.specs.Listing.{Octet, IsRecord}
+use Rattle.listings.specs.Words.{space, hex, Word, bare, withNumber, withHash, spaced, wordsText, groupWords, limitWords, permissionNames, permissionWords, blobWords, archiveWords, fileWords, lineOf, textBy, listingOf, groupLineMax, limitLineMax, fileLineMax, lineMax, listingMax}
+use Rattle.listings.specs.Kinds.{FileKind, kindFault, aclKind}
+use Rattle.listings.specs.Listing.{Octet, IsRecord, goingOn, soFar}
 use Rattle.listings.proofs.Digits.{decimal-length, hex-length}
 use Rattle.listings.proofs.Words.{text-with, text-without}
 use Rattle.listings.proofs.Parts.{part-length, number-fits, blank-byte, blank-within}
 use Rattle.listings.proofs.Files.{records-all}
 use Rattle.listings.proofs.Room.{record-passed, total, weight, acl-weight}
-use Rattle.listings.proofs.Reading.{whole-file}
+use Rattle.listings.proofs.Reading.{passed-on, whole-file}
 
 ruleset conj = (and-left, and-right, and-both)
 
@@ -198,21 +199,30 @@ module _ (r : Bytes) (h : IsRecord r) where
       pick false p false q true w l = let k : length (lineOf r) ≤ fileLineMax = rw (p, q, w) at l in omega arith
       pick false p false q false w l = rw (p, q, w) at l
 
--- the lines of records without fault
-lines-length : (s : AclPlace) (rs : List Bytes) → Every IsRecord rs → scan aclRecordFault afterRecord aclEnd s rs ≡ none → length (flatten (map lineOf rs)) ≤ total lineWeight rs
-unfolding scan total flatten
-lines-length s [] h e = omega arith
-lines-length s (r ∷ rs) h e =
-    let later = scan aclRecordFault afterRecord aclEnd (afterRecord s r) rs in
-    let l = line-length r (h .0) s (record-passed s r (orNext-first (aclRecordFault s r) later e) .0) in
-    let i = lines-length (afterRecord s r) rs (h .1) (orNext-next (aclRecordFault s r) later e) in
-    rw length-append (omega arith)
+-- the lines of records without fault, for any kind of file
+module _ {S : Type 0} (k : FileKind S) (w : Bytes → ℕ) (long : (s : S) (r : Bytes) → IsRecord r → k .fault s r ≡ none → length (k .line r) ≤ w r) where
+  lines-length : (s : S) (rs : List Bytes) → Every IsRecord rs → goingOn k s rs ≡ none → length (flatten (map (k .line) rs)) ≤ total w rs
+  unfolding scan total flatten
+  lines-length s [] h e = omega arith
+  lines-length s (r ∷ rs) h e =
+      let later = goingOn k (k .after s r) rs in
+      let l = long s r (h .0) (orNext-first (k .fault s r) later e) in
+      let i = lines-length (k .after s r) rs (h .1) (orNext-next (k .fault s r) later e) in
+      rw length-append (omega arith)
+
+  -- A file's text is no longer than its records' longest lines.
+  pub text-bound : (file : Bytes) → Every Octet file → kindFault k file ≡ none → (length (textBy (k .line) file) ≤ total w (records file)) × (soFar k (records file) ≡ none)
+  unfolding textBy
+  text-bound file o e =
+      let f = whole-file k file e in
+      let g = passed-on k (k .start) (records file) (f .1) in
+      (lines-length (k .start) (records file) (records-all file (f .0) o) g, g)
 
 -- The longest listing of an ACL.
 pub listing-bound : (file : Bytes) → Every Octet file → aclFileFault file ≡ none → length (listingOf file) ≤ listingMax
-unfolding listingOf aclFaultUnder
+unfolding aclFaultUnder
 listing-bound file o e =
-    let w = whole-file file e in
-    let l = lines-length aclStart (records file) (records-all file (w .0) o) (w .1) in
-    let t = acl-weight groupLineMax limitLineMax lineMax fileLineMax (records file) (w .1) in
+    let t = text-bound aclKind lineWeight (λ s r h d. line-length r h s (record-passed s r d .0)) file o e in
+    let a = t .0 in
+    let w = acl-weight groupLineMax limitLineMax lineMax fileLineMax (records file) (t .1) in
     omega arith

@@ -5,8 +5,9 @@ pub mod Parts
 pub mod Records
 pub mod Lines
 pub mod Files
-pub mod Room
 pub mod Reading
+pub mod Room
 pub mod Lengths
+pub mod Acl
 pub mod Entries
 pub mod Examples
