@@ -1,12 +1,12 @@
 -- The theorems of request b about an ACL and its listing: what holds of every kind of file, for this kind.
 use Prim.Native.Nat.{ℕ, _+_, _≤_}
-use mathlib.Core.Path.{_≡_, refl}
+use mathlib.Core.Path.{_≡_}
 use mathlib.Core.Option.{none, some}
 use mathlib.Core.Bool.{Bool, true, false, not}
 use Rattle.rules.specs.Sizes.{aclRecords}
 use Rattle.rules.specs.Numbers.{malformed}
 use Rattle.rules.specs.Basics.{Bytes, Every, unless}
-use Rattle.rules.specs.Acl.{AclPlace, aclEnd, aclFaultUnder, aclFileFault}
+use Rattle.rules.specs.Acl.{aclFaultUnder, aclFileFault}
 use Rattle.rules.proofs.Laws.{never}
 use Rattle.listings.specs.Words.{listingOf}
 use Rattle.listings.specs.Kinds.{aclKind}

@@ -30,7 +30,7 @@ use Rattle.listings.proofs.Reading.{passed-on, whole-file}
 ruleset conj = (and-left, and-right, and-both)
 
 -- a line's words by their values' lengths
-text-length : (w : Word) (ws : List Word) (k m : ℕ) → length (w .value) ≤ k → length (wordsText ws) ≤ m → length (wordsText (w ∷ ws)) ≤ length (spaced (w .name)) + k + m
+pub text-length : (w : Word) (ws : List Word) (k m : ℕ) → length (w .value) ≤ k → length (wordsText ws) ≤ m → length (wordsText (w ∷ ws)) ≤ length (spaced (w .name)) + k + m
 text-length w ws k m i j = pick (w .given) refl
   where
     pick : (b : Bool) → w .given ≡ b → length (wordsText (w ∷ ws)) ≤ length (spaced (w .name)) + k + m
@@ -40,19 +40,19 @@ text-length w ws k m i j = pick (w .given) refl
         rw (text-with w ws e) (omega arith)
     pick false e = rw (text-without w ws e) (omega arith)
 
-number-text : (p n : ℕ) → n < 10 ^ suc p → length (space ∷ decimal n) ≤ p + 2
+pub number-text : (p n : ℕ) → n < 10 ^ suc p → length (space ∷ decimal n) ≤ p + 2
 number-text p n h = let l = decimal-length p n h in omega arith
 
-end-length : length (wordsText []) ≤ 1
+pub end-length : length (wordsText []) ≤ 1
 unfolding wordsText
 end-length = omega arith
 
 -- the names of the permissions
-abbrev namesLength : List String → ℕ
+abbrev pub namesLength : List String → ℕ
 namesLength [] = 1
 namesLength (x ∷ xs) = length (spaced x) + namesLength xs
 
-permissions-length : (b : ℕ) (names : List String) (n : ℕ) → length (wordsText (permissionWords b names n)) ≤ namesLength names
+pub permissions-length : (b : ℕ) (names : List String) (n : ℕ) → length (wordsText (permissionWords b names n)) ≤ namesLength names
 unfolding permissionWords
 permissions-length b [] n = end-length
 permissions-length b (x ∷ xs) n =
@@ -64,13 +64,13 @@ abbrev lineWeight : Bytes → ℕ
 lineWeight r = weight groupLineMax limitLineMax lineMax fileLineMax r
 
 module _ (r : Bytes) (h : IsRecord r) where
-  hash-text : (off : ℕ) → off + hashBytes ≤ recordBytes → length (space ∷ hex (part off hashBytes r)) ≤ 41
+  pub hash-text : (off : ℕ) → off + hashBytes ≤ recordBytes → length (space ∷ hex (part off hashBytes r)) ≤ 41
   hash-text off l = let p = part-length r h off hashBytes l in let x = hex-length (part off hashBytes r) in omega arith
 
-  two-text : (off : ℕ) → off + 2 ≤ recordBytes → length (space ∷ decimal (number off 2 r)) ≤ 6
+  pub two-text : (off : ℕ) → off + 2 ≤ recordBytes → length (space ∷ decimal (number off 2 r)) ≤ 6
   two-text off l = let f = number-fits r h off 2 l in number-text 4 (number off 2 r) (omega arith)
 
-  four-text : (off : ℕ) → off + 4 ≤ recordBytes → length (space ∷ decimal (number off 4 r)) ≤ 11
+  pub four-text : (off : ℕ) → off + 4 ≤ recordBytes → length (space ∷ decimal (number off 4 r)) ≤ 11
   four-text off l = let f = number-fits r h off 4 l in number-text 9 (number off 4 r) (omega arith)
 
   group-length : length (ascii "group" ++ wordsText (groupWords r)) ≤ groupLineMax
@@ -107,11 +107,11 @@ module _ (r : Bytes) (h : IsRecord r) where
   permission-length = let t = permissions-length 0 permissionNames (number 4 2 r) in omega arith
 
   -- "1 ≤ needed ≤ total ≤ 64"
-  shares : tokenParametersIf 4 44 r ≡ true → (byte 46 r < 100) × (byte 47 r < 100)
+  pub shares : (f : ℕ) → tokenParametersIf f 44 r ≡ true → (byte 46 r < 100) × (byte 47 r < 100)
   unfolding tokenParametersIf tokenParametersAt
-  shares e = pick (flag 4 r) refl
+  shares f e = pick (flag f r) refl
     where
-      pick : (b : Bool) → flag 4 r ≡ b → (byte 46 r < 100) × (byte 47 r < 100)
+      pick : (b : Bool) → flag f r ≡ b → (byte 46 r < 100) × (byte 47 r < 100)
       pick true q =
           let t : tokenParametersAt 44 r ≡ true = rw q at e in
           let a : leb (byte 46 r) (byte 47 r) ≡ true = search conj in
@@ -129,7 +129,7 @@ module _ (r : Bytes) (h : IsRecord r) where
   unfolding blobActionLaidOut ascii
   blob-length e =
       let p : tokenParametersIf 4 44 r ≡ true = search conj in
-      let s = shares p in
+      let s = shares 4 p in
       let ws : ℕ → List Word = λ i. drop i (blobWords r) in
       let a10 = text-length (bare (flag 6 r) "blobfile") [] 0 1 (omega arith) end-length in
       let a9 = text-length (bare (flag 5 r) "AllowNullKmToken") (ws 10) 0 10 (omega arith) a10 in
@@ -153,7 +153,7 @@ module _ (r : Bytes) (h : IsRecord r) where
       let a0 = text-length (withHash (flag 0 r) "kahash" (part 4 hashBytes r)) (ws 1) 41 26 (hash-text 4 (omega arith)) a1 in
       omega arith
 
-  file-length : length (ascii "blobfile" ++ wordsText (fileWords r)) ≤ fileLineMax
+  pub file-length : length (ascii "blobfile" ++ wordsText (fileWords r)) ≤ fileLineMax
   unfolding ascii
   file-length =
       let m = text-length (withHash (flag 1 r) "template" (part 8 hashBytes r)) [] 41 1 (hash-text 8 (omega arith)) end-length in

@@ -16,7 +16,7 @@ use Rattle.rules.specs.Basics.{Bytes, Every, present, records, fits, unless, fi
 use Rattle.rules.proofs.Laws.{never, and-left, and-right, not-both, same-eq, same-refl, unless-passed, orNext-first, orNext-next, fault-none-every}
 use Rattle.listings.specs.Words.{textBy}
 use Rattle.listings.specs.Kinds.{FileKind, faultFrom, recordsFault, kindFault}
-use Rattle.listings.specs.Listing.{linesOf, asWritten, TextPlace, textStart, goodIn, faultAtLine, pastLine, textEnd, textFault, bytesBy, readAs, badLine, readingOf, readText, Octet, IsRecord, goingOn, soFar, BadAfter, FirstBad}
+use Rattle.listings.specs.Listing.{linesOf, asWritten, TextPlace, goodIn, faultAtLine, pastLine, textEnd, textFault, bytesBy, readAs, badLine, readingOf, readText, Octet, IsRecord, goingOn, soFar, BadAfter, FirstBad}
 use Rattle.listings.proofs.Digits.{every-append}
 use Rattle.listings.proofs.Lines.{oneLine, lines-of-flat, flat-lines}
 use Rattle.listings.proofs.Files.{records-flat, records-all, flat-length, flat-records}

@@ -1,14 +1,14 @@
 -- The lines of the records that stand in requests, bundles and hints: the kinds 6 to 14. They are written as those of an ACL are (Words): one line per
 -- record, words in a fixed order. The words are those of docs/LISTING.md.
-use Prim.Native.Nat.{ℕ, zero, suc, _-_}
+use Prim.Native.Nat.{ℕ, zero, suc, _+_, _-_, _*_}
 use Prim.Native.String.{String}
-use mathlib.Core.List.{List, [], _∷_, _++_, map}
-use mathlib.Core.Bool.{true}
+use mathlib.Core.List.{List, [], _∷_, _++_}
+use mathlib.Core.Bool.{Bool, true}
 use lib.Dec.{eqb}
-use Rattle.rules.specs.Sizes.{hashBytes}
+use Rattle.rules.specs.Sizes.{hashBytes, certificatesMax, delegationsMax, hintRecords, dayRecords}
 use Rattle.rules.specs.Basics.{if_then_else_, Bytes, ascii, bit, part, number, byte, kind, flag}
 use Rattle.rules.specs.Day.{decimal}
-use Rattle.listings.specs.Words.{hex, Word, bare, withNumber, withHash, wordsText, permissionNames, permissionWords, lineOf}
+use Rattle.listings.specs.Words.{space, hex, Word, bare, withNumber, withHash, wordsText, permissionNames, permissionWords, lineOf, fileLineMax}
 
 -- a value that no name stands before
 abbrev pub alone : Bytes → Word
@@ -86,9 +86,18 @@ policyWords r =
     ∷ withNumber true "protection" (byte 7 r)
     ∷ []
 
+-- numbers, each after a space
+unfoldable pub numbersText : Bytes → Bytes
+numbersText [] = []
+numbersText (n ∷ ns) = space ∷ (decimal n ++ numbersText ns)
+
+-- a word and several numbers
+abbrev pub withNumbers : Bool → String → Bytes → Word
+withNumbers given name ns = record { given = given; name = name; value = numbersText ns }
+
 -- 13: hint group N actions N N N N N N N N
 abbrev pub hintWords : Bytes → List Word
-hintWords r = withNumber true "group" (byte 4 r) ∷ bare true "actions" ∷ map (λ n. alone (decimal n)) (part 8 8 r)
+hintWords r = withNumber true "group" (byte 4 r) ∷ withNumbers true "actions" (part 8 8 r) ∷ []
 
 -- 14: delegation from HASH to HASH [PERMISSION ..]
 abbrev pub delegationWords : Bytes → List Word
@@ -110,3 +119,32 @@ recordLine r =
     else if eqb (kind r) 13 then ascii "hint" ++ wordsText (hintWords r)
     else if eqb (kind r) 14 then ascii "delegation" ++ wordsText (delegationWords r)
     else lineOf r
+
+-- The longest lines of a request record, of one that stands alone, of a certificate, a delegation and a hint, in bytes.
+abbrev pub requestLineMax : ℕ
+requestLineMax = 188
+
+abbrev pub aloneLineMax : ℕ
+aloneLineMax = 179
+
+abbrev pub certificateLineMax : ℕ
+certificateLineMax = 69
+
+abbrev pub delegationLineMax : ℕ
+delegationLineMax = 276
+
+abbrev pub hintLineMax : ℕ
+hintLineMax = 55
+
+-- The longest texts of a request file, of requests that stand alone, of a bundle and of hints.
+abbrev pub requestTextMax : ℕ
+requestTextMax = requestLineMax + fileLineMax + certificatesMax * certificateLineMax + delegationsMax * delegationLineMax
+
+abbrev pub requestsTextMax : ℕ
+requestsTextMax = dayRecords * aloneLineMax
+
+abbrev pub bundleTextMax : ℕ
+bundleTextMax = 2718
+
+abbrev pub hintsTextMax : ℕ
+hintsTextMax = hintRecords * hintLineMax
