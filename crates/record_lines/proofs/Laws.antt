@@ -1,12 +1,12 @@
 -- A line from its parts.
-use Prim.Native.Nat.{ℕ, zero, suc, _+_, _-_, _/_, _%_, _^_, _≤_, _<_}
+use Prim.Native.Nat.{ℕ, zero, suc, _+_, _-_, _^_, _≤_, _<_}
 use Prim.Native.String.{String}
 use native.Mathlib.Omega.{arith}
 use mathlib.Core.Path.{_≡_, refl, sym, _∙_, ap}
 use mathlib.Core.Logic.{_⊎_, inl, inr}
 use mathlib.Core.List.{List, [], _∷_, _++_, append-assoc, append-nil, map}
 use mathlib.Core.Bool.{Bool, true, false}
-use lib.ListN.{length, getD, take, drop, length-append, length-drop, take-append-drop}
+use lib.ListN.{length, getD, take, drop, length-drop, take-append-drop}
 use lib.Seq.{length-take-le, drop-drop, drop-cons}
 use lib.Dec.{eqb, leb}
 use borrow.Author.Tests.{lt-ltb, le-ltb, ne-eqb}
@@ -16,7 +16,7 @@ use Rattle.rules.specs.Day.{decimal}
 use Rattle.listings.specs.Words.{hex, bare, spaced, permissionNames, wordText, wordsText, lineOf}
 use Rattle.listings.specs.Listing.{ontoFirst}
 use Rattle.listings.specs.OtherWords.{alone, nameAt as told, timeWord, useWords, fieldNames, factWords, signatureNames, signatureWords, blobRequestWords, recoveryWords, certificateWords, policyWords, numbersText, hintWords, delegationWords, recordLine}
-use Rattle.listings.proofs.Digits.{below-or-not, decimal-more, decimal-length}
+use Rattle.listings.proofs.Digits.{below-or-not, decimal-length}
 use Rattle.listings.proofs.Words.{text-with}
 use Rattle.text.specs.Putting.{Put, Held, textIf}
 use Rattle.text.specs.Names.{wordsOf, nameAt, namesText}
@@ -25,24 +25,7 @@ use Rattle.text.proofs.Permissions.{permissionRow, row-names}
 use Rattle.lines.proofs.Laws.{names-line}
 use Rattle.record_lines.specs.Parts.{nameOf, sharesText, tokenText, bitsText, protectionText}
 
--- a number of eight bytes, by its tenth
-decimal-room : (n : ℕ) → 10 ≤ n → n < 2 ^ 64 → length (decimal n) ≡ length (decimal (n / 10)) + 1
-decimal-room n h l = ap length (decimal-more n h (omega arith)) ∙ length-append (decimal (n / 10)) ((48 + n % 10) ∷ [])
-
-pub tenth-inside : (n at m : ℕ) → 10 ≤ n → n < 2 ^ 64 → at + length (decimal n) ≤ m → at + length (decimal (n / 10)) ≤ m
-tenth-inside n at m h k l = let d = decimal-room n h k in omega arith
-
-pub ten-inside : (n at : ℕ) (old mid : Bytes) (end : ℕ) → 10 ≤ n → n < 2 ^ 64 → at + length (decimal n) ≤ length old → Put (decimal (n / 10)) at old mid end → end + 1 ≤ length mid
-ten-inside n at old mid end h k l p =
-    let d = decimal-room n h k in
-    let e = p .end in
-    let s = p .same-length in
-    omega arith
-
-pub put-ten : (n : ℕ) (old mid now : Bytes) (at end r : ℕ) → 10 ≤ n → n < 2 ^ 64 → Put (decimal (n / 10)) at old mid end → Put ((48 + n % 10) ∷ []) end mid now r → Put (decimal n) at old now r
-put-ten n old mid now at end r h k p q = rw (decimal-more n h (omega arith)) (put-on p q)
-
--- it has at most twenty digits
+-- a number of eight bytes has at most twenty digits
 pub long-inside : (n at : ℕ) (old mid : Bytes) (r : ℕ) → n < 2 ^ 64 → Put (ascii " time ") at old mid r → at + 27 ≤ length old → r + length (decimal n) ≤ length mid
 unfolding ascii
 long-inside n at old mid r l p h =

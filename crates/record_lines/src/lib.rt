@@ -1,40 +1,18 @@
 // The line of a record of a request, a bundle or hints, at the front of a lent buffer.
 ghost use mathlib.Core.Path.{_≡_};
 ghost use mathlib.Core.List.{[], _∷_, _++_};
-ghost use Prim.Native.Nat.{_+_, _-_, _%_, _≤_};
+ghost use Prim.Native.Nat.{_+_, _-_, _≤_};
 ghost use lib.ListN.{length};
 ghost use Rattle.rules.specs.Sizes.{recordBytes};
 ghost use Rattle.rules.specs.Basics.{ascii, part};
-ghost use Rattle.rules.specs.Day.{decimal};
 ghost use Rattle.listings.specs.Words.{wordsText};
 ghost use Rattle.listings.specs.OtherWords.{timeWord, useWords, blobRequestWords, recoveryWords, certificateWords, factWords, signatureWords, policyWords, numbersText, hintWords, delegationWords, recordLine};
-ghost use Rattle.text.specs.Putting.{Put, Held};
+ghost use Rattle.text.specs.Putting.{Held};
 ghost use Rattle.text.specs.Names.{wordsOf};
 ghost use Rattle.record_lines.specs.Parts.{nameOf, sharesText, tokenText, bitsText, protectionText};
 
 // No record's line is longer, whether the record is well formed or not.
 pub const ROOM: usize = 320;
-
-// A number's last digit.
-fn append_digit(n: u64, at: usize, line: &mut [u8]) -> usize
-    requires { ⌜ at + 1 ≤ length (now line) ⌝ }
-    ensures { λ r. ⌜ Put ((48 + n % 10) ∷ []) at (now (line .entry)) (now (line .exit)) r ⌝ }
-{
-    let one = [(48 + n % 10) as u8];
-    text::append(&one, at, line)
-}
-
-// A number of eight bytes in decimal: the digits of its tenth, and one more.
-fn append_long(n: u64, at: usize, line: &mut [u8]) -> usize
-    requires { ⌜ at + length (decimal n) ≤ length (now line) ⌝ }
-    ensures { λ r. ⌜ Put (decimal n) at (now (line .entry)) (now (line .exit)) r ⌝ }
-{
-    if n < 10 {
-        return append_digit(n, at, line);
-    }
-    let end = append_long(n / 10, at, line);
-    append_digit(n, end, line)
-}
 
 // A request's last word, its time, and the newline.
 fn end_time(rec: &[u8], at: usize, line: &mut [u8]) -> usize
@@ -43,7 +21,7 @@ fn end_time(rec: &[u8], at: usize, line: &mut [u8]) -> usize
 {
     let time = fields::be64(rec, 56);
     let told = text::append(b" time ", at, line);
-    let end = append_long(time, told, line);
+    let end = text::append_decimal(time, told, line);
     text::append(b"\n", end, line)
 }
 

@@ -13,9 +13,9 @@ slice-aggregate-append c = search needs
 append-requires : tie.Need-append-requires
 append-requires c κs = search needs
 
-append-long-requires : tie.Need-append-long-requires
+append-decimal-requires : tie.Need-append-decimal-requires
 unfolding ascii
-append-long-requires c κs = search (needs, long-inside)
+append-decimal-requires c κs = search (needs, long-inside)
 
 slice-aggregate-append-2 : tie.Need-slice-aggregate-append-2
 slice-aggregate-append-2 c = search needs
@@ -38,7 +38,7 @@ end-time-spec =
     be64-requires
     slice-aggregate-append
     append-requires
-    append-long-requires
+    append-decimal-requires
     slice-aggregate-append-2
     append-requires-2
     same-length
