@@ -21,7 +21,7 @@ use Rattle.listings.proofs.Words.{text-with}
 use Rattle.text.specs.Putting.{Put, Held, textIf}
 use Rattle.text.specs.Names.{wordsOf, nameAt, namesText}
 use Rattle.text.proofs.Laws.{put-on, put-as}
-use Rattle.text.proofs.Permissions.{permissionRow, row-names}
+use Rattle.text.proofs.Permissions.{permissionRow, row-names, fieldRow, field-names, signatureRow, signature-names}
 use Rattle.lines.proofs.Laws.{names-line}
 use Rattle.record_lines.specs.Parts.{nameOf, sharesText, tokenText, bitsText, protectionText}
 
@@ -348,23 +348,9 @@ pub row-count : 16 ≡ length (wordsOf permissionRow)
 unfolding wordsOf ascii
 row-count = refl
 
-abbrev pub fieldRow : Bytes
-fieldRow = ascii " warrantESN stateESN KML HKNSO knsopub hkm hkre kcmsg pubkeydata csr hkra hkmc hkfips modulekey"
-
-field-names : wordsOf fieldRow ≡ map spaced fieldNames
-unfolding wordsOf ascii
-field-names = refl
-
 pub field-count : 14 ≡ length (wordsOf fieldRow)
 unfolding wordsOf ascii
 field-count = refl
-
-abbrev pub signatureRow : Bytes
-signatureRow = ascii " warrant modulestate CertKMaKMCbKNSO CertKMaKMCaKFIPSbKNSO CertKREaKRAbKNSO keygeneration"
-
-signature-names : wordsOf signatureRow ≡ map spaced signatureNames
-unfolding wordsOf ascii
-signature-names = refl
 
 pub signature-count : 6 ≡ length (wordsOf signatureRow)
 unfolding wordsOf ascii

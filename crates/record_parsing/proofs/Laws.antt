@@ -4,24 +4,25 @@ use Prim.Native.String.{String}
 use native.Mathlib.Omega.{arith}
 use mathlib.Core.Path.{_≡_, refl, sym, _∙_, ap}
 use mathlib.Core.List.{List, [], _∷_, _++_, append-assoc, append-nil, flatten, map}
-use mathlib.Core.Bool.{false}
+use mathlib.Core.Bool.{Bool, true, false}
 use lib.ListN.{length, drop, replicate}
 use Rattle.rules.specs.Sizes.{hashBytes}
 use Rattle.rules.specs.Basics.{if_then_else_, Bytes, ascii}
 use Rattle.listings.specs.Words.{spaced, permissionNames}
-use Rattle.listings.specs.Decoding.{hasWord, afterWord, afterHash, afterNumber, hashAfter, numberAfter, bytesOf, ofBits, headed}
-use Rattle.listings.specs.OtherDecoding.{placeOf, afterName, hashHere, pastHere, timeAfter, useFrom, recoveryFrom, certificateFrom}
+use Rattle.listings.specs.OtherWords.{fieldNames, signatureNames}
+use Rattle.listings.specs.Decoding.{hasWord, afterWord, afterHash, afterNumber, hashAfter, numberAfter, bytesOf, ofBits, headed, begins, past, decoded}
+use Rattle.listings.specs.OtherDecoding.{placeOf, afterName, hashHere, pastHere, bytesHere, timeAfter, useFrom, blobRequestFrom, recoveryFrom, certificateFrom, factFrom, signatureFrom, policyRecordFrom, hintFrom, delegationFrom, recordOf}
 use Rattle.text.specs.Putting.{Put}
 use Rattle.text.specs.Names.{wordsOf}
 use Rattle.text.proofs.Laws.{put-on, put-as}
-use Rattle.text.proofs.Permissions.{permissionRow, row-names}
+use Rattle.text.proofs.Permissions.{permissionRow, row-names, fieldRow, field-names, signatureRow, signature-names}
 use Rattle.words.specs.declared.Cursor.{Cursor}
 use Rattle.words.specs.Telling.{placeIn, pastName}
 use Rattle.words.specs.Taking.{one, Advanced, Field}
 use Rattle.words.proofs.Taking.{told-on, field-on}
-use Rattle.parsing.specs.Parts.{nullPlace, shareBytes}
-use Rattle.parsing.proofs.Laws.{headed-put}
-use Rattle.record_parsing.specs.Parts.{softPlace, tokenPlace, tokenBytes, bitsPlace, bitsSet}
+use Rattle.parsing.specs.Parts.{bitsFrom, nullPlace, shareBytes}
+use Rattle.parsing.proofs.Laws.{headed-put, names-bits}
+use Rattle.record_parsing.specs.Parts.{softPlace, tokenPlace, tokenBytes, outcomeBytes, bitsPlace, bitsSet, policyEnd, actionBytes, bitsBytes}
 
 -- the names of a row, by the strings that they are
 place-names : (names : List String) (t : Bytes) → placeIn (map spaced names) t ≡ placeOf names t
@@ -140,3 +141,205 @@ recovery-put line from at d1 d2 l far more r old b1 b2 b3 new p1 p2 p3 h =
     put-as (recovery-whole t)
     (headed-put 8 (l .flags) m at (hashAfter "kahash" t ++ (bytesOf 2 (numberAfter "mechanism" (afterHash "kahash" t)) ++ (replicate 30 0 ++ bytesOf 8 (timeAfter (afterWord "blobfile" v))))) old b3 new (l .end) r e
     (put-on (p1 .1 .written) (put-on (q2 .1 .written) (q3 .2))) h)
+
+-- a blob request
+blob-whole : (t : Bytes) → (7 ∷ 0 ∷ bytesOf 2 (ofBits (hasWord "token" (afterHash "kmhash" t) ∷ false ∷ false ∷ false ∷ false ∷ false ∷ hasWord "blobfile" (tokenPlace (afterHash "kmhash" t)) ∷ [])))
+    ++ (hashAfter "kmhash" t ++ (tokenBytes (afterHash "kmhash" t) ++ (replicate 4 0 ++ bytesOf 8 (timeAfter (afterWord "blobfile" (tokenPlace (afterHash "kmhash" t))))))) ≡ blobRequestFrom t
+unfolding blobRequestFrom headed flatten tokenBytes shareBytes ofBits
+blob-whole t =
+    let u : Bytes = softPlace (afterHash "kmhash" t) in
+    let e : 1 * one (hasWord "AllowSoftSlots" u) ≡ ofBits (hasWord "AllowSoftSlots" u ∷ []) = omega arith in
+    rw e (simp (append-assoc, append-nil))
+
+pub blob-put : (line : Bytes) (from at : ℕ) (d1 d2 l : Cursor) (far r : ℕ) (old b1 b2 b3 new : Bytes)
+    → Advanced line (afterHash "kmhash" (drop from line)) (0 * one (hasWord "kmhash" (drop from line))) 0 far record { at = from; end = at + 4; flags = 0 } d1 × Field hashBytes (hashAfter "kmhash" (drop from line)) (at + 4) old b1 (d1 .end)
+    → Advanced line (tokenPlace (drop (d1 .at) line)) (1 * one (hasWord "token" (drop (d1 .at) line))) 1 130 d1 d2 × Field 28 (tokenBytes (drop (d1 .at) line)) (d1 .end) b1 b2 (d2 .end)
+    → (l .flags ≡ d2 .flags + 64 * one (hasWord "blobfile" (drop (d2 .at) line))) × (l .flags ≤ d2 .flags + 64)
+    × Put (replicate 4 0 ++ bytesOf 8 (timeAfter (afterWord "blobfile" (drop (d2 .at) line)))) (d2 .end) b2 b3 (l .end)
+    → Field 4 (7 ∷ 0 ∷ bytesOf 2 (l .flags)) at b3 new r
+    → Put (blobRequestFrom (drop from line)) at old new (l .end)
+unfolding ofBits
+blob-put line from at d1 d2 l far r old b1 b2 b3 new p1 p2 p3 h =
+    let t : Bytes = drop from line in
+    let q2 = rw (p1 .0 .place) at p2 in
+    let q3 = rw (q2 .0 .place) at p3 in
+    let u : Bytes = afterHash "kmhash" t in
+    let v : Bytes = tokenPlace u in
+    let m : ℕ = ofBits (hasWord "token" u ∷ false ∷ false ∷ false ∷ false ∷ false ∷ hasWord "blobfile" v ∷ []) in
+    let e : l .flags ≡ m = omega (arith, p1 .0 .flags-are, q2 .0 .flags-are, q3 .0) in
+    put-as (blob-whole t)
+    (headed-put 7 (l .flags) m at (hashAfter "kmhash" t ++ (tokenBytes u ++ (replicate 4 0 ++ bytesOf 8 (timeAfter (afterWord "blobfile" v))))) old b3 new (l .end) r e
+    (put-on (p1 .1 .written) (put-on (q2 .1 .written) (q3 .2))) h)
+
+-- a name of a row, counted from 1
+row-place : (row : Bytes) (names : List String) (t : Bytes) → wordsOf row ≡ map spaced names → placeIn (wordsOf row) t + 1 ≡ placeOf names t + 1
+row-place row names t e = ap (λ (ws : List Bytes). placeIn ws t + 1) e ∙ ap (λ (n : ℕ). n + 1) (place-names names t)
+
+row-past : (row : Bytes) (names : List String) (t : Bytes) → wordsOf row ≡ map spaced names → pastName (wordsOf row) t ≡ afterName names t
+row-past row names t e = ap (λ (ws : List Bytes). pastName ws t) e ∙ past-names names t
+
+-- a fact
+pub fact-put : (line : Bytes) (from at : ℕ) (d e : Cursor) (old b1 b2 b3 b4 new : Bytes) (far more e1 e2 r : ℕ)
+    → Field 4 (10 ∷ 0 ∷ bytesOf 2 0) at old b1 e1
+    → Advanced line (pastName (wordsOf fieldRow) (drop from line)) 0 0 far record { at = from; end = e1; flags = 0 } d
+    × Field 1 (bytesOf 1 (placeIn (wordsOf fieldRow) (drop from line) + 1)) e1 b1 b2 (d .end)
+    → Put (replicate 3 0) (d .end) b2 b3 e2
+    → Advanced line (pastHere (drop (d .at) line)) 0 0 more record { at = d .at; end = e2; flags = 0 } e × Field hashBytes (hashHere (drop (d .at) line)) e2 b3 b4 (e .end)
+    → Put (replicate 36 0) (e .end) b4 new r
+    → Put (factFrom (drop from line)) at old new r
+unfolding factFrom headed flatten ofBits
+fact-put line from at d e old b1 b2 b3 b4 new far more e1 e2 r h n g k z =
+    let t : Bytes = drop from line in
+    let p : placeIn (wordsOf fieldRow) t + 1 ≡ placeOf fieldNames t + 1 = row-place fieldRow fieldNames t field-names in
+    let q : drop (d .at) line ≡ afterName fieldNames t = n .0 .place ∙ row-past fieldRow fieldNames t field-names in
+    put-as (ap (λ (l : Bytes). (10 ∷ 0 ∷ bytesOf 2 0) ++ (bytesOf 1 (placeOf fieldNames t + 1) ++ (replicate 3 0 ++ (hashHere (afterName fieldNames t) ++ l)))) (sym (append-nil (replicate 36 0))))
+    (put-on (h .written) (put-on (rw p at (n .1 .written)) (put-on g (put-on (rw q at (k .1 .written)) z))))
+
+-- a signature's outcome
+pub outcome-put : (line : Bytes) (c d : Cursor) (u old mid new : Bytes) (n far e r : ℕ)
+    → Advanced line u (1 * one (hasWord "good" (drop (c .at) line))) 1 far record { at = c .at; end = c .end; flags = 0 } d × (d .end ≡ c .end)
+    → n ≡ d .flags
+    → Field 1 (bytesOf 1 n) (d .end) old mid e
+    → Put (replicate 58 0) e mid new r
+    → Put (outcomeBytes (drop (c .at) line)) (c .end) old new r
+unfolding outcomeBytes
+outcome-put line c d u old mid new n far e r w en f z =
+    let s : n ≡ one (hasWord "good" (drop (c .at) line)) = omega (arith, en, w .0 .flags-are) in
+    let g = rw (s, w .1) at f in
+    put-on (g .written) z
+
+-- .. a signature
+pub signature-put : (line : Bytes) (from at : ℕ) (d : Cursor) (old b1 b2 new : Bytes) (far e1 r : ℕ)
+    → Field 4 (11 ∷ 0 ∷ bytesOf 2 0) at old b1 e1
+    → Advanced line (pastName (wordsOf signatureRow) (drop from line)) 0 0 far record { at = from; end = e1; flags = 0 } d
+    × Field 1 (bytesOf 1 (placeIn (wordsOf signatureRow) (drop from line) + 1)) e1 b1 b2 (d .end)
+    → Put (outcomeBytes (drop (d .at) line)) (d .end) b2 new r
+    → Put (signatureFrom (drop from line)) at old new r
+unfolding signatureFrom headed flatten ofBits outcomeBytes
+signature-put line from at d old b1 b2 new far e1 r h n o =
+    let t : Bytes = drop from line in
+    let p : placeIn (wordsOf signatureRow) t + 1 ≡ placeOf signatureNames t + 1 = row-place signatureRow signatureNames t signature-names in
+    let q : drop (d .at) line ≡ afterName signatureNames t = n .0 .place ∙ row-past signatureRow signatureNames t signature-names in
+    put-as (ap (λ (l : Bytes). (11 ∷ 0 ∷ bytesOf 2 0) ++ (bytesOf 1 (placeOf signatureNames t + 1) ++ (bytesOf 1 (one (hasWord "good" (afterName signatureNames t))) ++ l))) (sym (append-nil (replicate 58 0))))
+    (put-on (h .written) (put-on (rw p at (n .1 .written)) (rw q at o)))
+
+-- a policy
+pub policy-end-put : (line : Bytes) (c d e : Cursor) (u old b1 b2 new : Bytes) (flags most far more r : ℕ)
+    → Advanced line (bitsPlace (drop (c .at) line)) 0 0 far c d × Field 1 (bytesOf 1 (bitsSet (drop (c .at) line))) (c .end) old b1 (d .end)
+    → Advanced line u flags most more d e × Field 1 (bytesOf 1 (numberAfter "protection" (drop (d .at) line))) (d .end) b1 b2 (e .end)
+    → Put (replicate 56 0) (e .end) b2 new r
+    → Put (policyEnd (drop (c .at) line)) (c .end) old new r
+unfolding policyEnd
+policy-end-put line c d e u old b1 b2 new flags most far more r p q z =
+    put-on (p .1 .written) (put-on (rw (p .0 .place) at (q .1 .written)) z)
+
+policy-whole : (t : Bytes) → (12 ∷ 0 ∷ bytesOf 2 0) ++ (bytesOf 1 (numberAfter "suite" t) ++ (bytesOf 1 (numberAfter "approach" (afterNumber "suite" t)) ++ policyEnd (afterNumber "approach" (afterNumber "suite" t)))) ≡ policyRecordFrom t
+unfolding policyRecordFrom headed flatten ofBits policyEnd
+policy-whole t =
+    let v : Bytes = afterNumber "approach" (afterNumber "suite" t) in
+    let e : bitsSet v ≡ ofBits (hasWord "signing" v ∷ hasWord "encryption" (afterWord "signing" v) ∷ hasWord "csr" (afterWord "encryption" (afterWord "signing" v)) ∷ []) = omega arith in
+    rw e (simp append-nil)
+
+pub policy-put : (line : Bytes) (from at : ℕ) (d1 d2 : Cursor) (old b1 b2 b3 new : Bytes) (far more e1 r : ℕ)
+    → Field 4 (12 ∷ 0 ∷ bytesOf 2 0) at old b1 e1
+    → Advanced line (afterNumber "suite" (drop from line)) (0 * one (hasWord "suite" (drop from line))) 0 far record { at = from; end = e1; flags = 0 } d1 × Field 1 (bytesOf 1 (numberAfter "suite" (drop from line))) e1 b1 b2 (d1 .end)
+    → Advanced line (afterNumber "approach" (drop (d1 .at) line)) (0 * one (hasWord "approach" (drop (d1 .at) line))) 0 more d1 d2 × Field 1 (bytesOf 1 (numberAfter "approach" (drop (d1 .at) line))) (d1 .end) b2 b3 (d2 .end)
+    → Put (policyEnd (drop (d2 .at) line)) (d2 .end) b3 new r
+    → Put (policyRecordFrom (drop from line)) at old new r
+policy-put line from at d1 d2 old b1 b2 b3 new far more e1 r h p1 p2 z =
+    let q2 = rw (p1 .0 .place) at p2 in
+    put-as (policy-whole (drop from line))
+    (put-on (h .written) (put-on (p1 .1 .written) (put-on (q2 .1 .written) (rw (q2 .0 .place) at z))))
+
+-- a hint
+pub actions-put : (line : Bytes) (c d : Cursor) (old b1 b2 new : Bytes) (flags most far e1 e2 r : ℕ)
+    → Put (replicate 3 0) (c .end) old b1 e1
+    → Advanced line (afterWord "actions" (drop (c .at) line)) flags most far record { at = c .at; end = e1; flags = 0 } d × (d .end ≡ e1)
+    → Field 8 (bytesHere 8 (drop (d .at) line)) (d .end) b1 b2 e2
+    → Put (replicate 48 0) e2 b2 new r
+    → Put (actionBytes (drop (c .at) line)) (c .end) old new r
+unfolding actionBytes
+actions-put line c d old b1 b2 new flags most far e1 e2 r g w f z =
+    put-on g (put-on (rw (w .1, w .0 .place) at (f .written)) z)
+
+pub hint-put : (line : Bytes) (from at : ℕ) (d : Cursor) (old b1 b2 new : Bytes) (flags most far e1 r : ℕ)
+    → Field 4 (13 ∷ 0 ∷ bytesOf 2 0) at old b1 e1
+    → Advanced line (afterNumber "group" (drop from line)) flags most far record { at = from; end = e1; flags = 0 } d × Field 1 (bytesOf 1 (numberAfter "group" (drop from line))) e1 b1 b2 (d .end)
+    → Put (actionBytes (drop (d .at) line)) (d .end) b2 new r
+    → Put (hintFrom (drop from line)) at old new r
+unfolding hintFrom headed flatten ofBits actionBytes
+hint-put line from at d old b1 b2 new flags most far e1 r h p z =
+    let t : Bytes = drop from line in
+    let u : Bytes = afterNumber "group" t in
+    put-as (ap (λ (l : Bytes). (13 ∷ 0 ∷ bytesOf 2 0) ++ (bytesOf 1 (numberAfter "group" t) ++ (replicate 3 0 ++ (bytesHere 8 (afterWord "actions" u) ++ l)))) (sym (append-nil (replicate 48 0))))
+    (put-on (h .written) (put-on (p .1 .written) (rw (p .0 .place) at z)))
+
+-- a delegation
+pub bits-put : (t : Bytes) (bits at : ℕ) (old b1 new : Bytes) (e1 r : ℕ) → bits ≡ ofBits (bitsFrom (wordsOf permissionRow) t) → Field 2 (bytesOf 2 bits) at old b1 e1 → Put (replicate 18 0) e1 b1 new r → Put (bitsBytes t) at old new r
+unfolding bitsBytes
+bits-put t bits at old b1 new e1 r e q z =
+    let f = e ∙ ap (λ (ws : List Bytes). ofBits (bitsFrom ws t)) row-names ∙ ap ofBits (names-bits permissionNames t) in
+    put-on (rw f at (q .written)) z
+
+pub delegation-put : (line : Bytes) (from at : ℕ) (d1 d2 : Cursor) (old b1 b2 b3 new : Bytes) (far more e1 r : ℕ)
+    → Field 4 (14 ∷ 0 ∷ bytesOf 2 0) at old b1 e1
+    → Advanced line (afterHash "from" (drop from line)) (0 * one (hasWord "from" (drop from line))) 0 far record { at = from; end = e1; flags = 0 } d1 × Field hashBytes (hashAfter "from" (drop from line)) e1 b1 b2 (d1 .end)
+    → Advanced line (afterHash "to" (drop (d1 .at) line)) (0 * one (hasWord "to" (drop (d1 .at) line))) 0 more d1 d2 × Field hashBytes (hashAfter "to" (drop (d1 .at) line)) (d1 .end) b2 b3 (d2 .end)
+    → Put (bitsBytes (drop (d2 .at) line)) (d2 .end) b3 new r
+    → Put (delegationFrom (drop from line)) at old new r
+unfolding delegationFrom headed flatten ofBits bitsBytes
+delegation-put line from at d1 d2 old b1 b2 b3 new far more e1 r h p1 p2 z =
+    let t : Bytes = drop from line in
+    let q2 = rw (p1 .0 .place) at p2 in
+    put-as (simp append-nil)
+    (put-on (h .written) (put-on (p1 .1 .written) (put-on (q2 .1 .written) (rw (q2 .0 .place) at z))))
+
+-- the record that a line tells, by its first word
+module _ (line old new : Bytes) (at r : ℕ) (b1 : Bool) (e1 : b1 ≡ begins "use" line) where
+  pub told-1 : b1 ≡ true → Put (useFrom (past "use" line)) at old new r → Put (recordOf line) at old new r
+  unfolding recordOf
+  told-1 y p = rw (sym e1 ∙ y) p
+
+  module _ (n1 : b1 ≡ false) (b2 : Bool) (e2 : b2 ≡ begins "blob" line) where
+    pub told-2 : b2 ≡ true → Put (blobRequestFrom (past "blob" line)) at old new r → Put (recordOf line) at old new r
+    unfolding recordOf
+    told-2 y p = rw (sym e1 ∙ n1, sym e2 ∙ y) p
+
+    module _ (n2 : b2 ≡ false) (b3 : Bool) (e3 : b3 ≡ begins "recovery" line) where
+      pub told-3 : b3 ≡ true → Put (recoveryFrom (past "recovery" line)) at old new r → Put (recordOf line) at old new r
+      unfolding recordOf
+      told-3 y p = rw (sym e1 ∙ n1, sym e2 ∙ n2, sym e3 ∙ y) p
+
+      module _ (n3 : b3 ≡ false) (b4 : Bool) (e4 : b4 ≡ begins "certificate" line) where
+        pub told-4 : b4 ≡ true → Put (certificateFrom (past "certificate" line)) at old new r → Put (recordOf line) at old new r
+        unfolding recordOf
+        told-4 y p = rw (sym e1 ∙ n1, sym e2 ∙ n2, sym e3 ∙ n3, sym e4 ∙ y) p
+
+        module _ (n4 : b4 ≡ false) (b5 : Bool) (e5 : b5 ≡ begins "fact" line) where
+          pub told-5 : b5 ≡ true → Put (factFrom (past "fact" line)) at old new r → Put (recordOf line) at old new r
+          unfolding recordOf
+          told-5 y p = rw (sym e1 ∙ n1, sym e2 ∙ n2, sym e3 ∙ n3, sym e4 ∙ n4, sym e5 ∙ y) p
+
+          module _ (n5 : b5 ≡ false) (b6 : Bool) (e6 : b6 ≡ begins "signature" line) where
+            pub told-6 : b6 ≡ true → Put (signatureFrom (past "signature" line)) at old new r → Put (recordOf line) at old new r
+            unfolding recordOf
+            told-6 y p = rw (sym e1 ∙ n1, sym e2 ∙ n2, sym e3 ∙ n3, sym e4 ∙ n4, sym e5 ∙ n5, sym e6 ∙ y) p
+
+            module _ (n6 : b6 ≡ false) (b7 : Bool) (e7 : b7 ≡ begins "policy" line) where
+              pub told-7 : b7 ≡ true → Put (policyRecordFrom (past "policy" line)) at old new r → Put (recordOf line) at old new r
+              unfolding recordOf
+              told-7 y p = rw (sym e1 ∙ n1, sym e2 ∙ n2, sym e3 ∙ n3, sym e4 ∙ n4, sym e5 ∙ n5, sym e6 ∙ n6, sym e7 ∙ y) p
+
+              module _ (n7 : b7 ≡ false) (b8 : Bool) (e8 : b8 ≡ begins "hint" line) where
+                pub told-8 : b8 ≡ true → Put (hintFrom (past "hint" line)) at old new r → Put (recordOf line) at old new r
+                unfolding recordOf
+                told-8 y p = rw (sym e1 ∙ n1, sym e2 ∙ n2, sym e3 ∙ n3, sym e4 ∙ n4, sym e5 ∙ n5, sym e6 ∙ n6, sym e7 ∙ n7, sym e8 ∙ y) p
+
+                module _ (n8 : b8 ≡ false) (b9 : Bool) (e9 : b9 ≡ begins "delegation" line) where
+                  pub told-9 : b9 ≡ true → Put (delegationFrom (past "delegation" line)) at old new r → Put (recordOf line) at old new r
+                  unfolding recordOf
+                  told-9 y p = rw (sym e1 ∙ n1, sym e2 ∙ n2, sym e3 ∙ n3, sym e4 ∙ n4, sym e5 ∙ n5, sym e6 ∙ n6, sym e7 ∙ n7, sym e8 ∙ n8, sym e9 ∙ y) p
+
+                  pub told-10 : b9 ≡ false → Put (decoded line) at old new r → Put (recordOf line) at old new r
+                  unfolding recordOf
+                  told-10 n9 p = rw (sym e1 ∙ n1, sym e2 ∙ n2, sym e3 ∙ n3, sym e4 ∙ n4, sym e5 ∙ n5, sym e6 ∙ n6, sym e7 ∙ n7, sym e8 ∙ n8, sym e9 ∙ n9) p

@@ -1,8 +1,11 @@
 -- The parts of a record that a line tells. `t` is what is left of the line where a part begins.
 use Prim.Native.Nat.{ℕ, _+_, _*_}
 use mathlib.Core.List.{_++_}
+use lib.ListN.{replicate}
 use Rattle.rules.specs.Basics.{Bytes}
-use Rattle.listings.specs.Decoding.{hasWord, afterWord, afterHash, hashAfter, bytesOf}
+use Rattle.listings.specs.Words.{permissionNames}
+use Rattle.listings.specs.Decoding.{hasWord, afterWord, afterHash, hashAfter, numberAfter, bytesOf, ofBits, namesFrom}
+use Rattle.listings.specs.OtherDecoding.{bytesHere}
 use Rattle.words.specs.Taking.{one}
 use Rattle.parsing.specs.Parts.{nullPlace, shareBytes}
 
@@ -31,3 +34,19 @@ bitsPlace t = afterWord "csr" (csrPlace t)
 abbrev pub bitsSet : Bytes → ℕ
 bitsSet t =
     1 * one (hasWord "signing" t) + (2 * one (hasWord "encryption" (encryptionPlace t)) + 4 * one (hasWord "csr" (csrPlace t)))
+
+-- .. and all that follows a policy's approach
+unfoldable pub policyEnd : Bytes → Bytes
+policyEnd t = bytesOf 1 (bitsSet t) ++ (bytesOf 1 (numberAfter "protection" (bitsPlace t)) ++ replicate 56 0)
+
+-- what follows a signature's name
+unfoldable pub outcomeBytes : Bytes → Bytes
+outcomeBytes t = bytesOf 1 (one (hasWord "good" t)) ++ replicate 58 0
+
+-- .. a hint's group
+unfoldable pub actionBytes : Bytes → Bytes
+actionBytes t = replicate 3 0 ++ (bytesHere 8 (afterWord "actions" t) ++ replicate 48 0)
+
+-- .. a delegation's hashes
+unfoldable pub bitsBytes : Bytes → Bytes
+bitsBytes t = bytesOf 2 (ofBits (namesFrom permissionNames t)) ++ replicate 18 0

@@ -8,7 +8,7 @@ ghost use Rattle.listings.specs.Decoding.{hasWord, afterWord, bytesOf};
 ghost use Rattle.listings.specs.OtherDecoding.{timeAfter, useFrom, blobRequestFrom, recoveryFrom, certificateFrom, factFrom, signatureFrom, policyRecordFrom, hintFrom, delegationFrom, recordOf};
 ghost use Rattle.text.specs.Putting.{Put};
 ghost use Rattle.words.specs.Taking.{one, Advanced, Field};
-ghost use Rattle.record_parsing.specs.Parts.{tokenPlace, tokenBytes, bitsPlace, bitsSet};
+ghost use Rattle.record_parsing.specs.Parts.{tokenPlace, tokenBytes, outcomeBytes, bitsPlace, bitsSet, policyEnd, actionBytes, bitsBytes};
 use words::Cursor;
 
 // The record of a use's line: the permission, the time.
@@ -171,6 +171,23 @@ fn fact_from(line: &[u8], from: usize, at: usize, rec: &mut [u8]) -> usize
     text::append(&[0u8; 36], last, rec)
 }
 
+// A signature's outcome, and zeros to the end of the record.
+fn outcome_from(line: &[u8], c: Cursor, rec: &mut [u8]) -> usize
+    requires { ⌜ (c .at ≤ 300) × (c .end + 59 ≤ length (now rec)) ⌝ }
+    ensures { λ r. ⌜ Put (outcomeBytes (drop (c .at) (now (line .entry)))) (c .end) (now (rec .entry)) (now (rec .exit)) r ⌝ }
+{
+    let own = Cursor {
+        at: c.at,
+        end: c.end,
+        flags: 0,
+    };
+    let good = words::take_word(b" good", 1, line, own);
+    let end = good.end;
+    let flags = good.flags as u64;
+    let last = words::put_number(flags, 1, end, rec);
+    text::append(&[0u8; 58], last, rec)
+}
+
 // The record of a signature's line: its number, one if it is good.
 fn signature_from(line: &[u8], from: usize, at: usize, rec: &mut [u8]) -> usize
     requires { ⌜ (from ≤ 20) × (at + 64 ≤ length (now rec)) ⌝ }
@@ -189,11 +206,7 @@ fn signature_from(line: &[u8], from: usize, at: usize, rec: &mut [u8]) -> usize
         start,
         rec,
     );
-    let good = words::take_word(b" good", 1, line, named);
-    let end = good.end;
-    let flags = good.flags as u64;
-    let last = words::put_number(flags, 1, end, rec);
-    text::append(&[0u8; 58], last, rec)
+    outcome_from(line, named, rec)
 }
 
 // A policy's three bits, as one byte.
@@ -214,6 +227,17 @@ fn policy_bits(line: &[u8], c: Cursor, rec: &mut [u8]) -> Cursor
     }
 }
 
+// A policy's bits and lowest protection, and zeros to the end of the record.
+fn policy_end(line: &[u8], c: Cursor, rec: &mut [u8]) -> usize
+    requires { ⌜ (c .at ≤ 100) × (c .flags ≡ 0) × (c .end + 58 ≤ length (now rec)) ⌝ }
+    ensures { λ r. ⌜ Put (policyEnd (drop (c .at) (now (line .entry)))) (c .end) (now (rec .entry)) (now (rec .exit)) r ⌝ }
+{
+    let bits = policy_bits(line, c, rec);
+    let protection = words::take_number(b" protection", 0, 1, line, bits, rec);
+    let end = protection.end;
+    text::append(&[0u8; 56], end, rec)
+}
+
 // The record of a policy's line: suite, approach, three bits, the lowest protection.
 fn policy_from(line: &[u8], from: usize, at: usize, rec: &mut [u8]) -> usize
     requires { ⌜ (from ≤ 20) × (at + 64 ≤ length (now rec)) ⌝ }
@@ -227,10 +251,24 @@ fn policy_from(line: &[u8], from: usize, at: usize, rec: &mut [u8]) -> usize
     };
     let suite = words::take_number(b" suite", 0, 1, line, start, rec);
     let approach = words::take_number(b" approach", 0, 1, line, suite, rec);
-    let bits = policy_bits(line, approach, rec);
-    let protection = words::take_number(b" protection", 0, 1, line, bits, rec);
-    let end = protection.end;
-    text::append(&[0u8; 56], end, rec)
+    policy_end(line, approach, rec)
+}
+
+// Eight source actions between zeros, to the end of the record.
+fn actions_from(line: &[u8], c: Cursor, rec: &mut [u8]) -> usize
+    requires { ⌜ (c .at ≤ 100) × (c .flags ≡ 0) × (c .end + 59 ≤ length (now rec)) ⌝ }
+    ensures { λ r. ⌜ Put (actionBytes (drop (c .at) (now (line .entry)))) (c .end) (now (rec .entry)) (now (rec .exit)) r ⌝ }
+{
+    let end = c.end;
+    let gap = text::append(&[0u8; 3], end, rec);
+    let next = Cursor {
+        at: c.at,
+        end: gap,
+        flags: 0,
+    };
+    let actions = words::take_word(b" actions", 0, line, next);
+    let last = words::bytes_here(8, line, actions, rec);
+    text::append(&[0u8; 48], last, rec)
 }
 
 // The record of a hint's line: the source group, eight source actions.
@@ -245,16 +283,23 @@ fn hint_from(line: &[u8], from: usize, at: usize, rec: &mut [u8]) -> usize
         flags: 0,
     };
     let group = words::take_number(b" group", 0, 1, line, start, rec);
-    let end = group.end;
-    let gap = text::append(&[0u8; 3], end, rec);
-    let next = Cursor {
-        at: group.at,
-        end: gap,
-        flags: 0,
-    };
-    let actions = words::take_word(b" actions", 0, line, next);
-    let last = words::bytes_here(8, line, actions, rec);
-    text::append(&[0u8; 48], last, rec)
+    actions_from(line, group, rec)
+}
+
+// A delegation's sixteen bits, and zeros to the end of the record.
+fn bits_from(line: &[u8], c: Cursor, rec: &mut [u8]) -> usize
+    requires { ⌜ (c .at ≤ 200) × (c .end + 20 ≤ length (now rec)) ⌝ }
+    ensures { λ r. ⌜ Put (bitsBytes (drop (c .at) (now (line .entry)))) (c .end) (now (rec .entry)) (now (rec .exit)) r ⌝ }
+{
+    let from = c.at;
+    let end = c.end;
+    let bits = parsing::names_from(
+        b" DuplicateHandle GetAppData ReduceACL GetACL Sign Verify SignModuleCert UseAsCertificate Encrypt Decrypt ExportAsPlain SetAppData ExpandACL UseAsBlobKey UseAsKM UseAsLoaderKey",
+        line,
+        from,
+    );
+    let last = words::put_number(bits as u64, 2, end, rec);
+    text::append(&[0u8; 18], last, rec)
 }
 
 // The record of a delegation's line: from-hash, to-hash, the sixteen bits.
@@ -270,15 +315,7 @@ fn delegation_from(line: &[u8], from: usize, at: usize, rec: &mut [u8]) -> usize
     };
     let source = words::take_hash(b" from", 0, line, start, rec);
     let target = words::take_hash(b" to", 0, line, source, rec);
-    let place = target.at;
-    let end = target.end;
-    let bits = parsing::names_from(
-        b" DuplicateHandle GetAppData ReduceACL GetACL Sign Verify SignModuleCert UseAsCertificate Encrypt Decrypt ExportAsPlain SetAppData ExpandACL UseAsBlobKey UseAsKM UseAsLoaderKey",
-        line,
-        place,
-    );
-    let last = words::put_number(bits as u64, 2, end, rec);
-    text::append(&[0u8; 18], last, rec)
+    bits_from(line, target, rec)
 }
 
 // The record that a line tells, 64 bytes from a place on; answers where it ends. All else stays. A line with another first word is taken for one of

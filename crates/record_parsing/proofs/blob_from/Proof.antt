@@ -1,3 +1,7 @@
+use Rattle.rules.specs.Basics.{ascii}
+use Rattle.listings.specs.Decoding.{hasWord, afterHash, hashAfter}
+use Rattle.words.specs.Telling.{pastHash, hashIn}
+use Rattle.record_parsing.proofs.Laws.{blob-put}
 use borrow.Author.Needs.{needs}
 use Rattle.record_parsing.proofs.blob_from.Statement.{statement}
 use Rattle.record_parsing.proofs.blob_from.Tie as tie
@@ -27,7 +31,8 @@ same-length : tie.Need-same-length
 same-length c = search needs
 
 returns : tie.Need-returns
-returns c = ?
+unfolding ascii hasWord afterHash hashAfter pastHash hashIn
+returns c = blob-put _ (c .before .before .before .before .before .before .before .before .before .before .before .before .before .before .before .before .before .before .before .before .args .from) (c .before .before .before .before .before .before .before .before .before .before .before .before .before .before .before .before .before .before .before .before .args .at) _ _ (c .before .before .before .before .before .before .end-from .result) _ _ _ _ _ _ _ (c .before .before .before .before .before .before .before .before .before .before .before .before .before .before .before .take-hash .ensures) (c .before .before .before .before .before .before .before .before .before .before .before .blob-token .ensures) (c .before .before .before .before .before .before .end-from .ensures) (c .before .before .put-header .ensures)
 
 pub blob-from-spec : {M : Type 1} → statement M
 blob-from-spec =

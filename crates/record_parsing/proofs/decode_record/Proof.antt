@@ -1,3 +1,5 @@
+use Rattle.rules.specs.Basics.{ascii}
+use Rattle.record_parsing.proofs.Laws.{told-1, told-2, told-3, told-4, told-5, told-6, told-7, told-8, told-9, told-10}
 use borrow.Author.Needs.{needs}
 use Rattle.record_parsing.proofs.decode_record.Statement.{statement}
 use Rattle.record_parsing.proofs.decode_record.Tie as tie
@@ -15,7 +17,8 @@ same-length : tie.Need-same-length
 same-length c = search needs
 
 returns : tie.Need-returns
-returns c = ?
+unfolding ascii
+returns c = told-1 (c .before .before .before .before .before .before .before .before .before .args .line .now) _ _ _ _ _ (c .before .before .before .before .before .word-stands .ensures) (c .before .before .before .before .if1 .taken) (c .before .before .use-from .ensures)
 
 slice-aggregate-word-stands-2 : tie.Need-slice-aggregate-word-stands-2
 slice-aggregate-word-stands-2 c = search needs
@@ -30,7 +33,8 @@ same-length-2 : tie.Need-same-length-2
 same-length-2 c = search needs
 
 returns-2 : tie.Need-returns-2
-returns-2 c = ?
+unfolding ascii
+returns-2 c = told-2 (c .before .before .before .before .before .before .before .before .before .before .before .before .args .line .now) _ _ _ _ _ (c .before .before .before .before .before .before .before .before .word-stands .ensures) (c .before .before .before .before .before .before .before .if1 .left) _ (c .before .before .before .before .before .word-stands2 .ensures) (c .before .before .before .before .if2 .taken) (c .before .before .blob-from .ensures)
 
 slice-aggregate-word-stands-3 : tie.Need-slice-aggregate-word-stands-3
 slice-aggregate-word-stands-3 c = search needs
@@ -45,7 +49,8 @@ same-length-3 : tie.Need-same-length-3
 same-length-3 c = search needs
 
 returns-3 : tie.Need-returns-3
-returns-3 c = ?
+unfolding ascii
+returns-3 c = told-3 (c .before .before .before .before .before .before .before .before .before .before .before .before .before .before .before .args .line .now) _ _ _ _ _ (c .before .before .before .before .before .before .before .before .before .before .before .word-stands .ensures) (c .before .before .before .before .before .before .before .before .before .before .if1 .left) _ (c .before .before .before .before .before .before .before .before .word-stands2 .ensures) (c .before .before .before .before .before .before .before .if2 .left) _ (c .before .before .before .before .before .word-stands3 .ensures) (c .before .before .before .before .if3 .taken) (c .before .before .recovery-from .ensures)
 
 slice-aggregate-word-stands-4 : tie.Need-slice-aggregate-word-stands-4
 slice-aggregate-word-stands-4 c = search needs
@@ -60,7 +65,8 @@ same-length-4 : tie.Need-same-length-4
 same-length-4 c = search needs
 
 returns-4 : tie.Need-returns-4
-returns-4 c = ?
+unfolding ascii
+returns-4 c = told-4 (c .before .before .before .before .before .before .before .before .before .before .before .before .before .before .before .before .before .before .args .line .now) _ _ _ _ _ (c .before .before .before .before .before .before .before .before .before .before .before .before .before .before .word-stands .ensures) (c .before .before .before .before .before .before .before .before .before .before .before .before .before .if1 .left) _ (c .before .before .before .before .before .before .before .before .before .before .before .word-stands2 .ensures) (c .before .before .before .before .before .before .before .before .before .before .if2 .left) _ (c .before .before .before .before .before .before .before .before .word-stands3 .ensures) (c .before .before .before .before .before .before .before .if3 .left) _ (c .before .before .before .before .before .word-stands4 .ensures) (c .before .before .before .before .if4 .taken) (c .before .before .certificate-from .ensures)
 
 slice-aggregate-word-stands-5 : tie.Need-slice-aggregate-word-stands-5
 slice-aggregate-word-stands-5 c = search needs
@@ -75,7 +81,8 @@ same-length-5 : tie.Need-same-length-5
 same-length-5 c = search needs
 
 returns-5 : tie.Need-returns-5
-returns-5 c = ?
+unfolding ascii
+returns-5 c = told-5 (c .before .before .before .before .before .before .before .before .before .before .before .before .before .before .before .before .before .before .before .before .before .args .line .now) _ _ _ _ _ (c .before .before .before .before .before .before .before .before .before .before .before .before .before .before .before .before .before .word-stands .ensures) (c .before .before .before .before .before .before .before .before .before .before .before .before .before .before .before .before .if1 .left) _ (c .before .before .before .before .before .before .before .before .before .before .before .before .before .before .word-stands2 .ensures) (c .before .before .before .before .before .before .before .before .before .before .before .before .before .if2 .left) _ (c .before .before .before .before .before .before .before .before .before .before .before .word-stands3 .ensures) (c .before .before .before .before .before .before .before .before .before .before .if3 .left) _ (c .before .before .before .before .before .before .before .before .word-stands4 .ensures) (c .before .before .before .before .before .before .before .if4 .left) _ (c .before .before .before .before .before .word-stands5 .ensures) (c .before .before .before .before .if5 .taken) (c .before .before .fact-from .ensures)
 
 slice-aggregate-word-stands-6 : tie.Need-slice-aggregate-word-stands-6
 slice-aggregate-word-stands-6 c = search needs
@@ -90,7 +97,8 @@ same-length-6 : tie.Need-same-length-6
 same-length-6 c = search needs
 
 returns-6 : tie.Need-returns-6
-returns-6 c = ?
+unfolding ascii
+returns-6 c = told-6 (c .before .before .before .before .before .before .before .before .before .before .before .before .before .before .before .before .before .before .before .before .before .before .before .before .args .line .now) _ _ _ _ _ (c .before .before .before .before .before .before .before .before .before .before .before .before .before .before .before .before .before .before .before .before .word-stands .ensures) (c .before .before .before .before .before .before .before .before .before .before .before .before .before .before .before .before .before .before .before .if1 .left) _ (c .before .before .before .before .before .before .before .before .before .before .before .before .before .before .before .before .before .word-stands2 .ensures) (c .before .before .before .before .before .before .before .before .before .before .before .before .before .before .before .before .if2 .left) _ (c .before .before .before .before .before .before .before .before .before .before .before .before .before .before .word-stands3 .ensures) (c .before .before .before .before .before .before .before .before .before .before .before .before .before .if3 .left) _ (c .before .before .before .before .before .before .before .before .before .before .before .word-stands4 .ensures) (c .before .before .before .before .before .before .before .before .before .before .if4 .left) _ (c .before .before .before .before .before .before .before .before .word-stands5 .ensures) (c .before .before .before .before .before .before .before .if5 .left) _ (c .before .before .before .before .before .word-stands6 .ensures) (c .before .before .before .before .if6 .taken) (c .before .before .signature-from .ensures)
 
 slice-aggregate-word-stands-7 : tie.Need-slice-aggregate-word-stands-7
 slice-aggregate-word-stands-7 c = search needs
@@ -105,7 +113,8 @@ same-length-7 : tie.Need-same-length-7
 same-length-7 c = search needs
 
 returns-7 : tie.Need-returns-7
-returns-7 c = ?
+unfolding ascii
+returns-7 c = told-7 (c .before .before .before .before .before .before .before .before .before .before .before .before .before .before .before .before .before .before .before .before .before .before .before .before .before .before .before .args .line .now) _ _ _ _ _ (c .before .before .before .before .before .before .before .before .before .before .before .before .before .before .before .before .before .before .before .before .before .before .before .word-stands .ensures) (c .before .before .before .before .before .before .before .before .before .before .before .before .before .before .before .before .before .before .before .before .before .before .if1 .left) _ (c .before .before .before .before .before .before .before .before .before .before .before .before .before .before .before .before .before .before .before .before .word-stands2 .ensures) (c .before .before .before .before .before .before .before .before .before .before .before .before .before .before .before .before .before .before .before .if2 .left) _ (c .before .before .before .before .before .before .before .before .before .before .before .before .before .before .before .before .before .word-stands3 .ensures) (c .before .before .before .before .before .before .before .before .before .before .before .before .before .before .before .before .if3 .left) _ (c .before .before .before .before .before .before .before .before .before .before .before .before .before .before .word-stands4 .ensures) (c .before .before .before .before .before .before .before .before .before .before .before .before .before .if4 .left) _ (c .before .before .before .before .before .before .before .before .before .before .before .word-stands5 .ensures) (c .before .before .before .before .before .before .before .before .before .before .if5 .left) _ (c .before .before .before .before .before .before .before .before .word-stands6 .ensures) (c .before .before .before .before .before .before .before .if6 .left) _ (c .before .before .before .before .before .word-stands7 .ensures) (c .before .before .before .before .if7 .taken) (c .before .before .policy-from .ensures)
 
 slice-aggregate-word-stands-8 : tie.Need-slice-aggregate-word-stands-8
 slice-aggregate-word-stands-8 c = search needs
@@ -120,7 +129,8 @@ same-length-8 : tie.Need-same-length-8
 same-length-8 c = search needs
 
 returns-8 : tie.Need-returns-8
-returns-8 c = ?
+unfolding ascii
+returns-8 c = told-8 (c .before .before .before .before .before .before .before .before .before .before .before .before .before .before .before .before .before .before .before .before .before .before .before .before .before .before .before .before .before .before .args .line .now) _ _ _ _ _ (c .before .before .before .before .before .before .before .before .before .before .before .before .before .before .before .before .before .before .before .before .before .before .before .before .before .before .word-stands .ensures) (c .before .before .before .before .before .before .before .before .before .before .before .before .before .before .before .before .before .before .before .before .before .before .before .before .before .if1 .left) _ (c .before .before .before .before .before .before .before .before .before .before .before .before .before .before .before .before .before .before .before .before .before .before .before .word-stands2 .ensures) (c .before .before .before .before .before .before .before .before .before .before .before .before .before .before .before .before .before .before .before .before .before .before .if2 .left) _ (c .before .before .before .before .before .before .before .before .before .before .before .before .before .before .before .before .before .before .before .before .word-stands3 .ensures) (c .before .before .before .before .before .before .before .before .before .before .before .before .before .before .before .before .before .before .before .if3 .left) _ (c .before .before .before .before .before .before .before .before .before .before .before .before .before .before .before .before .before .word-stands4 .ensures) (c .before .before .before .before .before .before .before .before .before .before .before .before .before .before .before .before .if4 .left) _ (c .before .before .before .before .before .before .before .before .before .before .before .before .before .before .word-stands5 .ensures) (c .before .before .before .before .before .before .before .before .before .before .before .before .before .if5 .left) _ (c .before .before .before .before .before .before .before .before .before .before .before .word-stands6 .ensures) (c .before .before .before .before .before .before .before .before .before .before .if6 .left) _ (c .before .before .before .before .before .before .before .before .word-stands7 .ensures) (c .before .before .before .before .before .before .before .if7 .left) _ (c .before .before .before .before .before .word-stands8 .ensures) (c .before .before .before .before .if8 .taken) (c .before .before .hint-from .ensures)
 
 slice-aggregate-word-stands-9 : tie.Need-slice-aggregate-word-stands-9
 slice-aggregate-word-stands-9 c = search needs
@@ -135,7 +145,8 @@ same-length-9 : tie.Need-same-length-9
 same-length-9 c = search needs
 
 returns-9 : tie.Need-returns-9
-returns-9 c = ?
+unfolding ascii
+returns-9 c = told-9 (c .before .before .before .before .before .before .before .before .before .before .before .before .before .before .before .before .before .before .before .before .before .before .before .before .before .before .before .before .before .before .before .before .before .args .line .now) _ _ _ _ _ (c .before .before .before .before .before .before .before .before .before .before .before .before .before .before .before .before .before .before .before .before .before .before .before .before .before .before .before .before .before .word-stands .ensures) (c .before .before .before .before .before .before .before .before .before .before .before .before .before .before .before .before .before .before .before .before .before .before .before .before .before .before .before .before .if1 .left) _ (c .before .before .before .before .before .before .before .before .before .before .before .before .before .before .before .before .before .before .before .before .before .before .before .before .before .before .word-stands2 .ensures) (c .before .before .before .before .before .before .before .before .before .before .before .before .before .before .before .before .before .before .before .before .before .before .before .before .before .if2 .left) _ (c .before .before .before .before .before .before .before .before .before .before .before .before .before .before .before .before .before .before .before .before .before .before .before .word-stands3 .ensures) (c .before .before .before .before .before .before .before .before .before .before .before .before .before .before .before .before .before .before .before .before .before .before .if3 .left) _ (c .before .before .before .before .before .before .before .before .before .before .before .before .before .before .before .before .before .before .before .before .word-stands4 .ensures) (c .before .before .before .before .before .before .before .before .before .before .before .before .before .before .before .before .before .before .before .if4 .left) _ (c .before .before .before .before .before .before .before .before .before .before .before .before .before .before .before .before .before .word-stands5 .ensures) (c .before .before .before .before .before .before .before .before .before .before .before .before .before .before .before .before .if5 .left) _ (c .before .before .before .before .before .before .before .before .before .before .before .before .before .before .word-stands6 .ensures) (c .before .before .before .before .before .before .before .before .before .before .before .before .before .if6 .left) _ (c .before .before .before .before .before .before .before .before .before .before .before .word-stands7 .ensures) (c .before .before .before .before .before .before .before .before .before .before .if7 .left) _ (c .before .before .before .before .before .before .before .before .word-stands8 .ensures) (c .before .before .before .before .before .before .before .if8 .left) _ (c .before .before .before .before .before .word-stands9 .ensures) (c .before .before .before .before .if9 .taken) (c .before .before .delegation-from .ensures)
 
 decode-requires : tie.Need-decode-requires
 decode-requires c κs = search needs
@@ -144,7 +155,8 @@ same-length-10 : tie.Need-same-length-10
 same-length-10 c = search needs
 
 returns-10 : tie.Need-returns-10
-returns-10 c = ?
+unfolding ascii
+returns-10 c = told-10 (c .before .before .before .before .before .before .before .before .before .before .before .before .before .before .before .before .before .before .before .before .before .before .before .before .before .before .before .before .before .before .before .before .before .args .line .now) _ _ _ _ _ (c .before .before .before .before .before .before .before .before .before .before .before .before .before .before .before .before .before .before .before .before .before .before .before .before .before .before .before .before .before .word-stands .ensures) (c .before .before .before .before .before .before .before .before .before .before .before .before .before .before .before .before .before .before .before .before .before .before .before .before .before .before .before .before .if1 .left) _ (c .before .before .before .before .before .before .before .before .before .before .before .before .before .before .before .before .before .before .before .before .before .before .before .before .before .before .word-stands2 .ensures) (c .before .before .before .before .before .before .before .before .before .before .before .before .before .before .before .before .before .before .before .before .before .before .before .before .before .if2 .left) _ (c .before .before .before .before .before .before .before .before .before .before .before .before .before .before .before .before .before .before .before .before .before .before .before .word-stands3 .ensures) (c .before .before .before .before .before .before .before .before .before .before .before .before .before .before .before .before .before .before .before .before .before .before .if3 .left) _ (c .before .before .before .before .before .before .before .before .before .before .before .before .before .before .before .before .before .before .before .before .word-stands4 .ensures) (c .before .before .before .before .before .before .before .before .before .before .before .before .before .before .before .before .before .before .before .if4 .left) _ (c .before .before .before .before .before .before .before .before .before .before .before .before .before .before .before .before .before .word-stands5 .ensures) (c .before .before .before .before .before .before .before .before .before .before .before .before .before .before .before .before .if5 .left) _ (c .before .before .before .before .before .before .before .before .before .before .before .before .before .before .word-stands6 .ensures) (c .before .before .before .before .before .before .before .before .before .before .before .before .before .if6 .left) _ (c .before .before .before .before .before .before .before .before .before .before .before .word-stands7 .ensures) (c .before .before .before .before .before .before .before .before .before .before .if7 .left) _ (c .before .before .before .before .before .before .before .before .word-stands8 .ensures) (c .before .before .before .before .before .before .before .if8 .left) _ (c .before .before .before .before .before .word-stands9 .ensures) (c .before .before .before .before .if9 .left) (c .before .before .decode .ensures)
 
 pub decode-record-spec : {M : Type 1} → statement M
 decode-record-spec =

@@ -1,3 +1,7 @@
+use Rattle.rules.specs.Basics.{ascii}
+use Rattle.listings.specs.Decoding.{hasWord, afterHash, hashAfter}
+use Rattle.words.specs.Telling.{pastHash, hashIn}
+use Rattle.record_parsing.proofs.Laws.{delegation-put}
 use borrow.Author.Needs.{needs}
 use Rattle.record_parsing.proofs.delegation_from.Statement.{statement}
 use Rattle.record_parsing.proofs.delegation_from.Tie as tie
@@ -17,29 +21,15 @@ slice-aggregate-take-hash-2 c = search needs
 take-hash-requires-2 : tie.Need-take-hash-requires-2
 take-hash-requires-2 c κs = search needs
 
-slice-aggregate-names-from : tie.Need-slice-aggregate-names-from
-slice-aggregate-names-from c = search needs
-
-names-from-requires : tie.Need-names-from-requires
-names-from-requires c κs = ?
-
-cast-put-number : tie.Need-cast-put-number
-cast-put-number c = search needs
-
-put-number-requires : tie.Need-put-number-requires
-put-number-requires c κs = search needs
-
-slice-aggregate-append : tie.Need-slice-aggregate-append
-slice-aggregate-append c = search needs
-
-append-requires : tie.Need-append-requires
-append-requires c κs = ?
+bits-from-requires : tie.Need-bits-from-requires
+bits-from-requires c κs = search needs
 
 same-length : tie.Need-same-length
 same-length c = search needs
 
 returns : tie.Need-returns
-returns c = ?
+unfolding ascii hasWord afterHash hashAfter pastHash hashIn
+returns c = delegation-put _ (c .before .before .before .before .before .before .before .before .before .before .before .before .before .before .before .before .before .before .before .before .args .from) _ _ _ _ _ _ _ _ _ _ _ _ (c .before .before .before .before .before .before .before .before .before .before .before .before .before .before .before .before .put-header .ensures) (c .before .before .before .before .before .before .before .before .before .before .before .take-hash .ensures) (c .before .before .before .before .before .before .take-hash2 .ensures) (c .before .before .bits-from .ensures)
 
 pub delegation-from-spec : {M : Type 1} → statement M
 delegation-from-spec =
@@ -50,11 +40,6 @@ delegation-from-spec =
     take-hash-requires
     slice-aggregate-take-hash-2
     take-hash-requires-2
-    slice-aggregate-names-from
-    names-from-requires
-    cast-put-number
-    put-number-requires
-    slice-aggregate-append
-    append-requires
+    bits-from-requires
     same-length
     returns)

@@ -1,3 +1,5 @@
+use Rattle.rules.specs.Basics.{ascii}
+use Rattle.record_parsing.proofs.Laws.{fact-put}
 use borrow.Author.Needs.{needs}
 use Rattle.record_parsing.proofs.fact_from.Statement.{statement}
 use Rattle.record_parsing.proofs.fact_from.Tie as tie
@@ -30,7 +32,8 @@ same-length : tie.Need-same-length
 same-length c = search needs
 
 returns : tie.Need-returns
-returns c = ?
+unfolding ascii
+returns c = fact-put _ (c .before .before .before .before .before .before .before .before .before .before .before .before .before .before .before .before .before .before .before .before .before .before .before .before .before .args .from) _ _ _ _ _ _ _ _ _ _ _ _ _ _ (c .before .before .before .before .before .before .before .before .before .before .before .before .before .before .before .before .before .before .before .before .before .put-header .ensures) (c .before .before .before .before .before .before .before .before .before .before .before .before .before .before .before .before .take-name .ensures) (c .before .before .before .before .before .before .before .before .before .before .before .append .ensures) (c .before .before .before .before .before .before .before .hash-here .ensures) (c .before .before .append2 .ensures)
 
 pub fact-from-spec : {M : Type 1} → statement M
 fact-from-spec =

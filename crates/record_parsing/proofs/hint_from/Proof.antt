@@ -1,3 +1,7 @@
+use Rattle.rules.specs.Basics.{ascii}
+use Rattle.listings.specs.Decoding.{hasWord, afterNumber, numberAfter}
+use Rattle.words.specs.Telling.{pastNumber, numberIn}
+use Rattle.record_parsing.proofs.Laws.{hint-put}
 use borrow.Author.Needs.{needs}
 use Rattle.record_parsing.proofs.hint_from.Statement.{statement}
 use Rattle.record_parsing.proofs.hint_from.Tie as tie
@@ -11,32 +15,15 @@ slice-aggregate-take-number c = search needs
 take-number-requires : tie.Need-take-number-requires
 take-number-requires c κs = search needs
 
-slice-aggregate-append : tie.Need-slice-aggregate-append
-slice-aggregate-append c = search needs
-
-append-requires : tie.Need-append-requires
-append-requires c κs = search needs
-
-slice-aggregate-take-word : tie.Need-slice-aggregate-take-word
-slice-aggregate-take-word c = search needs
-
-take-word-requires : tie.Need-take-word-requires
-take-word-requires c κs = search needs
-
-bytes-here-requires : tie.Need-bytes-here-requires
-bytes-here-requires c κs = search needs
-
-slice-aggregate-append-2 : tie.Need-slice-aggregate-append-2
-slice-aggregate-append-2 c = search needs
-
-append-requires-2 : tie.Need-append-requires-2
-append-requires-2 c κs = ?
+actions-from-requires : tie.Need-actions-from-requires
+actions-from-requires c κs = search needs
 
 same-length : tie.Need-same-length
 same-length c = search needs
 
 returns : tie.Need-returns
-returns c = ?
+unfolding ascii hasWord afterNumber numberAfter pastNumber numberIn
+returns c = hint-put _ (c .before .before .before .before .before .before .before .before .before .before .before .before .before .before .before .args .from) _ _ _ _ _ _ _ _ _ _ _ (c .before .before .before .before .before .before .before .before .before .before .before .put-header .ensures) (c .before .before .before .before .before .before .take-number .ensures) (c .before .before .actions-from .ensures)
 
 pub hint-from-spec : {M : Type 1} → statement M
 hint-from-spec =
@@ -45,12 +32,6 @@ hint-from-spec =
     put-header-requires
     slice-aggregate-take-number
     take-number-requires
-    slice-aggregate-append
-    append-requires
-    slice-aggregate-take-word
-    take-word-requires
-    bytes-here-requires
-    slice-aggregate-append-2
-    append-requires-2
+    actions-from-requires
     same-length
     returns)

@@ -1,3 +1,7 @@
+use Rattle.rules.specs.Basics.{ascii}
+use Rattle.listings.specs.Decoding.{hasWord, afterNumber, numberAfter}
+use Rattle.words.specs.Telling.{pastNumber, numberIn}
+use Rattle.record_parsing.proofs.Laws.{policy-put}
 use borrow.Author.Needs.{needs}
 use Rattle.record_parsing.proofs.policy_from.Statement.{statement}
 use Rattle.record_parsing.proofs.policy_from.Tie as tie
@@ -17,26 +21,15 @@ slice-aggregate-take-number-2 c = search needs
 take-number-requires-2 : tie.Need-take-number-requires-2
 take-number-requires-2 c κs = search needs
 
-policy-bits-requires : tie.Need-policy-bits-requires
-policy-bits-requires c κs = search needs
-
-slice-aggregate-take-number-3 : tie.Need-slice-aggregate-take-number-3
-slice-aggregate-take-number-3 c = search needs
-
-take-number-requires-3 : tie.Need-take-number-requires-3
-take-number-requires-3 c κs = ?
-
-slice-aggregate-append : tie.Need-slice-aggregate-append
-slice-aggregate-append c = search needs
-
-append-requires : tie.Need-append-requires
-append-requires c κs = ?
+policy-end-requires : tie.Need-policy-end-requires
+policy-end-requires c κs = search needs
 
 same-length : tie.Need-same-length
-same-length c = ?
+same-length c = search needs
 
 returns : tie.Need-returns
-returns c = ?
+unfolding ascii hasWord afterNumber numberAfter pastNumber numberIn
+returns c = policy-put _ (c .before .before .before .before .before .before .before .before .before .before .before .before .before .before .before .before .before .before .before .before .args .from) _ _ _ _ _ _ _ _ _ _ _ _ (c .before .before .before .before .before .before .before .before .before .before .before .before .before .before .before .before .put-header .ensures) (c .before .before .before .before .before .before .before .before .before .before .before .take-number .ensures) (c .before .before .before .before .before .before .take-number2 .ensures) (c .before .before .policy-end .ensures)
 
 pub policy-from-spec : {M : Type 1} → statement M
 policy-from-spec =
@@ -47,10 +40,6 @@ policy-from-spec =
     take-number-requires
     slice-aggregate-take-number-2
     take-number-requires-2
-    policy-bits-requires
-    slice-aggregate-take-number-3
-    take-number-requires-3
-    slice-aggregate-append
-    append-requires
+    policy-end-requires
     same-length
     returns)

@@ -1,3 +1,5 @@
+use Rattle.rules.specs.Basics.{ascii}
+use Rattle.record_parsing.proofs.Laws.{signature-put}
 use borrow.Author.Needs.{needs}
 use Rattle.record_parsing.proofs.signature_from.Statement.{statement}
 use Rattle.record_parsing.proofs.signature_from.Tie as tie
@@ -11,29 +13,15 @@ slice-aggregate-take-name c = search needs
 take-name-requires : tie.Need-take-name-requires
 take-name-requires c κs = search needs
 
-slice-aggregate-take-word : tie.Need-slice-aggregate-take-word
-slice-aggregate-take-word c = search needs
-
-take-word-requires : tie.Need-take-word-requires
-take-word-requires c κs = search needs
-
-cast-flags : tie.Need-cast-flags
-cast-flags c = search needs
-
-put-number-requires : tie.Need-put-number-requires
-put-number-requires c κs = search needs
-
-slice-aggregate-append : tie.Need-slice-aggregate-append
-slice-aggregate-append c = search needs
-
-append-requires : tie.Need-append-requires
-append-requires c κs = ?
+outcome-from-requires : tie.Need-outcome-from-requires
+outcome-from-requires c κs = search needs
 
 same-length : tie.Need-same-length
 same-length c = search needs
 
 returns : tie.Need-returns
-returns c = ?
+unfolding ascii
+returns c = signature-put _ (c .before .before .before .before .before .before .before .before .before .before .before .before .before .before .before .args .from) _ _ _ _ _ _ _ _ _ (c .before .before .before .before .before .before .before .before .before .before .before .put-header .ensures) (c .before .before .before .before .before .before .take-name .ensures) (c .before .before .outcome-from .ensures)
 
 pub signature-from-spec : {M : Type 1} → statement M
 signature-from-spec =
@@ -42,11 +30,6 @@ signature-from-spec =
     put-header-requires
     slice-aggregate-take-name
     take-name-requires
-    slice-aggregate-take-word
-    take-word-requires
-    cast-flags
-    put-number-requires
-    slice-aggregate-append
-    append-requires
+    outcome-from-requires
     same-length
     returns)
