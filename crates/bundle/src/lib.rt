@@ -13,7 +13,7 @@ use refusals::Refusal;
 // The places in the order of kind and number of field 14, and of the policy, which has no number.
 const LISTED_ORDER: u16 = 2574;
 
-const POLICY_ORDER: u16 = 3072;
+pub const POLICY_ORDER: u16 = 3072;
 
 // A place in the order of kind and number.
 fn order(kind: u8, number: u8) -> u16
@@ -23,7 +23,7 @@ fn order(kind: u8, number: u8) -> u16
 }
 
 // A record's place in the order.
-fn record_order(rec: &[u8]) -> u16
+pub fn record_order(rec: &[u8]) -> u16
     requires { ⌜ length (now rec) ≡ recordBytes ⌝ }
     ensures { λ r. ⌜ r ≡ orderOf (now (rec .entry)) ⌝ }
 {
@@ -53,7 +53,7 @@ fn bundle_record(rec: &[u8]) -> bool
 }
 
 // 1 at the place of field 14, which alone may repeat, else 0.
-fn repeats(here: u16) -> u16
+pub fn repeats(here: u16) -> u16
     ensures { λ r. ⌜ r ≡ (if eqb here listedOrder then 1 else 0) ⌝ }
 {
     if here == LISTED_ORDER {
@@ -63,7 +63,7 @@ fn repeats(here: u16) -> u16
 }
 
 // Whether a record is well formed and its place `here` may follow the place `last`: it rises, or both are field 14.
-fn in_place(last: u16, here: u16, again: u16, rec: &[u8]) -> bool
+pub fn in_place(last: u16, here: u16, again: u16, rec: &[u8]) -> bool
     requires { ⌜ (here ≡ orderOf (now rec)) × (again ≡ (if eqb here listedOrder then 1 else 0)) × (length (now rec) ≡ recordBytes) ⌝ }
     ensures { λ r. ⌜ r ≡ bundleInPlace last (now (rec .entry)) ⌝ }
 {

@@ -5,10 +5,10 @@ ghost use Prim.Native.Nat.{_+_, _*_, _≤_};
 ghost use lib.ListN.{length};
 ghost use Rattle.rules.specs.Sizes.{recordBytes, aclRecords};
 ghost use Rattle.rules.specs.Basics.{same};
-ghost use Rattle.rules.specs.Acl.{aclFileFault};
 ghost use Rattle.files.specs.Faults.{faultAs};
 ghost use Rattle.listings.specs.Words.{lineOf, listingOf};
 ghost use Rattle.listings.specs.Decoding.{decoded};
+ghost use Rattle.listings.specs.Kinds.{kindFault, aclKind};
 ghost use Rattle.listings.specs.Listing.{linesOf, listingFault, listedBytes, writeListing, readListingInto};
 ghost use Rattle.text.specs.Putting.{Put};
 ghost use Rattle.listing.specs.Answers.{IsListed, goodWith, linesFound};
@@ -91,7 +91,7 @@ fn put_lines(acl: &[u8], buffer: &mut [u8]) -> usize
 
 // The listing of an ACL without fault.
 fn write_sound(acl: &[u8], buffer: &mut [u8]) -> Reply
-    requires { ⌜ aclFileFault (now acl) ≡ none ⌝ }
+    requires { ⌜ kindFault aclKind (now acl) ≡ none ⌝ }
     ensures { λ r. ⌜ IsListed (writeListing (now (acl .entry)) (now (buffer .entry))) r (now (buffer .exit)) ⌝ }
 {
     let n = listing_length(acl);
@@ -137,7 +137,7 @@ fn is_good(found: Checked, rec: [u8; sizes::RECORD], line: &[u8]) -> bool
 // The first pass: each line is decoded once, and its record read where the one before it left off. Where the text ends and a blob file record is due, the
 // next line is the bad one.
 fn judge_lines(text: &[u8]) -> Lines
-    ensures { λ r. ⌜ r ≡ linesFound (now (text .entry)) ⌝ }
+    ensures { λ r. ⌜ r ≡ linesFound aclKind (now (text .entry)) ⌝ }
 {
     let mut place = Place::start();
     let mut at = 0;

@@ -106,11 +106,11 @@ digits-taken zero (x ∷ xs) rest l h e = absurd (omega arith)
 digits-taken (suc k) (x ∷ xs) rest l h e = rw (h .0, digits-taken k xs rest (omega arith) (h .1) e)
 
 -- A decimal number before something that is no digit is read back.
-pub decimal-digits : (n : ℕ) (rest : Bytes) → n < 10 ^ 10 → between 48 57 (getD rest 0 0) ≡ false → digitsOf (take 10 (decimal n ++ rest)) ≡ decimal n
-decimal-digits n rest h e = digits-taken 10 (decimal n) rest (digits-length 20 9 n h) (digits-every 20 n) e
+pub decimal-digits : (p n : ℕ) (rest : Bytes) → n < 10 ^ suc p → between 48 57 (getD rest 0 0) ≡ false → digitsOf (take (suc p) (decimal n ++ rest)) ≡ decimal n
+decimal-digits p n rest h e = digits-taken (suc p) (decimal n) rest (digits-length 20 p n h) (digits-every 20 n) e
 
-pub decimal-value : (n : ℕ) → n < 10 ^ 10 → decimalFrom 0 (decimal n) ≡ n
-decimal-value n h = digits-value 20 n (omega arith)
+pub decimal-value : (n : ℕ) → n < 10 ^ 20 → decimalFrom 0 (decimal n) ≡ n
+decimal-value n h = digits-value 20 n h
 
 pub decimal-length : (p n : ℕ) → n < 10 ^ suc p → length (decimal n) ≤ suc p
 decimal-length p n h = digits-length 20 p n h

@@ -9,9 +9,9 @@ use Rattle.rules.specs.Basics.{Bytes, ascii}
 use Rattle.rules.specs.Acl.{aclFileFault}
 use Rattle.rules.proofs.Computing.{computing}
 use Rattle.rules.proofs.Samples.{rec, repeated, hash, openGroup, signAction, keyless}
-use Rattle.listings.specs.Words.{hexDigit, hex, wordText, wordsText, permissionWords, lineOf, listingOf, groupLineMax, limitLineMax, fileLineMax, lineMax, listingMax}
+use Rattle.listings.specs.Words.{hexDigit, hex, wordText, wordsText, permissionWords, lineOf, textBy, listingOf, groupLineMax, limitLineMax, fileLineMax, lineMax, listingMax}
 use Rattle.listings.specs.Decoding.{stands, hasWord, afterWord, hexValue, unhex, hashAfter, afterHash, digitsOf, decimalFrom, numberAfter, afterNumber, bytesOf, ofBits, headed, groupFrom, limitFrom, namesFrom, permissionsFrom, blobFrom, archiveFrom, fileFrom, decoded}
-use Rattle.listings.specs.Listing.{linesOf, isWritten, goodLine, lineFault, afterLine, listingEnd, listingFault, listedBytes, ListingReading, acl, badLine, readListing, produced, refusedWith, refusedAt, Listed, writeFault, writeListing, readListingInto}
+use Rattle.listings.specs.Listing.{linesOf, asWritten, goodIn, faultAtLine, pastLine, textEnd, textFault, bytesBy, ListingReading, readAs, badLine, readText, readListing, produced, refusedWith, refusedAt, Listed, writingFault, writeText, writeListing, readTextInto, readListingInto}
 
 -- "Two Sign groups, per load 1, then counter 3 maximum 2"
 abbrev twoGroups : Bytes
@@ -68,9 +68,9 @@ rowsRead =
 
 abbrev rowsExpected : List ListingReading
 rowsExpected =
-    acl twoGroups
-    ∷ acl everyWord
-    ∷ acl []
+    readAs twoGroups
+    ∷ readAs everyWord
+    ∷ readAs []
     ∷ badLine 2
     ∷ badLine 2
     ∷ badLine 3
@@ -81,11 +81,11 @@ rowsExpected =
     ∷ badLine 1
     ∷ badLine 2
     ∷ badLine 3
-    ∷ acl (rec (1 ∷ 0 ∷ 0 ∷ 1 ∷ [] ++ hash 9) ++ keyless)
+    ∷ readAs (rec (1 ∷ 0 ∷ 0 ∷ 1 ∷ [] ++ hash 9) ++ keyless)
     ∷ badLine 3
     ∷ badLine 3
     ∷ badLine 3
-    ∷ acl (openGroup ++ rec (4 ∷ 0 ∷ 0 ∷ 65 ∷ []) ++ rec (15 ∷ 0 ∷ 0 ∷ 1 ∷ []) ++ signAction)
+    ∷ readAs (openGroup ++ rec (4 ∷ 0 ∷ 0 ∷ 65 ∷ []) ++ rec (15 ∷ 0 ∷ 0 ∷ 1 ∷ []) ++ signAction)
     ∷ []
 
 -- the entry points, on buffers of eights
@@ -144,5 +144,5 @@ Reached =
 
 -- All rows hold.
 pub examples-hold : (listingOf twoGroups ≡ twoGroupsText) × (listingOf everyWord ≡ everyWordText) × (rowsRead ≡ rowsExpected) × (entries ≡ entriesExpected) × Reached
-unfolding hexDigit hex wordText wordsText permissionWords lineOf listingOf stands hasWord afterWord hexValue unhex hashAfter afterHash digitsOf decimalFrom numberAfter afterNumber bytesOf ofBits headed groupFrom limitFrom namesFrom permissionsFrom blobFrom archiveFrom fileFrom decoded linesOf isWritten goodLine lineFault afterLine listingEnd listingFault listedBytes readListing writeFault writeListing readListingInto flatten computing
+unfolding hexDigit hex wordText wordsText permissionWords lineOf textBy stands hasWord afterWord hexValue unhex hashAfter afterHash digitsOf decimalFrom numberAfter afterNumber bytesOf ofBits headed groupFrom limitFrom namesFrom permissionsFrom blobFrom archiveFrom fileFrom decoded linesOf asWritten goodIn faultAtLine pastLine textEnd textFault bytesBy readText writingFault writeText readTextInto flatten computing
 examples-hold = (refl, refl, refl, refl, (refl, refl, refl, refl, refl, refl))

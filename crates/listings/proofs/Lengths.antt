@@ -14,22 +14,23 @@ use Rattle.rules.specs.Sizes.{recordBytes, hashBytes, countersMax}
 use Rattle.rules.specs.Basics.{Bytes, Every, ascii, bit, part, number, byte, blank, kind, flag, scan, records}
 use Rattle.rules.specs.Layout.{tokenParametersAt, tokenParametersIf, counterUnder, counterOfSort, limitUnder, limitLaidOut, blobActionLaidOut}
 use Rattle.rules.specs.Day.{decimal}
-use Rattle.rules.specs.Acl.{AclPlace, aclStart, limitKey, limitInPlace, actionInPlace, actionLaidOut, placedUnder, placedByKind, inPlace, afterRecord, aclRecordFault, aclEnd, aclFaultUnder, aclFileFault}
+use Rattle.rules.specs.Acl.{AclPlace, limitKey, limitInPlace, actionInPlace, actionLaidOut, placedUnder, placedByKind, inPlace, aclRecordFault, aclFaultUnder, aclFileFault}
 use Rattle.rules.proofs.Laws.{and-left, and-right, and-both, orNext-first, orNext-next}
 use Rattle.rules.proofs.Places.{placed, file-due}
-use Rattle.listings.specs.Words.{space, hex, Word, bare, withNumber, withHash, spaced, wordsText, groupWords, limitWords, permissionNames, permissionWords, blobWords, archiveWords, fileWords, lineOf, listingOf, groupLineMax, limitLineMax, fileLineMax, lineMax, listingMax}
-use Rattle.listings.specs.Listing.{Octet, IsRecord}
+use Rattle.listings.specs.Words.{space, hex, Word, bare, withNumber, withHash, spaced, wordsText, groupWords, limitWords, permissionNames, permissionWords, blobWords, archiveWords, fileWords, lineOf, textBy, listingOf, groupLineMax, limitLineMax, fileLineMax, lineMax, listingMax}
+use Rattle.listings.specs.Kinds.{FileKind, kindFault, aclKind}
+use Rattle.listings.specs.Listing.{Octet, IsRecord, goingOn, soFar}
 use Rattle.listings.proofs.Digits.{decimal-length, hex-length}
 use Rattle.listings.proofs.Words.{text-with, text-without}
 use Rattle.listings.proofs.Parts.{part-length, number-fits, blank-byte, blank-within}
 use Rattle.listings.proofs.Files.{records-all}
 use Rattle.listings.proofs.Room.{record-passed, total, weight, acl-weight}
-use Rattle.listings.proofs.Reading.{whole-file}
+use Rattle.listings.proofs.Reading.{passed-on, whole-file}
 
 ruleset conj = (and-left, and-right, and-both)
 
 -- a line's words by their values' lengths
-text-length : (w : Word) (ws : List Word) (k m : ℕ) → length (w .value) ≤ k → length (wordsText ws) ≤ m → length (wordsText (w ∷ ws)) ≤ length (spaced (w .name)) + k + m
+pub text-length : (w : Word) (ws : List Word) (k m : ℕ) → length (w .value) ≤ k → length (wordsText ws) ≤ m → length (wordsText (w ∷ ws)) ≤ length (spaced (w .name)) + k + m
 text-length w ws k m i j = pick (w .given) refl
   where
     pick : (b : Bool) → w .given ≡ b → length (wordsText (w ∷ ws)) ≤ length (spaced (w .name)) + k + m
@@ -39,19 +40,19 @@ text-length w ws k m i j = pick (w .given) refl
         rw (text-with w ws e) (omega arith)
     pick false e = rw (text-without w ws e) (omega arith)
 
-number-text : (p n : ℕ) → n < 10 ^ suc p → length (space ∷ decimal n) ≤ p + 2
+pub number-text : (p n : ℕ) → n < 10 ^ suc p → length (space ∷ decimal n) ≤ p + 2
 number-text p n h = let l = decimal-length p n h in omega arith
 
-end-length : length (wordsText []) ≤ 1
+pub end-length : length (wordsText []) ≤ 1
 unfolding wordsText
 end-length = omega arith
 
 -- the names of the permissions
-abbrev namesLength : List String → ℕ
+abbrev pub namesLength : List String → ℕ
 namesLength [] = 1
 namesLength (x ∷ xs) = length (spaced x) + namesLength xs
 
-permissions-length : (b : ℕ) (names : List String) (n : ℕ) → length (wordsText (permissionWords b names n)) ≤ namesLength names
+pub permissions-length : (b : ℕ) (names : List String) (n : ℕ) → length (wordsText (permissionWords b names n)) ≤ namesLength names
 unfolding permissionWords
 permissions-length b [] n = end-length
 permissions-length b (x ∷ xs) n =
@@ -63,13 +64,13 @@ abbrev lineWeight : Bytes → ℕ
 lineWeight r = weight groupLineMax limitLineMax lineMax fileLineMax r
 
 module _ (r : Bytes) (h : IsRecord r) where
-  hash-text : (off : ℕ) → off + hashBytes ≤ recordBytes → length (space ∷ hex (part off hashBytes r)) ≤ 41
+  pub hash-text : (off : ℕ) → off + hashBytes ≤ recordBytes → length (space ∷ hex (part off hashBytes r)) ≤ 41
   hash-text off l = let p = part-length r h off hashBytes l in let x = hex-length (part off hashBytes r) in omega arith
 
-  two-text : (off : ℕ) → off + 2 ≤ recordBytes → length (space ∷ decimal (number off 2 r)) ≤ 6
+  pub two-text : (off : ℕ) → off + 2 ≤ recordBytes → length (space ∷ decimal (number off 2 r)) ≤ 6
   two-text off l = let f = number-fits r h off 2 l in number-text 4 (number off 2 r) (omega arith)
 
-  four-text : (off : ℕ) → off + 4 ≤ recordBytes → length (space ∷ decimal (number off 4 r)) ≤ 11
+  pub four-text : (off : ℕ) → off + 4 ≤ recordBytes → length (space ∷ decimal (number off 4 r)) ≤ 11
   four-text off l = let f = number-fits r h off 4 l in number-text 9 (number off 4 r) (omega arith)
 
   group-length : length (ascii "group" ++ wordsText (groupWords r)) ≤ groupLineMax
@@ -106,11 +107,11 @@ module _ (r : Bytes) (h : IsRecord r) where
   permission-length = let t = permissions-length 0 permissionNames (number 4 2 r) in omega arith
 
   -- "1 ≤ needed ≤ total ≤ 64"
-  shares : tokenParametersIf 4 44 r ≡ true → (byte 46 r < 100) × (byte 47 r < 100)
+  pub shares : (f : ℕ) → tokenParametersIf f 44 r ≡ true → (byte 46 r < 100) × (byte 47 r < 100)
   unfolding tokenParametersIf tokenParametersAt
-  shares e = pick (flag 4 r) refl
+  shares f e = pick (flag f r) refl
     where
-      pick : (b : Bool) → flag 4 r ≡ b → (byte 46 r < 100) × (byte 47 r < 100)
+      pick : (b : Bool) → flag f r ≡ b → (byte 46 r < 100) × (byte 47 r < 100)
       pick true q =
           let t : tokenParametersAt 44 r ≡ true = rw q at e in
           let a : leb (byte 46 r) (byte 47 r) ≡ true = search conj in
@@ -128,7 +129,7 @@ module _ (r : Bytes) (h : IsRecord r) where
   unfolding blobActionLaidOut ascii
   blob-length e =
       let p : tokenParametersIf 4 44 r ≡ true = search conj in
-      let s = shares p in
+      let s = shares 4 p in
       let ws : ℕ → List Word = λ i. drop i (blobWords r) in
       let a10 = text-length (bare (flag 6 r) "blobfile") [] 0 1 (omega arith) end-length in
       let a9 = text-length (bare (flag 5 r) "AllowNullKmToken") (ws 10) 0 10 (omega arith) a10 in
@@ -152,7 +153,7 @@ module _ (r : Bytes) (h : IsRecord r) where
       let a0 = text-length (withHash (flag 0 r) "kahash" (part 4 hashBytes r)) (ws 1) 41 26 (hash-text 4 (omega arith)) a1 in
       omega arith
 
-  file-length : length (ascii "blobfile" ++ wordsText (fileWords r)) ≤ fileLineMax
+  pub file-length : length (ascii "blobfile" ++ wordsText (fileWords r)) ≤ fileLineMax
   unfolding ascii
   file-length =
       let m = text-length (withHash (flag 1 r) "template" (part 8 hashBytes r)) [] 41 1 (hash-text 8 (omega arith)) end-length in
@@ -198,21 +199,30 @@ module _ (r : Bytes) (h : IsRecord r) where
       pick false p false q true w l = let k : length (lineOf r) ≤ fileLineMax = rw (p, q, w) at l in omega arith
       pick false p false q false w l = rw (p, q, w) at l
 
--- the lines of records without fault
-lines-length : (s : AclPlace) (rs : List Bytes) → Every IsRecord rs → scan aclRecordFault afterRecord aclEnd s rs ≡ none → length (flatten (map lineOf rs)) ≤ total lineWeight rs
-unfolding scan total flatten
-lines-length s [] h e = omega arith
-lines-length s (r ∷ rs) h e =
-    let later = scan aclRecordFault afterRecord aclEnd (afterRecord s r) rs in
-    let l = line-length r (h .0) s (record-passed s r (orNext-first (aclRecordFault s r) later e) .0) in
-    let i = lines-length (afterRecord s r) rs (h .1) (orNext-next (aclRecordFault s r) later e) in
-    rw length-append (omega arith)
+-- the lines of records without fault, for any kind of file
+module _ {S : Type 0} (k : FileKind S) (w : Bytes → ℕ) (long : (s : S) (r : Bytes) → IsRecord r → k .fault s r ≡ none → length (k .line r) ≤ w r) where
+  lines-length : (s : S) (rs : List Bytes) → Every IsRecord rs → goingOn k s rs ≡ none → length (flatten (map (k .line) rs)) ≤ total w rs
+  unfolding scan total flatten
+  lines-length s [] h e = omega arith
+  lines-length s (r ∷ rs) h e =
+      let later = goingOn k (k .after s r) rs in
+      let l = long s r (h .0) (orNext-first (k .fault s r) later e) in
+      let i = lines-length (k .after s r) rs (h .1) (orNext-next (k .fault s r) later e) in
+      rw length-append (omega arith)
+
+  -- A file's text is no longer than its records' longest lines.
+  pub text-bound : (file : Bytes) → Every Octet file → kindFault k file ≡ none → (length (textBy (k .line) file) ≤ total w (records file)) × (soFar k (records file) ≡ none)
+  unfolding textBy
+  text-bound file o e =
+      let f = whole-file k file e in
+      let g = passed-on k (k .start) (records file) (f .1) in
+      (lines-length (k .start) (records file) (records-all file (f .0) o) g, g)
 
 -- The longest listing of an ACL.
 pub listing-bound : (file : Bytes) → Every Octet file → aclFileFault file ≡ none → length (listingOf file) ≤ listingMax
-unfolding listingOf aclFaultUnder
+unfolding aclFaultUnder
 listing-bound file o e =
-    let w = whole-file file e in
-    let l = lines-length aclStart (records file) (records-all file (w .0) o) (w .1) in
-    let t = acl-weight groupLineMax limitLineMax lineMax fileLineMax (records file) (w .1) in
+    let t = text-bound aclKind lineWeight (λ s r h d. line-length r h s (record-passed s r d .0)) file o e in
+    let a = t .0 in
+    let w = acl-weight groupLineMax limitLineMax lineMax fileLineMax (records file) (t .1) in
     omega arith

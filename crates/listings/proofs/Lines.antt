@@ -1,5 +1,5 @@
 -- The lines of a text: a record's line is one line, and a text made of lines has those lines.
-use Prim.Native.Nat.{ℕ, _+_, _/_, _%_, _≤_, _<_}
+use Prim.Native.Nat.{ℕ, zero, suc, _+_, _-_, _/_, _%_, _≤_, _<_}
 use Prim.Native.String.{String}
 use native.Mathlib.Omega.{arith}
 use mathlib.Core.Path.{_≡_, refl, _∙_, ap}
@@ -14,6 +14,7 @@ use Rattle.rules.specs.Basics.{if_then_else_, Bytes, Every, all, ascii, part, n
 use Rattle.rules.specs.Day.{decimal}
 use Rattle.rules.proofs.Laws.{and-left, and-right, and-both}
 use Rattle.listings.specs.Words.{newline, space, hexDigit, hex, Word, spaced, wordsText, limitUnit, groupWords, limitWords, permissionNames, permissionWords, blobWords, archiveWords, fileWords, lineOf}
+use Rattle.listings.specs.OtherWords.{nameAt, useWords, blobRequestWords, recoveryWords, certificateWords, fieldNames, factWords, signatureNames, signatureWords, policyWords, numbersText, hintWords, delegationWords, recordLine}
 use Rattle.listings.specs.Listing.{ontoFirst, linesOf, lineLength}
 use Rattle.listings.proofs.Digits.{below-or-not, Digit, decimal-every}
 use Rattle.listings.proofs.Words.{text-with, text-without}
@@ -173,3 +174,93 @@ line-of-one r =
     (either-line (eqb (kind r) 5) _ _
     (plain-then (ascii "MakeArchiveBlob") (wordsText (archiveWords r)) refl (words-line (archiveWords r) ((refl, plain-hash (part 4 hashBytes r)), ((refl, plain-number (number 24 2 r)), ((refl, refl), tt)))))
     (plain-then (ascii "blobfile") (wordsText (fileWords r)) refl (words-line (fileWords r) ((refl, plain-number (number 4 4 r)), ((refl, plain-hash (part 8 hashBytes r)), tt))))))))
+
+-- The records of requests, bundles and hints. A name out of a list:
+plain-name : (names : List String) (n : ℕ) → all (λ x. plain (spaced x)) names ≡ true → plain (spaced (nameAt n names)) ≡ true
+unfolding all ascii
+plain-name [] n e = refl
+plain-name (x ∷ xs) zero e = and-left (plain (spaced x)) (all (λ y. plain (spaced y)) xs) e
+plain-name (x ∷ xs) (suc n) e = plain-name xs n (and-right (plain (spaced x)) (all (λ y. plain (spaced y)) xs) e)
+
+-- .. several numbers
+plain-both : (xs ys : Bytes) → plain xs ≡ true → plain ys ≡ true → plain (xs ++ ys) ≡ true
+unfolding all
+plain-both [] ys p q = q
+plain-both (x ∷ xs) ys p q =
+    and-both (leb space x) (plain (xs ++ ys)) (and-left (leb space x) (plain xs) p) (plain-both xs ys (and-right (leb space x) (plain xs) p) q)
+
+plain-numbers : (ns : Bytes) → plain (numbersText ns) ≡ true
+unfolding all numbersText
+plain-numbers [] = refl
+plain-numbers (n ∷ ns) = plain-both (decimal n) (numbersText ns) (plain-digits (decimal n) (decimal-every n)) (plain-numbers ns)
+
+-- "one line per record, each ended by one byte 10"
+module _ (r : Bytes) where
+  use-one : oneLine (ascii "use" ++ wordsText (useWords r)) ≡ true
+  unfolding all ascii
+  use-one =
+      plain-then (ascii "use") (wordsText (useWords r)) refl
+      (words-line (useWords r) ((plain-name permissionNames (byte 4 r) refl, refl), ((refl, plain-number (number 56 8 r)), tt)))
+
+  blob-one : oneLine (ascii "blob" ++ wordsText (blobRequestWords r)) ≡ true
+  unfolding all ascii
+  blob-one =
+      plain-then (ascii "blob") (wordsText (blobRequestWords r)) refl
+      (words-line (blobRequestWords r)
+      ((refl, plain-hash (part 4 hashBytes r)), ((refl, plain-hash (part 24 hashBytes r)), ((refl, refl), ((refl, plain-number (byte 46 r)), ((refl, plain-number (byte 47 r)), ((refl, plain-number (number 48 4 r)), ((refl, refl), ((refl, plain-number (number 56 8 r)), tt)))))))))
+
+  recovery-one : oneLine (ascii "recovery" ++ wordsText (recoveryWords r)) ≡ true
+  unfolding all ascii
+  recovery-one =
+      plain-then (ascii "recovery") (wordsText (recoveryWords r)) refl
+      (words-line (recoveryWords r) ((refl, plain-hash (part 4 hashBytes r)), ((refl, plain-number (number 24 2 r)), ((refl, refl), ((refl, plain-number (number 56 8 r)), tt)))))
+
+  certificate-one : oneLine (ascii "certificate" ++ wordsText (certificateWords r)) ≡ true
+  unfolding all ascii
+  certificate-one =
+      plain-then (ascii "certificate") (wordsText (certificateWords r)) refl
+      (words-line (certificateWords r) ((refl, plain-hex (part 4 hashBytes r)), ((refl, plain-number (number 24 2 r)), tt)))
+
+  fact-one : oneLine (ascii "fact" ++ wordsText (factWords r)) ≡ true
+  unfolding all ascii
+  fact-one =
+      plain-then (ascii "fact") (wordsText (factWords r)) refl
+      (words-line (factWords r) ((plain-name fieldNames (byte 4 r - 1) refl, refl), ((refl, plain-hex (part 8 hashBytes r)), tt)))
+
+  signature-one : oneLine (ascii "signature" ++ wordsText (signatureWords r)) ≡ true
+  unfolding all ascii
+  signature-one =
+      plain-then (ascii "signature") (wordsText (signatureWords r)) refl
+      (words-line (signatureWords r) ((plain-name signatureNames (byte 4 r - 1) refl, refl), ((refl, refl), ((refl, refl), tt))))
+
+  policy-one : oneLine (ascii "policy" ++ wordsText (policyWords r)) ≡ true
+  unfolding all ascii
+  policy-one =
+      plain-then (ascii "policy") (wordsText (policyWords r)) refl
+      (words-line (policyWords r)
+      ((refl, plain-number (byte 4 r)), ((refl, plain-number (byte 5 r)), ((refl, refl), ((refl, refl), ((refl, refl), ((refl, plain-number (byte 7 r)), tt)))))))
+
+  hint-one : oneLine (ascii "hint" ++ wordsText (hintWords r)) ≡ true
+  unfolding all ascii
+  hint-one =
+      plain-then (ascii "hint") (wordsText (hintWords r)) refl
+      (words-line (hintWords r) ((refl, plain-number (byte 4 r)), ((refl, plain-numbers (part 8 8 r)), tt)))
+
+  delegation-one : oneLine (ascii "delegation" ++ wordsText (delegationWords r)) ≡ true
+  unfolding all ascii
+  delegation-one =
+      plain-then (ascii "delegation") (wordsText (delegationWords r)) refl
+      (words-line (delegationWords r) ((refl, plain-hash (part 4 hashBytes r)), ((refl, plain-hash (part 24 hashBytes r)), plain-permissions 0 permissionNames (number 44 2 r) refl)))
+
+  pub record-line-one : oneLine (recordLine r) ≡ true
+  unfolding recordLine
+  record-line-one =
+      either-line (eqb (kind r) 6) _ _ use-one
+      (either-line (eqb (kind r) 7) _ _ blob-one
+      (either-line (eqb (kind r) 8) _ _ recovery-one
+      (either-line (eqb (kind r) 9) _ _ certificate-one
+      (either-line (eqb (kind r) 10) _ _ fact-one
+      (either-line (eqb (kind r) 11) _ _ signature-one
+      (either-line (eqb (kind r) 12) _ _ policy-one
+      (either-line (eqb (kind r) 13) _ _ hint-one
+      (either-line (eqb (kind r) 14) _ _ delegation-one (line-of-one r)))))))))

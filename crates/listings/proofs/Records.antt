@@ -26,11 +26,11 @@ use Rattle.listings.proofs.Parts.{cut-whole, blank-within, bits-part, b
 ruleset conj = (and-left, and-right, and-both)
 
 -- a test that a flag makes
-unless-flag : (b c d : Bool) → (if b then c else d) ≡ true → b ≡ false → d ≡ true
+pub unless-flag : (b c d : Bool) → (if b then c else d) ≡ true → b ≡ false → d ≡ true
 unless-flag b c d e f = rw f at e
 
 -- "Unlisted .. flag bits .. are zero"
-unlisted : (listed i : ℕ) (r : Bytes) → header listed r ≡ true → i < 16 → bit i listed ≡ false → flag i r ≡ false
+pub unlisted : (listed i : ℕ) (r : Bytes) → header listed r ≡ true → i < 16 → bit i listed ≡ false → flag i r ≡ false
 unfolding header within
 unlisted listed i r e l off = pick (flag i r) refl
   where
@@ -87,20 +87,20 @@ one-to-three n e = pick (eqb n 1) refl (eqb n 2) refl
 
 module _ (r : Bytes) (h : IsRecord r) where
   -- A hash, a number and a byte of the record, which are zero where the word is not there.
-  hash-field : (name : String) (ws : List Word) → clear name ws ≡ true → (b : Bool) (off : ℕ) → off + hashBytes ≤ recordBytes → (b ≡ false → blank off hashBytes r ≡ true) → hashAfter name (wordsText (withHash b name (part off hashBytes r) ∷ ws)) ≡ part off hashBytes r
+  pub hash-field : (name : String) (ws : List Word) → clear name ws ≡ true → (b : Bool) (off : ℕ) → off + hashBytes ≤ recordBytes → (b ≡ false → blank off hashBytes r ≡ true) → hashAfter name (wordsText (withHash b name (part off hashBytes r) ∷ ws)) ≡ part off hashBytes r
   hash-field name ws e b off l z =
       hash-first name ws e b (part off hashBytes r) (part-length r h off hashBytes l) (part-octets r h off hashBytes) (λ q. blank-part r h off hashBytes l (z q))
 
-  hash-past : (name : String) (ws : List Word) → clear name ws ≡ true → (b : Bool) (off : ℕ) → off + hashBytes ≤ recordBytes → afterHash name (wordsText (withHash b name (part off hashBytes r) ∷ ws)) ≡ wordsText ws
+  pub hash-past : (name : String) (ws : List Word) → clear name ws ≡ true → (b : Bool) (off : ℕ) → off + hashBytes ≤ recordBytes → afterHash name (wordsText (withHash b name (part off hashBytes r) ∷ ws)) ≡ wordsText ws
   hash-past name ws e b off l = after-hash name ws e b (part off hashBytes r) (part-length r h off hashBytes l)
 
-  two-fits : (off : ℕ) → off + 2 ≤ recordBytes → number off 2 r < 10 ^ 10
+  pub two-fits : (off : ℕ) → off + 2 ≤ recordBytes → number off 2 r < 10 ^ 10
   two-fits off l = let f = number-fits r h off 2 l in omega arith
 
-  four-fits : (off : ℕ) → off + 4 ≤ recordBytes → number off 4 r < 10 ^ 10
+  pub four-fits : (off : ℕ) → off + 4 ≤ recordBytes → number off 4 r < 10 ^ 10
   four-fits off l = let f = number-fits r h off 4 l in omega arith
 
-  byte-small : (off : ℕ) → off < recordBytes → byte off r < 10 ^ 10
+  pub byte-small : (off : ℕ) → off < recordBytes → byte off r < 10 ^ 10
   byte-small off l = let f = byte-fits r h off l in omega arith
 
   group-back : kind r ≡ 1 → groupLaidOut r ≡ true → groupFrom (wordsText (groupWords r)) ≡ r
@@ -126,8 +126,8 @@ module _ (r : Bytes) (h : IsRecord r) where
       (cut-whole (4 ∷ 20 ∷ 2 ∷ 38 ∷ []) 0 r (omega arith))
 
   -- flags 0 and 6
-  archive-head : kind r ≡ 5 → header 65 r ≡ true → headed 5 (flag 0 r ∷ false ∷ false ∷ false ∷ false ∷ false ∷ flag 6 r ∷ []) ≡ part 0 4 r
-  archive-head k d =
+  pub filed-head : (n : ℕ) → kind r ≡ n → header 65 r ≡ true → headed n (flag 0 r ∷ false ∷ false ∷ false ∷ false ∷ false ∷ flag 6 r ∷ []) ≡ part 0 4 r
+  filed-head n k d =
       rw (
         unlisted 65 1 r d (omega arith) refl,
         unlisted 65 2 r d (omega arith) refl,
@@ -135,7 +135,7 @@ module _ (r : Bytes) (h : IsRecord r) where
         unlisted 65 4 r d (omega arith) refl,
         unlisted 65 5 r d (omega arith) refl,
       )
-      at (header-part r h 5 65 7 9 k d (omega arith) refl)
+      at (header-part r h n 65 7 9 k d (omega arith) refl)
 
   archive-back : kind r ≡ 5 → archiveActionLaidOut r ≡ true → archiveFrom (wordsText (archiveWords r)) ≡ r
   unfolding archiveFrom archiveActionLaidOut all ascii
@@ -154,13 +154,13 @@ module _ (r : Bytes) (h : IsRecord r) where
         number-first "mechanism" last refl true m (two-fits 24 (omega arith)) (λ q. absurd (false≢true (sym q))),
         after-number "mechanism" last refl true m (two-fits 24 (omega arith)),
         has-bare "blobfile" [] refl (flag 6 r),
-        archive-head k d,
+        filed-head 5 k d,
         number-part r h 24 2 (omega arith),
         ← (blank-part r h 26 38 (omega arith) z),
       )
       (cut-whole (4 ∷ 20 ∷ 2 ∷ 38 ∷ []) 0 r (omega arith))
 
-  file-back : kind r ≡ 15 → fileLaidOut r ≡ true → fileFrom (wordsText (fileWords r)) ≡ r
+  pub file-back : kind r ≡ 15 → fileLaidOut r ≡ true → fileFrom (wordsText (fileWords r)) ≡ r
   unfolding fileFrom fileLaidOut all ascii
   file-back k e =
       let w = h .whole in
@@ -225,11 +225,11 @@ module _ (r : Bytes) (h : IsRecord r) where
       ∙ limit-parts k e
 
   -- AllowSoftSlots is the one bit of the token parameters' flags
-  soft-below : tokenParametersIf 4 44 r ≡ true → number 44 2 r < 2 ^ 1
+  pub soft-below : (f : ℕ) → tokenParametersIf f 44 r ≡ true → number 44 2 r < 2 ^ 1
   unfolding tokenParametersIf tokenParametersAt
-  soft-below p = pick (flag 4 r) refl
+  soft-below f p = pick (flag f r) refl
     where
-      pick : (b : Bool) → flag 4 r ≡ b → number 44 2 r < 2 ^ 1
+      pick : (b : Bool) → flag f r ≡ b → number 44 2 r < 2 ^ 1
       pick true q =
           let t : tokenParametersAt 44 r ≡ true = rw q at p in
           within-below 15 1 (number 44 2 r) 1 (omega arith) (number-fits r h 44 2 (omega arith)) (search conj) (omega arith)
@@ -274,7 +274,7 @@ module _ (r : Bytes) (h : IsRecord r) where
         after-bare "AllowNullKmToken" (ws 10) refl (flag 5 r),
         has-bare "blobfile" [] refl (flag 6 r),
         header-part r h 4 127 7 9 k d (omega arith) refl,
-        bits-part r h 44 1 (omega arith) (soft-below p),
+        bits-part r h 44 1 (omega arith) (soft-below 4 p),
         byte-bytes r h 46 (omega arith),
         byte-bytes r h 47 (omega arith),
         number-part r h 48 4 (omega arith),
@@ -284,7 +284,7 @@ module _ (r : Bytes) (h : IsRecord r) where
 
 -- A line's first word tells the kind.
 module _ (ws : List Word) where
-  begun : (name : String) → stands (ascii name) (ascii name ++ wordsText ws) ≡ true
+  pub begun : (name : String) → stands (ascii name) (ascii name ++ wordsText ws) ≡ true
   begun name = stands-here (ascii name) (wordsText ws) (rest-begins ws)
 
   decoded-group : decoded (ascii "group" ++ wordsText ws) ≡ groupFrom (wordsText ws)
@@ -307,7 +307,7 @@ module _ (ws : List Word) where
   unfolding decoded ascii stands
   decoded-archive = rw (begun "MakeArchiveBlob")
 
-  decoded-file : decoded (ascii "blobfile" ++ wordsText ws) ≡ fileFrom (wordsText ws)
+  pub decoded-file : decoded (ascii "blobfile" ++ wordsText ws) ≡ fileFrom (wordsText ws)
   unfolding decoded ascii stands
   decoded-file = refl
 
@@ -345,36 +345,36 @@ decoded-line s r h e = pick (s .fileDue) refl
     pick false d = decoded-placed s r h (placed s r d e)
 
 -- What a line tells is a record, whatever the line: each of its pieces has its length.
-record Sized (n : ℕ) (bs : Bytes) : Type 0 where
-  long : length bs ≡ n
-  bytes : Every Octet bs
+pub record Sized (n : ℕ) (bs : Bytes) : Type 0 where
+  pub long : length bs ≡ n
+  pub bytes : Every Octet bs
 
-sized-nil : Sized 0 []
+pub sized-nil : Sized 0 []
 sized-nil = record { long = refl; bytes = tt }
 
 infixr 40 _then_
-_then_ : {m n : ℕ} {xs ys : Bytes} → Sized m xs → Sized n ys → Sized (m + n) (xs ++ ys)
+pub _then_ : {m n : ℕ} {xs ys : Bytes} → Sized m xs → Sized n ys → Sized (m + n) (xs ++ ys)
 _then_ {m} {n} {xs} {ys} p q =
     let l = p .long in
     let k = q .long in
     record { long = rw length-append (omega arith); bytes = every-append Octet xs ys (p .bytes) (q .bytes) }
 
-sized-bytes : (n x : ℕ) → Sized n (bytesOf n x)
+pub sized-bytes : (n x : ℕ) → Sized n (bytesOf n x)
 sized-bytes n x = record { long = bytes-length n x; bytes = bytes-octets n x }
 
-sized-zeros : (n : ℕ) → Sized n (replicate n 0)
+pub sized-zeros : (n : ℕ) → Sized n (replicate n 0)
 sized-zeros n = record { long = length-replicate n 0; bytes = zeros n }
   where
     zeros : (n : ℕ) → Every Octet (replicate n 0)
     zeros zero = tt
     zeros (suc n) = (omega arith, zeros n)
 
-sized-headed : (k : ℕ) (flags : List Bool) → Octet k → Sized 4 (headed k flags)
+pub sized-headed : (k : ℕ) (flags : List Bool) → Octet k → Sized 4 (headed k flags)
 unfolding headed
 sized-headed k flags o =
     record { long = ap (λ (n : ℕ). suc (suc n)) (bytes-length 2 (ofBits flags)); bytes = (o, (omega arith, bytes-octets 2 (ofBits flags))) }
 
-sized-hash : (name : String) (t : Bytes) → Sized hashBytes (hashAfter name t)
+pub sized-hash : (name : String) (t : Bytes) → Sized hashBytes (hashAfter name t)
 unfolding hashAfter
 sized-hash name t = pick (hasWord name t) refl
   where
@@ -387,7 +387,7 @@ sized-sort true timed = record { long = refl; bytes = (omega arith, tt) }
 sized-sort false true = record { long = refl; bytes = (omega arith, tt) }
 sized-sort false false = record { long = refl; bytes = (omega arith, tt) }
 
-is-record : (r : Bytes) → Sized recordBytes r → IsRecord r
+pub is-record : (r : Bytes) → Sized recordBytes r → IsRecord r
 is-record r p = record { whole = p .long; octets = p .bytes }
 
 group-record : (t : Bytes) → IsRecord (groupFrom t)
@@ -421,7 +421,7 @@ unfolding fileFrom flatten
 file-record t =
     is-record (fileFrom t) (sized-headed 15 _ (omega arith) then sized-bytes 4 _ then sized-hash "template" _ then sized-zeros 36 then sized-nil)
 
-either-record : (b : Bool) (x y : Bytes) → IsRecord x → IsRecord y → IsRecord (if b then x else y)
+pub either-record : (b : Bool) (x y : Bytes) → IsRecord x → IsRecord y → IsRecord (if b then x else y)
 either-record true x y p q = p
 either-record false x y p q = q
 

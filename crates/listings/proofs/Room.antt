@@ -4,7 +4,7 @@ use Prim.Native.Nat.{ℕ, suc, _+_, _-_, _*_, _≤_, _<_}
 use native.Mathlib.Omega.{arith}
 use mathlib.Core.Path.{_≡_, refl}
 use mathlib.Core.List.{List, [], _∷_}
-use mathlib.Core.Option.{Option, none}
+use mathlib.Core.Option.{none}
 use mathlib.Core.Bool.{Bool, true, false, _&&_, false≢true}
 use lib.ListN.{length, length-append}
 use lib.Dec.{eqb, ltb}
@@ -13,9 +13,10 @@ use Rattle.rules.specs.Sizes.{groupsMax, limitsMax, actionsMax, aclRecords}
 use Rattle.rules.specs.Numbers.{malformed, tooMany}
 use Rattle.rules.specs.Basics.{if_then_else_, Bytes, kind, recordFault, scan}
 use Rattle.rules.specs.Layout.{limitLaidOut}
-use Rattle.rules.specs.Acl.{AclPlace, aclStart, announcesFile, limitKey, limitInPlace, actionInPlace, actionLaidOut, placedUnder, inPlace, hasRoomUnder, hasRoom, afterRecord, recordFaultUnder, aclRecordFault, aclEnd, aclFaultUnder, aclFault}
+use Rattle.rules.specs.Acl.{AclPlace, aclStart, announcesFile, limitKey, limitInPlace, actionInPlace, actionLaidOut, placedUnder, inPlace, hasRoomUnder, hasRoom, afterRecord, recordFaultUnder, aclRecordFault}
 use Rattle.rules.proofs.Laws.{and-left, and-right, and-both, unless-passed, orNext-first, orNext-next, fault-none-every}
-use Rattle.listings.specs.Listing.{soFar}
+use Rattle.listings.specs.Kinds.{FileKind, aclKind}
+use Rattle.listings.specs.Listing.{goingOn, soFar}
 use Rattle.rules.proofs.Places.{placed, file-due}
 
 ruleset conj = (and-left, and-right, and-both)
@@ -31,6 +32,22 @@ record-passed s r e =
 unfoldable pub total : (Bytes → ℕ) → List Bytes → ℕ
 total f [] = 0
 total f (r ∷ rs) = f r + total f rs
+
+-- Records that are a file so far weigh no more than there is room for at its start, if each takes its weight from the room that is left.
+pub total-room : {S : Type 0} (k : FileKind S) (w : Bytes → ℕ) (room : S → ℕ) → ((s : S) (r : Bytes) → k .fault s r ≡ none → w r + room (k .after s r) ≤ room s) → (s : S) (rs : List Bytes) → goingOn k s rs ≡ none → total w rs ≤ room s
+unfolding scan total
+total-room k w room spent s [] e = omega arith
+total-room k w room spent s (r ∷ rs) e =
+    let later = goingOn k (k .after s r) rs in
+    let f = spent s r (orNext-first (k .fault s r) later e) in
+    let i = total-room k w room spent (k .after s r) rs (orNext-next (k .fault s r) later e) in
+    omega arith
+
+-- .. each record weighing 1
+pub total-count : (rs : List Bytes) → total (λ r. 1) rs ≡ length rs
+unfolding total
+total-count [] = refl
+total-count (r ∷ rs) = let i = total-count rs in omega arith
 
 module _ (g l a f : ℕ) where
   -- what a record weighs, by its kind
@@ -91,19 +108,9 @@ module _ (g l a f : ℕ) where
           let n = due-most (announcesFile r) in
           rw (p, q, w, t) (omega arith)
 
-  -- .. however the end is judged
-  total-room : (end : AclPlace → Option ℕ) (s : AclPlace) (rs : List Bytes) → scan aclRecordFault afterRecord end s rs ≡ none → total weight rs ≤ room s
-  unfolding scan total
-  total-room end s [] e = omega arith
-  total-room end s (r ∷ rs) e =
-      let f = room-after s r (orNext-first (aclRecordFault s r) (scan aclRecordFault afterRecord end (afterRecord s r) rs) e) in
-      let i = total-room end (afterRecord s r) rs (orNext-next (aclRecordFault s r) (scan aclRecordFault afterRecord end (afterRecord s r) rs) e) in
-      omega arith
-
   -- The records of an ACL without fault weigh no more than 64 full groups.
-  pub acl-weight : (rs : List Bytes) → aclFault rs ≡ none → total weight rs ≤ groupsMax * full
-  unfolding aclFaultUnder
-  acl-weight rs e = let t = total-room aclEnd aclStart rs e in omega arith
+  pub acl-weight : (rs : List Bytes) → soFar aclKind rs ≡ none → total weight rs ≤ groupsMax * full
+  acl-weight rs e = let t = total-room aclKind weight room room-after aclStart rs e in omega arith
 
 weight-one : (r : Bytes) → weight 1 1 1 1 r ≡ 1
 unfolding weight
@@ -120,10 +127,6 @@ unfolding total
 total-one [] = refl
 total-one (r ∷ rs) = let i = total-one rs in rw (weight-one r) (omega arith)
 
--- "An ACL may then reach 86,016 bytes": an ACL's records without fault are never too many for a file.
-pub acl-few : (rs : List Bytes) → aclFault rs ≡ none → length rs ≤ aclRecords
+-- "An ACL may then reach 86,016 bytes": records that are an ACL so far are never too many for a file.
+pub acl-few : (rs : List Bytes) → soFar aclKind rs ≡ none → length rs ≤ aclRecords
 acl-few rs e = let t = acl-weight 1 1 1 1 rs e in let c = total-one rs in omega arith
-
--- .. nor are records that are an ACL so far.
-pub so-far-few : (rs : List Bytes) → soFar rs ≡ none → length rs ≤ aclRecords
-so-far-few rs e = let t = total-room 1 1 1 1 (λ s. none) aclStart rs e in let c = total-one rs in omega arith

@@ -1,5 +1,5 @@
 -- A line's words, written and read back: each word that is there is found, with its value and what follows it, and one that is not there is not.
-use Prim.Native.Nat.{ℕ, _+_, _*_, _^_, _<_}
+use Prim.Native.Nat.{ℕ, suc, _+_, _*_, _^_, _<_}
 use Prim.Native.String.{String}
 use native.Mathlib.Omega.{arith}
 use mathlib.Core.Path.{_≡_, refl, sym, _∙_, ap}
@@ -15,7 +15,7 @@ use Rattle.rules.specs.Layout.{between}
 use Rattle.rules.specs.Day.{decimal}
 use Rattle.rules.proofs.Laws.{and-left, and-right, and-both}
 use Rattle.listings.specs.Words.{space, hex, Word, bare, withNumber, withHash, spaced, wordText, wordsText, permissionWords}
-use Rattle.listings.specs.Decoding.{stands, hasWord, afterWord, unhex, hashAfter, afterHash, numberAfter, afterNumber, namesFrom}
+use Rattle.listings.specs.Decoding.{stands, hasWord, afterWord, unhex, hashAfter, afterHash, numberUpTo, numberAfter, afterNumber, namesFrom}
 use Rattle.listings.specs.Listing.{Octet}
 use Rattle.listings.proofs.Digits.{decimal-digits, decimal-value, hex-back, hex-length}
 use Rattle.listings.proofs.Bits.{bitsFrom}
@@ -43,7 +43,7 @@ unfolding wordsText wordText
 text-without w ws e = rw e
 
 -- .. so with no digit
-no-digit : (t : Bytes) → Begins t → between 48 57 (getD t 0 0) ≡ false
+pub no-digit : (t : Bytes) → Begins t → between 48 57 (getD t 0 0) ≡ false
 no-digit t e = let l = leb-true (getD t 0 0) space e in rw (lt-leb 48 (getD t 0 0) (omega arith))
 
 -- A word that is there stands there.
@@ -59,7 +59,7 @@ apart [] (y ∷ ys) = not (leb y space)
 apart (x ∷ xs) [] = false
 apart (x ∷ xs) (y ∷ ys) = not (eqb x y) || apart xs ys
 
-apart-not : (w v t : Bytes) → apart w v ≡ true → stands w (v ++ t) ≡ false
+pub apart-not : (w v t : Bytes) → apart w v ≡ true → stands w (v ++ t) ≡ false
 unfolding stands
 apart-not [] [] t e = absurd (false≢true e)
 apart-not [] (y ∷ ys) t e = not-true (leb y space) e
@@ -133,16 +133,20 @@ module _ (name : String) (ws : List Word) (e : clear name ws ≡ true) where
   after-hash true h l = let x = hex-length h in rw (has-hashed true h) (value-past (hex h) (2 * hashBytes) (omega arith))
   after-hash false h l = rw (has-hashed false h)
 
+  pub number-within : (p : ℕ) (b : Bool) (n : ℕ) → n < 10 ^ suc p → n < 10 ^ 20 → (b ≡ false → n ≡ 0) → numberUpTo (suc p) name (wordsText (withNumber b name n ∷ ws)) ≡ n
+  unfolding wordsText wordText
+  number-within p true n l m z =
+      rw (has-numbered true n, value-at (decimal n), decimal-digits p n (wordsText ws) l (no-digit (wordsText ws) (rest-begins ws))) (decimal-value n m)
+  number-within p false n l m z = rw (has-numbered false n) (sym (z refl))
+
   pub number-first : (b : Bool) (n : ℕ) → n < 10 ^ 10 → (b ≡ false → n ≡ 0) → numberAfter name (wordsText (withNumber b name n ∷ ws)) ≡ n
-  unfolding wordsText wordText numberAfter
-  number-first true n l z =
-      rw (has-numbered true n, value-at (decimal n), decimal-digits n (wordsText ws) l (no-digit (wordsText ws) (rest-begins ws))) (decimal-value n l)
-  number-first false n l z = rw (has-numbered false n) (sym (z refl))
+  unfolding numberAfter
+  number-first b n l z = number-within 9 b n l (omega arith) z
 
   pub after-number : (b : Bool) (n : ℕ) → n < 10 ^ 10 → afterNumber name (wordsText (withNumber b name n ∷ ws)) ≡ wordsText ws
   unfolding wordsText wordText afterNumber
   after-number true n l =
-      rw (has-numbered true n, value-at (decimal n), decimal-digits n (wordsText ws) l (no-digit (wordsText ws) (rest-begins ws)))
+      rw (has-numbered true n, value-at (decimal n), decimal-digits 9 n (wordsText ws) l (no-digit (wordsText ws) (rest-begins ws)))
       (value-past (decimal n) (length (decimal n)) refl)
   after-number false n l = rw (has-numbered false n)
 

@@ -56,9 +56,13 @@ unfoldable pub decimalFrom : ℕ → Bytes → ℕ
 decimalFrom n [] = n
 decimalFrom n (c ∷ t) = decimalFrom (n * 10 + (c - 48)) t
 
--- the number that a word tells, or zero
+-- the number of at most d digits that a word tells, or zero
+abbrev pub numberUpTo : ℕ → String → Bytes → ℕ
+numberUpTo d name t = if hasWord name t then decimalFrom 0 (digitsOf (take d (drop (length (spaced name) + 1) t))) else 0
+
+-- .. of four bytes
 unfoldable pub numberAfter : String → Bytes → ℕ
-numberAfter name t = if hasWord name t then decimalFrom 0 (digitsOf (take digitsMax (drop (length (spaced name) + 1) t))) else 0
+numberAfter name t = numberUpTo digitsMax name t
 
 -- what follows a word and its number
 unfoldable pub afterNumber : String → Bytes → Bytes

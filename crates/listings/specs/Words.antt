@@ -120,9 +120,13 @@ lineOf r =
     else if eqb (kind r) 5 then ascii "MakeArchiveBlob" ++ wordsText (archiveWords r)
     else ascii "blobfile" ++ wordsText (fileWords r)
 
--- "a text form of an ACL, one line per record"
-unfoldable pub listingOf : Bytes → Bytes
-listingOf file = flatten (map lineOf (records file))
+-- "one line per record": a file's text, by the line of a record
+unfoldable pub textBy : (Bytes → Bytes) → Bytes → Bytes
+textBy line file = flatten (map line (records file))
+
+-- "a text form of an ACL"
+abbrev pub listingOf : Bytes → Bytes
+listingOf = textBy lineOf
 
 -- The longest lines of a group, a limit, a record of kind 15 and an action, and the longest listing of an ACL, in bytes.
 abbrev pub groupLineMax : ℕ

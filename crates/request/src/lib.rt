@@ -37,7 +37,7 @@ pub fn stands_alone(rec: &[u8]) -> bool
 }
 
 // Whether a record is a well-formed one of kind 15, as a request has it.
-fn file_record(rec: &[u8]) -> bool
+pub fn file_record(rec: &[u8]) -> bool
     requires { ⌜ length (now rec) ≡ recordBytes ⌝ }
     ensures { λ r. ⌜ r ≡ fileRequestRecord (now (rec .entry)) ⌝ }
 {
@@ -53,7 +53,7 @@ fn use_record(p: u8, rec: &[u8]) -> bool
 }
 
 // Whether a record is a well-formed certificate.
-fn certificate_record(rec: &[u8]) -> bool
+pub fn certificate_record(rec: &[u8]) -> bool
     requires { ⌜ length (now rec) ≡ recordBytes ⌝ }
     ensures { λ r. ⌜ r ≡ certificateRecord (now (rec .entry)) ⌝ }
 {
@@ -61,7 +61,7 @@ fn certificate_record(rec: &[u8]) -> bool
 }
 
 // Whether a record is a well-formed delegation.
-fn delegation_record(rec: &[u8]) -> bool
+pub fn delegation_record(rec: &[u8]) -> bool
     requires { ⌜ length (now rec) ≡ recordBytes ⌝ }
     ensures { λ r. ⌜ r ≡ delegationRecord (now (rec .entry)) ⌝ }
 {
@@ -143,7 +143,7 @@ pub fn use_records(p: u8, req: &[u8]) -> Checked
 }
 
 // Whether a record is a well-formed hint.
-fn hint_record(rec: &[u8]) -> bool
+pub fn hint_record(rec: &[u8]) -> bool
     requires { ⌜ length (now rec) ≡ recordBytes ⌝ }
     ensures { λ r. ⌜ r ≡ hintRecord (now (rec .entry)) ⌝ }
 {

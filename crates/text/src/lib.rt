@@ -26,7 +26,7 @@ pub fn append(text: &[u8], at: usize, buffer: &mut [u8]) -> usize
 }
 
 // A number's last digit.
-fn append_digit(n: u32, at: usize, buffer: &mut [u8]) -> usize
+fn append_digit(n: u64, at: usize, buffer: &mut [u8]) -> usize
     requires { ⌜ at + 1 ≤ length (now buffer) ⌝ }
     ensures { λ r. ⌜ Put ((48 + n % 10) ∷ []) at (now (buffer .entry)) (now (buffer .exit)) r ⌝ }
 {
@@ -35,7 +35,7 @@ fn append_digit(n: u32, at: usize, buffer: &mut [u8]) -> usize
 }
 
 // A number in decimal: the digits of its tenth, and one more.
-pub fn append_decimal(n: u32, at: usize, buffer: &mut [u8]) -> usize
+pub fn append_decimal(n: u64, at: usize, buffer: &mut [u8]) -> usize
     requires { ⌜ at + length (decimal n) ≤ length (now buffer) ⌝ }
     ensures { λ r. ⌜ Put (decimal n) at (now (buffer .entry)) (now (buffer .exit)) r ⌝ }
 {
@@ -98,7 +98,7 @@ pub fn number_if(given: bool, word: &[u8], n: u32, at: usize, buffer: &mut [u8])
 {
     if given {
         let end = append(word, at, buffer);
-        return append_decimal(n, end, buffer);
+        return append_decimal(n as u64, end, buffer);
     }
     at
 }
