@@ -6,11 +6,11 @@ ghost use lib.ListN.{length};
 ghost use lib.Dec.{ltb};
 ghost use Rattle.rules.specs.Sizes.{groupsMax, slotsMax};
 ghost use Rattle.rules.specs.Gate.{request, narrow, expand};
-ghost use Rattle.rules.specs.Cabinet.{freshCabinet, ledgerAt, putBack, asGate, cabinetRefused, cabinetLoad, cabinetClear, cabinetRequest, cabinetNarrow, cabinetExpand};
+ghost use Rattle.rules.specs.Cabinet.{freshCabinet, asGate, cabinetRefused, cabinetLoad, cabinetClear, cabinetRequest, cabinetNarrow, cabinetExpand};
 ghost use Rattle.judging.specs.Standings.{ledgerOfTables};
 ghost use Rattle.charging.specs.Charges.{answerAs, CountersRoom, countersCharged, countsCharged};
 ghost use Rattle.carrying.specs.Carried.{countsAfter, noCounts};
-ghost use Rattle.gate.specs.Outcomes.{ledgerAs, narrowedCounts, Settles};
+ghost use Rattle.gate.specs.Outcomes.{narrowedCounts, Settles};
 ghost use Rattle.rules.specs.Acl.{aclOf};
 ghost use Rattle.rules.specs.Request.{requestOf, hintsOf};
 ghost use Rattle.refusals.specs.Refusals.{refusalNumber};
@@ -142,39 +142,6 @@ impl Cabinet {
             slots: [slot; Cabinet::SLOTS],
             counters: [0u32; Ledger::COUNTERS],
         }
-    }
-
-    // The ledger that the gate is handed for a slot.
-    pub fn ledger(self, slot: usize) -> Ledger
-        requires { ⌜ slot < slotsMax ⌝ }
-        ensures { λ r. ⌜ ledgerAs r ≡ ledgerAt (cabinetAs self) slot ⌝ }
-    {
-        let s = self.slots[slot];
-        let counts = s.counts;
-        let counters = self.counters;
-        Ledger {
-            counts,
-            counters,
-            loaded: s.loaded,
-            last: s.last,
-        }
-    }
-
-    // The cabinet with the ledger that the gate handed back for a slot, put into its places.
-    pub fn with_ledger(mut self, slot: usize, l: Ledger) -> Cabinet
-        requires { ⌜ slot < slotsMax ⌝ }
-        ensures { λ r. ⌜ cabinetAs r ≡ putBack (cabinetAs self) slot (ledgerAs l) ⌝ }
-    {
-        let counts = l.counts;
-        let counters = l.counters;
-        let put = Slot {
-            counts,
-            loaded: l.loaded,
-            last: l.last,
-        };
-        self.slots[slot] = put;
-        self.counters = counters;
-        self
     }
 
     // A refusal: the cabinet stands.

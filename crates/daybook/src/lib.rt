@@ -5,6 +5,7 @@ ghost use Rattle.rules.specs.Request.{requestRecordFault};
 ghost use Rattle.rules.specs.Day.{dayLengthsFit, dayFault};
 ghost use Rattle.files.specs.Faults.{faultAs};
 use files::Checked;
+use gate::Ledger;
 use refusals::Refusal;
 
 // Request records of one day.
@@ -24,11 +25,11 @@ fn each_request(requests: &[u8]) -> Checked
     ensures { λ r. ⌜ faultAs r ≡ eachFault requestRecordFault (records (now (requests .entry))) ⌝ }
 {
     let mut at = 0;
-    while sizes::RECORD <= requests.len() - at {
-        if !request::stands_alone(&requests[at..at + sizes::RECORD]) {
+    while Ledger::RECORD <= requests.len() - at {
+        if !request::stands_alone(&requests[at..at + Ledger::RECORD]) {
             return Checked::Refused(Refusal::Malformed);
         }
-        at += sizes::RECORD;
+        at += Ledger::RECORD;
     }
     Checked::Sound
 }

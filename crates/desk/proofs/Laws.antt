@@ -6,6 +6,7 @@ use mathlib.Core.List.{List, [], _∷_}
 use mathlib.Core.Option.{Option, none, some}
 use mathlib.Core.Bool.{Bool, true, false, not, _&&_}
 use borrow.Author.Tests.{eq-eqb, ne-eqb, le-leb, lt-leb, not-true, not-false}
+use lib.ListN.{replicate}
 use lib.Dec.{eqb, leb}
 use Rattle.rules.specs.Sizes.{bundleRecords, aclRecords}
 use Rattle.rules.specs.Numbers.{badLength}
@@ -15,6 +16,7 @@ use Rattle.rules.specs.Acl.{Action, permissions, makeBlob, makeArchive, Group, 
 use Rattle.rules.specs.Bundle.{Policy, policyOf, bundleFault}
 use Rattle.rules.proofs.Laws.{never}
 use Rattle.rules.specs.Desk.{Step, KV3, Acceptance, approach1, approach2, actionProtection, softParameters, smallest, officersGroup, keyProtection, recoverableKey, beforeAcl, aclFailure, fullFailure, basicFailure, gradeOf, acceptedUnless, attested, deskFault, desk}
+use Rattle.facts.specs.Places.{entries, placesOf}
 use Rattle.steps.specs.declared.Failure.{Failure}
 use Rattle.steps.specs.declared.Failure.the-variants.{Nothing, At}
 use Rattle.steps.specs.declared.Step as codeStep
@@ -22,7 +24,7 @@ use Rattle.steps.specs.Steps.{stepAs, failureAs, csrFailure}
 use Rattle.suites.specs.Calls.{Calls, SuiteAnswer, calls, refuses, calledFor}
 use Rattle.suites.proofs.Laws.{suiteIn, suite-found, suite-measured}
 use Rattle.desk.specs.Replies as replies
-use Rattle.desk.specs.Replies.{DeskReply, protectionNumber, acceptanceAs, acceptanceFor, verdictAs, verdictFor, verdictFrom, suiteFault, gradeFailure}
+use Rattle.desk.specs.Replies.{DeskReply, protectionNumber, acceptanceAs, acceptanceFor, verdictAs, verdictFor, verdictFrom, suiteFault, placesRead, gradeFailure}
 use Rattle.grading.specs.Grades.{Graded, aclGraded}
 use Rattle.grading.proofs.Laws.{protection-most}
 use Rattle.desk.specs.declared.Protection.{Protection}
@@ -79,6 +81,12 @@ module _ (bundle acl : Bytes) (r s : Bool) (p : r ≡ fits bundleRecords bundle)
   pub good-lengths : (x y f g k : Option ℕ) → not (r && s) ≡ false → x ≡ orNext f y → y ≡ orNext g k → f ≡ bundleFault (records bundle) → g ≡ aclFault (records acl) → k ≡ suiteFault (records bundle) → x ≡ deskFault bundle acl
   unfolding deskFault firstFault suiteFault
   good-lengths x y f g k h a b c d e = rw (a, b, c, d, e, sym lengths ∙ not-false (r && s) h)
+
+  pub table-kept : (places : List ℕ) → places ≡ replicate entries 0 → not (r && s) ≡ true → places ≡ placesRead bundle acl
+  table-kept places e h = e ∙ sym (rw (sym lengths ∙ not-true (r && s) h))
+
+  pub table-filled : (places : List ℕ) → places ≡ placesOf bundle → not (r && s) ≡ false → places ≡ placesRead bundle acl
+  table-filled places e h = e ∙ sym (rw (sym lengths ∙ not-false (r && s) h))
 
 -- a refusal is no answer that there is no fault
 pub refused : {A : Type 0} (n : ℕ) → some n ≡ none → A

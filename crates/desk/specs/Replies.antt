@@ -3,14 +3,17 @@
 use Prim.Native.Nat.{ℕ}
 use mathlib.Core.List.{List, [], _∷_}
 use mathlib.Core.Option.{Option}
-use mathlib.Core.Bool.{Bool, false}
+use mathlib.Core.Bool.{Bool, false, _&&_}
+use lib.ListN.{replicate}
 use lib.Dec.{leb}
+use Rattle.rules.specs.Sizes.{bundleRecords, aclRecords}
 use Rattle.rules.specs.Numbers as numbers
-use Rattle.rules.specs.Basics.{Bytes, unless, firstFault}
+use Rattle.rules.specs.Basics.{if_then_else_, Bytes, fits, unless, firstFault}
 use Rattle.rules.specs.Suites.{isSuite}
 use Rattle.rules.specs.Bundle.{policyOf}
 use Rattle.rules.specs.Desk as rules
 use Rattle.refusals.specs.Refusals.{refusalNumber}
+use Rattle.facts.specs.Places.{entries, placesOf}
 use Rattle.steps.specs.declared.Failure.{Failure}
 use Rattle.steps.specs.declared.Failure.the-variants.{Nothing, At}
 use Rattle.steps.specs.Steps.{stepAs}
@@ -69,6 +72,10 @@ verdictFrom (At s) a = Failed s
 -- "suite not 1 to 4", and with document 02 not 1 to 5
 unfoldable pub suiteFault : List Bytes → Option ℕ
 suiteFault b = firstFault (unless (isSuite (policyOf b .suite)) numbers.unknownSuite ∷ [])
+
+-- the table of places after both files were read: that of the bundle where both lengths fit, else still empty
+abbrev pub placesRead : Bytes → Bytes → List ℕ
+placesRead bundle acl = if fits bundleRecords bundle && fits aclRecords acl then placesOf bundle else replicate entries 0
 
 -- "KV3 (protection at least the policy's); CSRL1", for a key of that protection
 unfoldable pub gradeFailure : List Bytes → ℕ → Option rules.Step

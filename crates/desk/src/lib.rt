@@ -11,7 +11,7 @@ ghost use Rattle.files.specs.Faults.{faultAs};
 ghost use Rattle.facts.specs.Found.{policyAs};
 ghost use Rattle.facts.specs.Places.{entries, Found};
 ghost use Rattle.steps.specs.Steps.{failureAs};
-ghost use Rattle.desk.specs.Replies.{protectionNumber, verdictAs, verdictFor, verdictFrom, suiteFault, gradeFailure};
+ghost use Rattle.desk.specs.Replies.{protectionNumber, verdictAs, verdictFor, verdictFrom, suiteFault, placesRead, gradeFailure};
 use facts::Policy;
 use files::Checked;
 use grading::Grade;
@@ -86,10 +86,11 @@ fn suite_known(places: &[usize; facts::ENTRIES], bundle: &[u8]) -> Checked
     }
 }
 
-// The first fault of the two files: the length of either, the bundle's records, the ACL's, the suite. Where there is none, the bundle's records were found.
+// The first fault of the two files: the length of either, the bundle's records, the ACL's, the suite. Where both lengths fit, the bundle's records were
+// found, whatever they are; else the table is as it was.
 pub fn read_both(places: &mut [usize; facts::ENTRIES], bundle: &[u8], acl: &[u8]) -> Checked
     requires { ⌜ now places ≡ replicate entries 0 ⌝ }
-    ensures { λ r. ⌜ (faultAs r ≡ deskFault (now (bundle .entry)) (now (acl .entry))) × (faultAs r ≡ none → Found (now (bundle .entry)) (now (places .exit))) ⌝ }
+    ensures { λ r. ⌜ (faultAs r ≡ deskFault (now (bundle .entry)) (now (acl .entry))) × (faultAs r ≡ none → Found (now (bundle .entry)) (now (places .exit))) × (now (places .exit) ≡ placesRead (now (bundle .entry)) (now (acl .entry))) ⌝ }
 {
     if !(files::whole(sizes::BUNDLE_RECORDS, bundle) & files::whole(sizes::ACL_RECORDS, acl)) {
         return Checked::Refused(Refusal::BadLength);

@@ -17,7 +17,7 @@ use Rattle.rules.specs.Acl.{blobRuleOf, archiveRuleOf, parametersAt, FileRule, 
 use Rattle.rules.specs.Bundle.{Policy}
 use Rattle.rules.specs.Suites.{suiteMechanism}
 use Rattle.rules.specs.Desk.{Step, Class, classOf, policyAdmits, ACLV3, WB1, WB2, WB3, WB6, permissionsFailure, blobFailure, isMechanism, softParameters}
-use Rattle.rules.proofs.Laws.{and-both, allBelow-at, allBelow-all, not-both, decided}
+use Rattle.rules.proofs.Laws.{allBelow-at, allBelow-all, not-both, decided}
 use Rattle.evidence.specs.Given.{given}
 use Rattle.evidence.proofs.Laws.{given-some}
 use Rattle.suites.specs.Calls.{Calls, SuiteAnswer, calls, refuses, calledFor}
@@ -40,18 +40,14 @@ module _ (policy : Policy) (bits b : ℕ) (t : Bool) (is : t ≡ bit b bits) whe
   unfolding admittedBit
   bit-set c r h k e = e ∙ ap (policyAdmits policy) k ∙ sym (rw (← is, not-false t h))
 
--- The loop over the permissions: every one below b passes.
-module _ (p : ℕ → Bool) (b : ℕ) (t : Bool) (is : t ≡ p b) where
-  pub below-next : allBelow b p ≡ true → not t ≡ false → allBelow (b + 1) p ≡ true
-  unfolding allBelow
-  below-next h e = rw add-one (and-both (p b) (allBelow b p) (sym is ∙ not-false t e) h)
+-- The loop over the permissions: whether every one below b passes.
+pub below-none : (p : ℕ → Bool) → true ≡ allBelow 0 p
+unfolding allBelow
+below-none p = refl
 
-  below-stop : (n : ℕ) → b < n → not t ≡ true → false ≡ allBelow n p
-  below-stop n h e = pick (allBelow n p) refl
-    where
-      pick : (a : Bool) → allBelow n p ≡ a → false ≡ a
-      pick true q = absurd (not-both (p b) (allBelow-at n p b h q) (sym is ∙ not-true t e))
-      pick false q = refl
+pub below-next : (p : ℕ → Bool) (b : ℕ) (t r : Bool) → t ≡ p b → r ≡ allBelow b p → (t && r) ≡ allBelow (b + 1) p
+unfolding allBelow
+below-next p b t r is h = rw (add-one, is, h)
 
 -- .. and from b on none is set: what is left of the bits is zero.
 module _ (policy : Policy) (bits left b : ℕ) (is : left ≡ bits / 2 ^ b) where
@@ -65,9 +61,6 @@ module _ (policy : Policy) (bits left b : ℕ) (is : left ≡ bits / 2 ^ b) wher
   pub left-room : bits < 65536 → b ≤ 16 → 0 < left → b + 1 ≤ 16
   left-room h l z = let k = left-below h l z in omega arith
 
-  pub left-stop : (t : Bool) → bits < 65536 → b ≤ 16 → 0 < left → t ≡ admittedBit policy bits b → not t ≡ true → false ≡ allBelow 16 (admittedBit policy bits)
-  left-stop t h l z e n = below-stop (admittedBit policy bits) b t e 16 (left-below h l z) n
-
   pub left-next : left / 2 ≡ bits / 2 ^ (b + 1)
   left-next = ap (λ (n : ℕ). n / 2) is ∙ shr-shr bits b 1
 
@@ -80,17 +73,22 @@ module _ (policy : Policy) (bits left b : ℕ) (is : left ≡ bits / 2 ^ b) wher
       let d : bits / 2 ^ i ≡ 0 = omega arith in
       rw d
 
-  pub left-none : allBelow b (admittedBit policy bits) ≡ true → left ≤ 0 → true ≡ allBelow 16 (admittedBit policy bits)
+  -- those from b on pass, so that all pass exactly if those below b do
+  pub left-none : (r : Bool) → r ≡ allBelow b (admittedBit policy bits) → b ≤ 16 → left ≤ 0 → r ≡ allBelow 16 (admittedBit policy bits)
   unfolding admittedBit
-  left-none h z = sym (allBelow-all 16 (admittedBit policy bits) (λ i l. pick i (decided (ltb i b))))
+  left-none r e l z = pick r e
     where
-      pick : (i : ℕ) → (ltb i b ≡ true) ⊎ (ltb i b ≡ false) → admittedBit policy bits i ≡ true
-      pick i (inl q) = allBelow-at b (admittedBit policy bits) i (ltb-true i b q) h
-      pick i (inr q) = rw (unset i z (ltb-false i b q))
+      above : (i : ℕ) → allBelow b (admittedBit policy bits) ≡ true → (ltb i b ≡ true) ⊎ (ltb i b ≡ false) → admittedBit policy bits i ≡ true
+      above i h (inl q) = allBelow-at b (admittedBit policy bits) i (ltb-true i b q) h
+      above i h (inr q) = rw (unset i z (ltb-false i b q))
 
-pub below-none : (p : ℕ → Bool) → allBelow 0 p ≡ true
-unfolding allBelow
-below-none p = refl
+      none-above : (a : Bool) → allBelow 16 (admittedBit policy bits) ≡ a → allBelow b (admittedBit policy bits) ≡ false → false ≡ a
+      none-above true q h = absurd (not-both (allBelow b (admittedBit policy bits)) (allBelow-all b (admittedBit policy bits) (λ i k. allBelow-at 16 (admittedBit policy bits) i (omega arith) q)) h)
+      none-above false q h = refl
+
+      pick : (t : Bool) → t ≡ allBelow b (admittedBit policy bits) → t ≡ allBelow 16 (admittedBit policy bits)
+      pick true h = sym (allBelow-all 16 (admittedBit policy bits) (λ i k. above i (sym h) (decided (ltb i b))))
+      pick false h = none-above (allBelow 16 (admittedBit policy bits)) refl (sym h)
 
 -- ACLV3
 module _ (p : Policy) (bits n : ℕ) (r : Bool) (f : bits ≡ n) (is : r ≡ allBelow 16 (admittedBit p bits)) where

@@ -87,20 +87,20 @@ pub fn bit_admitted(policy: Policy, bits: u16, b: u16) -> bool
     class_admitted(policy, class_of(b))
 }
 
-// Whether a policy admits every permission that is set. `left` are those from b on: after the highest that is set there are no more.
+// Whether a policy admits every permission that is set: the table of classes is read for each of them. `left` are those from b on: after the highest that
+// is set there are no more.
 fn bits_admitted(policy: Policy, bits: u16) -> bool
     ensures { λ r. ⌜ r ≡ allBelow 16 (admittedBit (policyAs policy) bits) ⌝ }
 {
+    let mut admitted = true;
     let mut left = bits;
     let mut b = 0;
     while 0 < left {
-        if !bit_admitted(policy, bits, b) {
-            return false;
-        }
+        admitted = bit_admitted(policy, bits, b) & admitted;
         left = left / 2;
         b += 1;
     }
-    true
+    admitted
 }
 
 // Whether a record names a key by the hash that flag f announces: the key is there, the flag is set, and the hash is the key's.

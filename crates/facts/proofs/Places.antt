@@ -13,7 +13,7 @@ use Rattle.rules.specs.Basics.{if_then_else_, Bytes, part, kind, byte, orNext, 
 use Rattle.rules.specs.Bundle.{firstRecord, numbered, policyRecord}
 use Rattle.rules.proofs.Rows.{rows-start, rows-lent, rows-end, lentRecord, lent-record, kind-at}
 use Rattle.facts.specs.Found.{orEmpty}
-use Rattle.facts.specs.Places.{entries, unasked, entryOf, entered, endingAt, PlaceOf, Filling, Found}
+use Rattle.facts.specs.Places.{entries, unasked, entryOf, entered, noted, notedFrom, placesOf, endingAt, PlaceOf, Filling, Found}
 
 -- An entry is one of the table's.
 pub entry-below : (k n i : ℕ) → i ≡ entryOf k n → i < entries
@@ -118,6 +118,32 @@ module _ (s : Bytes) (places : List ℕ) (at : ℕ) (f : Filling s places (recor
         pick i l false q =
             let n : i ≡ j → ⊥ = λ d. eqb-false j i q (sym d) in
             rw (getD-set-other places j i (at + 64) 0 n) (passed i (getD places i 0) (f .each i l) (eqb-false j i q))
+
+-- The table as it is noted: what is left of the records leads to the bundle's.
+pub noted-start : (s : Bytes) (places : List ℕ) → places ≡ replicate entries 0 → notedFrom places 0 (recordsFrom s 0) ≡ placesOf s
+noted-start s places e = rw (e, rows-start s)
+
+module _ (s : Bytes) (places : List ℕ) (at : ℕ) (n : notedFrom places at (recordsFrom s at) ≡ placesOf s) where
+  pub noted-done : length s - at < 64 → places ≡ placesOf s
+  unfolding notedFrom
+  noted-done h = sym (ap (notedFrom places at) (rows-end s at h)) ∙ n
+
+  module _ (j : ℕ) (h : 64 ≤ length s - at) (e : j ≡ entryOf (getD s at 0) (getD s (at + 4) 0)) where
+    entry-here : entryOf (kind (lentRecord s at)) (byte 4 (lentRecord s at)) ≡ j
+    entry-here = rw (lent-record s at, kind-at s at, number-at s at) (sym e)
+
+    one-noted : notedFrom (noted places j (at + 64)) (at + 64) (recordsFrom s (at + 64)) ≡ placesOf s
+    unfolding notedFrom
+    one-noted =
+        sym (ap (notedFrom places at) (rows-lent s at h) ∙ ap (λ (i : ℕ). notedFrom (noted places i (at + 64)) (at + 64) (recordsFrom s (at + 64))) entry-here) ∙ n
+
+    pub noted-kept : (getD places j 0 ≡ 0 → ⊥) → notedFrom places (at + 64) (recordsFrom s (at + 64)) ≡ placesOf s
+    unfolding noted
+    noted-kept k = let q : noted places j (at + 64) ≡ places = rw (ne-eqb (getD places j 0) 0 k) in rw q at one-noted
+
+    pub noted-put : getD places j 0 ≡ 0 → notedFrom (set places j (at + 64)) (at + 64) (recordsFrom s (at + 64)) ≡ placesOf s
+    unfolding noted
+    noted-put z = let q : noted places j (at + 64) ≡ set places j (at + 64) = rw (eq-eqb (getD places j 0) 0 z) in rw q at one-noted
 
 -- What the place of an entry says.
 or-none : (o : Option Bytes) → orNext o none ≡ o

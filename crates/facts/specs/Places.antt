@@ -1,10 +1,10 @@
 -- A table of places in a bundle: where the records stand that the desk asks for.
 use Prim.Native.Nat.{ℕ, _+_, _-_, _≤_, _<_}
 use mathlib.Core.Path.{_≡_}
-use mathlib.Core.List.{List, []}
+use mathlib.Core.List.{List, [], _∷_}
 use mathlib.Core.Option.{Option, none, some}
 use mathlib.Core.Bool.{Bool, _&&_}
-use lib.ListN.{length, getD}
+use lib.ListN.{length, getD, set, replicate}
 use lib.Dec.{eqb, ltb}
 use Rattle.rules.specs.Sizes.{recordBytes}
 use Rattle.rules.specs.Basics.{if_then_else_, Bytes, part, byte, kind, orNext, records}
@@ -28,6 +28,19 @@ entryOf k n =
 -- a record of an entry
 unfoldable pub entered : ℕ → Bytes → Bool
 entered i r = eqb (entryOf (kind r) (byte 4 r)) i
+
+-- a table in which the end of a record of an entry is noted: the first of an entry counts
+unfoldable pub noted : List ℕ → ℕ → ℕ → List ℕ
+noted places i end = if eqb (getD places i 0) 0 then set places i end else places
+
+-- .. those of all records, of which the first begins at a byte
+unfoldable pub notedFrom : List ℕ → ℕ → List Bytes → List ℕ
+notedFrom places at [] = places
+notedFrom places at (r ∷ rs) = notedFrom (noted places (entryOf (kind r) (byte 4 r)) (at + recordBytes)) (at + recordBytes) rs
+
+-- the table of a bundle: of each entry the byte at which its first record ends, 0 where there is none
+abbrev pub placesOf : Bytes → List ℕ
+placesOf s = notedFrom (replicate entries 0) 0 (records s)
 
 -- the record that ends at a byte; none ends at 0
 unfoldable pub endingAt : Bytes → ℕ → Option Bytes

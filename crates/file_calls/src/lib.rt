@@ -1,5 +1,8 @@
 // The calls of a replay script (docs/REPLAY.md) that know of no ledger: the desk, the subject writer, the listings and the trimming tool. Each makes the
-// call and prints its line.
+// call and prints its line; what writes into lent buffers leaves them as the definition has it. No contract can say what is printed.
+ghost use mathlib.Core.Path.{_≡_};
+ghost use Rattle.rules.specs.Trim.{trimAclBuffer, trimHintBuffer};
+ghost use Rattle.file_calls.specs.Letters.{bufferAfter};
 use printing::print;
 use steps::Step;
 use subject::Written;
@@ -37,7 +40,9 @@ fn print_listed(reply: listing::Reply) {
 }
 
 // The answer to a letter: a subject, or a listing written or read.
-fn answer(letter: u8, first: u64, second: u64, given: &[u8], buffer: &mut [u8]) {
+fn answer(letter: u8, first: u64, second: u64, given: &[u8], buffer: &mut [u8])
+    ensures { λ _. ⌜ now (buffer .exit) ≡ bufferAfter letter first second (now (given .entry)) (now (buffer .entry)) ⌝ }
+{
     if letter == b'S' {
         print_written(subject::write_subject(first, second, given, buffer));
         return;
@@ -50,7 +55,9 @@ fn answer(letter: u8, first: u64, second: u64, given: &[u8], buffer: &mut [u8]) 
 }
 
 // A call that writes into a lent buffer, and the whole buffer after it.
-pub fn buffer_call(k: u64, letter: u8, first: u64, second: u64, given: &[u8], buffer: &mut [u8]) {
+pub fn buffer_call(k: u64, letter: u8, first: u64, second: u64, given: &[u8], buffer: &mut [u8])
+    ensures { λ _. ⌜ now (buffer .exit) ≡ bufferAfter letter first second (now (given .entry)) (now (buffer .entry)) ⌝ }
+{
     printing::print_line(k);
     answer(letter, first, second, given, buffer);
     print(b" ");
@@ -78,7 +85,10 @@ fn print_trimmed(reply: TrimReply) {
 }
 
 // A trimming, and both buffers after it.
-pub fn trim_call(k: u64, bundle: &[u8], acl: &[u8], new: &mut [u8], hints: &mut [u8]) {
+pub fn trim_call(k: u64, bundle: &[u8], acl: &[u8], new: &mut [u8], hints: &mut [u8])
+    ensures trimmed { λ _. ⌜ now (new .exit) ≡ trimAclBuffer (now (bundle .entry)) (now (acl .entry)) (now (new .entry)) (now (hints .entry)) ⌝ }
+    ensures hinted { λ _. ⌜ now (hints .exit) ≡ trimHintBuffer (now (bundle .entry)) (now (acl .entry)) (now (new .entry)) (now (hints .entry)) ⌝ }
+{
     printing::print_line(k);
     print_trimmed(trimming::trim(bundle, acl, new, hints));
     print(b" ");

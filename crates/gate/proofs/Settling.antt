@@ -9,7 +9,7 @@ use Rattle.rules.specs.Basics.{Bytes, records}
 use Rattle.rules.specs.Acl.{Limit, Group, aclOf, aclFault}
 use Rattle.rules.specs.Request.{Request, requestOf}
 use Rattle.rules.specs.Ledger.{Ledger, charge}
-use Rattle.rules.specs.Gate.{Answer, refuse, Outcome, Denial, early, unadmitted, uncertified, exhausted, Judgement, granted, denied, judge, refusedNear, refused, settle, outcomeUnless, requestFiles, request}
+use Rattle.rules.specs.Gate.{Answer, done, permit, refuse, Outcome, Denial, early, unadmitted, uncertified, exhausted, Judgement, granted, denied, judge, refusedNear, refused, settle, outcomeUnless, requestFiles, request}
 use Rattle.rules.proofs.Laws.{never}
 use Rattle.groups.specs.Parts.{firstLimits}
 use Rattle.refusals.specs.declared.Denial as code
@@ -25,7 +25,7 @@ use Rattle.judging.specs.Standings.{denialFor, judgedFor}
 use Rattle.charging.specs.Charges.{permitIf, decided, countersCharged, countsCharged, lastAfter}
 use Rattle.charging.proofs.Granting.{granted-limits, counters-room, count-room-for}
 use Rattle.gate_files.proofs.Passed.{files-sound, no-fault, a-fault}
-use Rattle.gate.specs.Outcomes.{chargedWith, permittedIf, outcomeWith, Settles}
+use Rattle.gate.specs.Outcomes.{chargedWith, chargedBy, permittedIf, outcomeWith, Settles}
 
 -- The group that grants is charged by the limits that stand at its place.
 module _ (l : Ledger) (km0 : Bytes) (gs : List Group) (q : Request) where
@@ -126,6 +126,21 @@ module _ (km0 acl req : Bytes) (x : Checked) (e : faultAs x ≡ requestFiles km0
       let n = no-fault _ x e p in
       settles-judged l km0 acl (requestOf req) true j a countsCharged (request l km0 acl req) (files-sound km0 acl req n .1) f d
       (not-refused l (requestFiles km0 acl req) _ _ n (settled-by l km0 (aclOf acl) (requestOf req) true j a _ _ f d refl refl))
+
+-- A charge, table by table, is that of the answer.
+charged-by : (l : Ledger) (gs : List Group) (time : ℕ) (a : Answer) → outcomeWith a (countsCharged a (l .counts)) (countersCharged gs a (l .counters)) (l .loaded) (l .last) time ≡ chargedBy l gs time a
+charged-by l gs time done = refl
+charged-by l gs time (permit k) = refl
+charged-by l gs time (refuse n near) = refl
+
+pub tables-charged : (l : Ledger) (gs : List Group) (time : ℕ) (a : Answer) (counts counters : List ℕ) (n : ℕ) → counters ≡ countersCharged gs a (l .counters) → counts ≡ countsCharged a (l .counts)
+    → n ≡ lastAfter a (l .last) time
+    → record { answer = a; ledger = record { counts = counts; counters = counters; loaded = l .loaded; last = n } } ≡ chargedBy l gs time a
+tables-charged l gs time a counts counters n f g e = rw (f, g) (settled-is a _ _ (l .loaded) (l .last) time time n (chargedBy l gs time a) e refl (charged-by l gs time a))
+
+-- A request that is settled is charged by its answer.
+pub settles-charged : (l : Ledger) (gs : List Group) (time : ℕ) (a : Answer) (o r : Outcome) (when : ℕ) → Settles l gs time countsCharged a o → when ≡ time → r ≡ chargedBy l gs when a → r ≡ o
+settles-charged l gs time a o r when s w e = e ∙ rw w (sym (charged-by l gs time a) ∙ s .settled)
 
 -- The tables that a settled call leaves, and its last time, are the outcome's.
 pub settles-outcome : (l : Ledger) (gs : List Group) (time : ℕ) (after : Answer → List ℕ → List ℕ) (a : Answer) (o : Outcome) (counts counters : List ℕ) (when n : ℕ) → Settles l gs time after a o

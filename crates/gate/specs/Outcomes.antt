@@ -3,12 +3,14 @@ use Prim.Native.Nat.{ℕ}
 use mathlib.Core.List.{List}
 use mathlib.Core.Path.{_≡_}
 use mathlib.Core.Bool.{Bool}
+use lib.ListN.{drop}
 use Rattle.rules.specs.Numbers.{notNarrower}
 use Rattle.rules.specs.Basics.{if_then_else_}
 use Rattle.rules.specs.Acl.{Limit, Group}
 use Rattle.rules.specs.Request.{Hint}
 use Rattle.rules.specs.Ledger as rules
 use Rattle.rules.specs.Gate as rulesGate
+use Rattle.groups.specs.Parts.{firstLimits}
 use Rattle.gate.specs.declared.Ledger.{Ledger}
 use Rattle.gate.specs.declared.Outcome.{Outcome}
 use Rattle.charging.specs.Charges.{answerAs, CountersRoom, CountRoom, countersCharged, countsCharged, lastAfter}
@@ -31,6 +33,12 @@ chargedWith l place ms time =
       loaded = l .loaded;
       last = time;
     }
+
+-- what an answer charges: a permit its group, by the limits at its place; without one the ledger is unchanged
+abbrev pub chargedBy : rules.Ledger → List Group → ℕ → rulesGate.Answer → rulesGate.Outcome
+chargedBy l gs time rulesGate.done = record { answer = rulesGate.done; ledger = l }
+chargedBy l gs time (rulesGate.permit place) = rulesGate.permitted place (chargedWith l place (firstLimits (drop place gs)) time)
+chargedBy l gs time (rulesGate.refuse n near) = record { answer = rulesGate.refuse n near; ledger = l }
 
 -- what a permit comes to where hints may have to show a narrowing: "Any breach .. gives 8", and the ledger stands
 unfoldable pub permittedIf : rules.Ledger → Bool → ℕ → rules.Ledger → rulesGate.Outcome

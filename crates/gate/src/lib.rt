@@ -6,9 +6,9 @@ ghost use Rattle.rules.specs.Ledger.{freshLedger};
 ghost use Rattle.rules.specs.Gate.{load, clear, request, refused, narrow, expand};
 ghost use Rattle.refusals.specs.Refusals.{refusalNumber};
 ghost use Rattle.judging.specs.Standings.{ledgerOfTables};
-ghost use Rattle.charging.specs.Charges.{answerAs, countsCharged};
+ghost use Rattle.charging.specs.Charges.{answerAs, CountersRoom, CountRoom, countsCharged};
 ghost use Rattle.carrying.specs.Carried.{noCounts, countsAfter};
-ghost use Rattle.gate.specs.Outcomes.{ledgerAs, outcomeAs, narrowedCounts, Settles};
+ghost use Rattle.gate.specs.Outcomes.{ledgerAs, outcomeAs, chargedBy, narrowedCounts, Settles};
 use charging::Reply;
 use files::Checked;
 use refusals::Refusal;
@@ -30,7 +30,9 @@ pub struct Outcome {
 }
 
 impl Ledger {
-    // Table sizes.
+    // Record length and table sizes.
+    pub const RECORD: usize = sizes::RECORD;
+
     pub const GROUPS: usize = sizes::GROUPS;
 
     pub const COUNTERS: usize = sizes::COUNTERS;
@@ -85,8 +87,8 @@ impl Ledger {
     }
 }
 
-// The reply to a request for a use or a blob, from tables lent for reading: what it charges and what becomes of the last time is left to the caller, who
-// has the tables.
+// The reply to a request for a use or a blob, from tables lent for reading. It charges nothing: a permit still has to be charged by the caller, who has the
+// tables and the last time. It is public only because `cabinet` and `in_place` charge tables of their own; a host calls an entry point, which does both.
 pub fn request_reply<'a>(
     counts: &'a [u32; Ledger::GROUPS],
     counters: &'a [u32; Ledger::COUNTERS],
@@ -109,25 +111,36 @@ pub fn request_reply<'a>(
 }
 
 impl Ledger {
-    // A request for a use or a blob: KM0, the ACL, the request with its certificates. Any bytes get a reply; a refusal hands the ledger back as it was.
-    // The tables are charged where they stand, one after the other.
-    pub fn request(mut self, km0: &[u8], acl: &[u8], req: &[u8]) -> Outcome
-        ensures { λ r. ⌜ outcomeAs r ≡ request (ledgerAs self) (now (km0 .entry)) (now (acl .entry)) (now (req .entry)) ⌝ }
+    // The charge: where the reply permits, the group's own count and each counter that it names plus 1, and the last time set to the request's; else the
+    // ledger is unchanged. The tables are charged where they stand, one after the other. It is private: a host that could charge by itself could charge
+    // what was not permitted.
+    fn charge(mut self, reply: Reply, acl: &[u8], time: u64) -> Outcome
+        requires { ⌜ CountersRoom (self .counters) (aclOf (now acl)) (answerAs reply) × CountRoom (self .counts) (answerAs reply) ⌝ }
+        ensures { λ r. ⌜ outcomeAs r ≡ chargedBy (ledgerAs self) (aclOf (now (acl .entry))) time (answerAs reply) ⌝ }
     {
-        let loaded = self.loaded;
-        let last = self.last;
-        let reply = request_reply(&self.counts, &self.counters, loaded, last, km0, acl, req);
         charging::charge_counters(&mut self.counters, reply, acl);
         charging::charge_count(&mut self.counts, reply);
-        self.last = charging::last_after(reply, last, request::time(req));
+        let last = self.last;
+        self.last = charging::last_after(reply, last, time);
         Outcome {
             ledger: self,
             reply,
         }
     }
+
+    // A request for a use or a blob: KM0, the ACL, the request with its certificates. Any bytes get a reply; a refusal hands the ledger back as it was.
+    pub fn request(self, km0: &[u8], acl: &[u8], req: &[u8]) -> Outcome
+        ensures { λ r. ⌜ outcomeAs r ≡ request (ledgerAs self) (now (km0 .entry)) (now (acl .entry)) (now (req .entry)) ⌝ }
+    {
+        let loaded = self.loaded;
+        let last = self.last;
+        let reply = request_reply(&self.counts, &self.counters, loaded, last, km0, acl, req);
+        self.charge(reply, acl, request::time(req))
+    }
 }
 
-// The reply to a narrowing, from tables lent for reading.
+// The reply to a narrowing, from tables lent for reading. It charges nothing, and is public only for `cabinet` and `in_place`, which charge a permit
+// and carry the group counts over themselves.
 pub fn narrow_reply<'a>(
     counts: &'a [u32; Ledger::GROUPS],
     counters: &'a [u32; Ledger::COUNTERS],
@@ -151,7 +164,8 @@ pub fn narrow_reply<'a>(
     }
 }
 
-// The reply to an expansion, from tables lent for reading.
+// The reply to an expansion, from tables lent for reading. It charges nothing, and is public only for `cabinet` and `in_place`, which charge a permit
+// and zero the group counts themselves.
 pub fn expand_reply<'a>(
     counts: &'a [u32; Ledger::GROUPS],
     counters: &'a [u32; Ledger::COUNTERS],

@@ -1,15 +1,24 @@
 // The calls of a replay script (docs/REPLAY.md) on the ledger and on the cabinet, by their letters. Each makes the call, prints its line and hands the
-// ledger or the cabinet back.
+// ledger or the cabinet back: that of the definition which the letter stands for. No contract can say what is printed.
+ghost use mathlib.Core.Path.{_≡_};
+ghost use Rattle.gate.specs.Outcomes.{ledgerAs, outcomeAs};
+ghost use Rattle.cabinet.specs.Kept.{cabinetAs, cabinetOutcomeAs};
+ghost use Rattle.gate_calls.specs.Letters.{isLedgers, ledgerAnswer, isCabinets, cabinetAnswer, slotOf};
 use cabinet::Cabinet;
 use cabinet::CabinetOutcome;
 use gate::Ledger;
 use gate::Outcome;
 
-pub fn is_ledgers(letter: u8) -> bool {
-    match letter {
-        b'F' | b'L' | b'C' | b'R' | b'N' | b'X' => true,
-        _ => false,
-    }
+// Whether a letter is one of the ledger's.
+pub fn is_ledgers(letter: u8) -> bool
+    ensures { λ r. ⌜ r ≡ isLedgers letter ⌝ }
+{
+    (letter == b'F')
+        | (letter == b'L')
+        | (letter == b'C')
+        | (letter == b'R')
+        | (letter == b'N')
+        | (letter == b'X')
 }
 
 // The answer to a letter of the ledger's: fresh, load, clear, request, narrow or expand.
@@ -22,7 +31,9 @@ fn ledger_answer(
     req: &[u8],
     new: &[u8],
     hints: &[u8],
-) -> Outcome {
+) -> Outcome
+    ensures { λ r. ⌜ outcomeAs r ≡ ledgerAnswer (ledgerAs ledger) letter number (now (km0 .entry)) (now (acl .entry)) (now (req .entry)) (now (new .entry)) (now (hints .entry)) ⌝ }
+{
     if letter == b'F' {
         return outcomes::fresh_ledger();
     }
@@ -52,16 +63,23 @@ pub fn ledger_call(
     req: &[u8],
     new: &[u8],
     hints: &[u8],
-) -> Ledger {
+) -> Ledger
+    ensures { λ r. ⌜ ledgerAs r ≡ ledgerAnswer (ledgerAs before) letter number (now (km0 .entry)) (now (acl .entry)) (now (req .entry)) (now (new .entry)) (now (hints .entry)) .ledger ⌝ }
+{
     let o = ledger_answer(before, letter, number, km0, acl, req, new, hints);
     outcomes::ledger_line(k, o)
 }
 
-pub fn is_cabinets(letter: u8) -> bool {
-    match letter {
-        b'f' | b'l' | b'c' | b'r' | b'n' | b'x' => true,
-        _ => false,
-    }
+// Whether a letter is one of the cabinet's.
+pub fn is_cabinets(letter: u8) -> bool
+    ensures { λ r. ⌜ r ≡ isCabinets letter ⌝ }
+{
+    (letter == b'f')
+        | (letter == b'l')
+        | (letter == b'c')
+        | (letter == b'r')
+        | (letter == b'n')
+        | (letter == b'x')
 }
 
 // The answer to a letter of the cabinet's: the same. The place is a slot's, or of a clear the counter's.
@@ -75,7 +93,9 @@ fn cabinet_answer(
     req: &[u8],
     new: &[u8],
     hints: &[u8],
-) -> CabinetOutcome {
+) -> CabinetOutcome
+    ensures { λ r. ⌜ cabinetOutcomeAs r ≡ cabinetAnswer (cabinetAs cabinet) letter place time (now (km0 .entry)) (now (acl .entry)) (now (req .entry)) (now (new .entry)) (now (hints .entry)) ⌝ }
+{
     if letter == b'f' {
         return outcomes::fresh_cabinet();
     }
@@ -95,7 +115,9 @@ fn cabinet_answer(
 }
 
 // The slot that a cabinet call names; past the last where it takes none.
-fn slot_of(letter: u8, place: usize) -> usize {
+fn slot_of(letter: u8, place: usize) -> usize
+    ensures { λ r. ⌜ r ≡ slotOf letter place ⌝ }
+{
     if (letter == b'f') | (letter == b'c') {
         return Cabinet::SLOTS;
     }
@@ -114,7 +136,9 @@ pub fn cabinet_call(
     req: &[u8],
     new: &[u8],
     hints: &[u8],
-) -> Cabinet {
+) -> Cabinet
+    ensures { λ r. ⌜ cabinetAs r ≡ cabinetAnswer (cabinetAs before) letter first second (now (km0 .entry)) (now (acl .entry)) (now (req .entry)) (now (new .entry)) (now (hints .entry)) .cabinet ⌝ }
+{
     let place = first as usize;
     let o = cabinet_answer(before, letter, place, second, km0, acl, req, new, hints);
     outcomes::cabinet_line(k, o, slot_of(letter, place))

@@ -1,4 +1,11 @@
-// Prints what the gate and the cabinet answer: the reply, and the ledger or the slot as it now is.
+// Prints what the gate and the cabinet answer: the reply, and the ledger or the slot as it now is. What hands a ledger or a cabinet back hands back the one
+// that it was given. No contract can say what is printed.
+ghost use mathlib.Core.Path.{_≡_};
+ghost use Rattle.rules.specs.Ledger.{freshLedger};
+ghost use Rattle.rules.specs.Gate.{done};
+ghost use Rattle.rules.specs.Cabinet.{freshCabinet};
+ghost use Rattle.gate.specs.Outcomes.{outcomeAs};
+ghost use Rattle.cabinet.specs.Kept.{cabinetOutcomeAs};
 use cabinet::Cabinet;
 use cabinet::CabinetOutcome;
 use cabinet::Slot;
@@ -9,7 +16,9 @@ use printing::print;
 use refusals::Denial;
 
 // A fresh ledger, as the outcome of a call.
-pub fn fresh_ledger() -> Outcome {
+pub fn fresh_ledger() -> Outcome
+    ensures { λ r. ⌜ outcomeAs r ≡ record { answer = done; ledger = freshLedger } ⌝ }
+{
     Outcome {
         ledger: Ledger::fresh(),
         reply: Reply::Done,
@@ -17,7 +26,9 @@ pub fn fresh_ledger() -> Outcome {
 }
 
 // A fresh cabinet, as the outcome of a call.
-pub fn fresh_cabinet() -> CabinetOutcome {
+pub fn fresh_cabinet() -> CabinetOutcome
+    ensures { λ r. ⌜ cabinetOutcomeAs r ≡ record { answer = done; cabinet = freshCabinet } ⌝ }
+{
     CabinetOutcome {
         cabinet: Cabinet::fresh(),
         reply: Reply::Done,
@@ -48,7 +59,9 @@ fn print_denial(why: Denial) {
 }
 
 // The ledger, which ends a line, and the ledger handed back.
-pub fn print_ledger(ledger: Ledger) -> Ledger {
+pub fn print_ledger(ledger: Ledger) -> Ledger
+    ensures { λ r. ⌜ r ≡ ledger ⌝ }
+{
     let counts = ledger.counts;
     let counters = ledger.counters;
     printing::print_used(ledger.loaded, ledger.last, &counts);
@@ -57,7 +70,9 @@ pub fn print_ledger(ledger: Ledger) -> Ledger {
 }
 
 // The line of a ledger call, and the ledger handed back.
-pub fn ledger_line(k: u64, o: Outcome) -> Ledger {
+pub fn ledger_line(k: u64, o: Outcome) -> Ledger
+    ensures { λ r. ⌜ r ≡ o .ledger ⌝ }
+{
     let reply = o.reply;
     let ledger = o.ledger;
     printing::print_line(k);
@@ -80,7 +95,9 @@ fn print_slot_of(cabinet: Cabinet, slot: usize) {
 }
 
 // The line of a cabinet call, and the cabinet handed back. The slot is past the last where the call takes none.
-pub fn cabinet_line(k: u64, o: CabinetOutcome, slot: usize) -> Cabinet {
+pub fn cabinet_line(k: u64, o: CabinetOutcome, slot: usize) -> Cabinet
+    ensures { λ r. ⌜ r ≡ o .cabinet ⌝ }
+{
     let reply = o.reply;
     let cabinet = o.cabinet;
     let counters = cabinet.counters;

@@ -14,7 +14,7 @@ use Rattle.rules.specs.Sizes.{groupsMax}
 use Rattle.rules.specs.Basics.{Bytes, Every, part, records, recordsFrom}
 use Rattle.rules.specs.Acl.{groupOf, groupsOf, aclOf}
 use Rattle.rules.proofs.Rows.{rows-start, rows-at, rows-end, kind-at}
-use Rattle.prepared.specs.Places.{Inside, BodyAt, Bodies}
+use Rattle.prepared.specs.Places.{bodiesFrom, Inside, BodyAt, Bodies}
 
 -- Where filling stands: g groups are found, the others are those of the records from the byte `at` on.
 pub record Filling (acl : Bytes) (bodies : List ℕ) (g at : ℕ) : Type 0 where
@@ -105,3 +105,20 @@ module _ (acl : Bytes) (bodies : List ℕ) (g at : ℕ) (f : Filling acl bodies 
         pick k l false q =
             let n : k ≡ g → ⊥ = eqb-false k g q in
             rw (getD-set-other bodies g k (at + 64) 0 n) (f .filled k (omega arith))
+
+-- The table as it is put: what is left of the records leads to the whole file's.
+pub put-start : (acl : Bytes) (bodies : List ℕ) → bodiesFrom bodies 0 0 (recordsFrom acl 0) ≡ bodiesFrom bodies 0 0 (records acl)
+put-start acl bodies = ap (bodiesFrom bodies 0 0) (rows-start acl)
+
+module _ (acl : Bytes) (bodies whole : List ℕ) (g at : ℕ) (p : bodiesFrom bodies g at (recordsFrom acl at) ≡ whole) where
+  pub put-done : length acl - at < 64 → bodies ≡ whole
+  unfolding bodiesFrom
+  put-done h = sym (ap (bodiesFrom bodies g at) (rows-end acl at h)) ∙ p
+
+  pub put-skip : 64 ≤ length acl - at → (getD acl at 0 ≡ 1 → ⊥) → bodiesFrom bodies g (at + 64) (recordsFrom acl (at + 64)) ≡ whole
+  unfolding bodiesFrom
+  put-skip h n = sym (ap (bodiesFrom bodies g at) (rows-at acl at h) ∙ rw (kind-at acl at, ne-eqb (getD acl at 0) 1 n)) ∙ p
+
+  pub put-next : (next : List ℕ) (n : ℕ) → 64 ≤ length acl - at → getD acl at 0 ≡ 1 → next ≡ set bodies g (at + 64) → n ≡ g + 1 → bodiesFrom next n (at + 64) (recordsFrom acl (at + 64)) ≡ whole
+  unfolding bodiesFrom
+  put-next next n h e a b = rw (a, b) (sym (ap (bodiesFrom bodies g at) (rows-at acl at h) ∙ rw (kind-at acl at, eq-eqb (getD acl at 0) 1 e)) ∙ p)

@@ -1,12 +1,20 @@
 -- What a table of places in an ACL file says.
-use Prim.Native.Nat.{ℕ, _-_, _≤_, _<_}
-use mathlib.Core.List.{List}
+use Prim.Native.Nat.{ℕ, _+_, _-_, _≤_, _<_}
+use mathlib.Core.List.{List, [], _∷_}
 use mathlib.Core.Path.{_≡_}
 use mathlib.Core.Option.{some}
-use lib.ListN.{length, getD, drop, getElem?}
+use lib.ListN.{length, getD, set, drop, getElem?}
+use lib.Dec.{eqb}
 use Rattle.rules.specs.Sizes.{recordBytes, groupsMax}
-use Rattle.rules.specs.Basics.{Bytes, Every, part, records}
+use Rattle.rules.specs.Basics.{if_then_else_, Bytes, Every, part, kind, records}
 use Rattle.rules.specs.Acl.{groupOf, aclOf}
+
+-- a table in which the places of the groups are put, from number g on, of records of which the first begins at a byte; those past the last group stay
+unfoldable pub bodiesFrom : List ℕ → ℕ → ℕ → List Bytes → List ℕ
+bodiesFrom bodies g at [] = bodies
+bodiesFrom bodies g at (r ∷ rs) =
+    if eqb (kind r) 1 then bodiesFrom (set bodies g (at + recordBytes)) (g + 1) (at + recordBytes) rs
+    else bodiesFrom bodies g (at + recordBytes) rs
 
 -- every place of a table stands in a file, or at its end
 unfoldable pub Inside : Bytes → List ℕ → Type 0

@@ -5,12 +5,12 @@ ghost use mathlib.Core.Path.{_≡_};
 ghost use Prim.Native.Nat.{_≤_, _<_, _+_, _*_};
 ghost use lib.ListN.{length, set};
 ghost use Rattle.rules.specs.Sizes.{setBits, permissionsMax, groupsMax};
-ghost use Rattle.rules.specs.Basics.{Every, same};
+ghost use Rattle.rules.specs.Basics.{Every, same, records};
 ghost use Rattle.rules.specs.Acl.{aclOf};
 ghost use Rattle.rules.specs.Prepared.{formOf, unprepared, prepare, sameForm};
 ghost use Rattle.refusals.specs.Refusals.{refusalNumber};
 ghost use Rattle.prepared.specs.Forms.{formAs, preparationAs, preparationFor, doubled};
-ghost use Rattle.prepared.specs.Places.{Inside, Bodies};
+ghost use Rattle.prepared.specs.Places.{bodiesFrom, Inside, Bodies};
 use files::Checked;
 use refusals::Refusal;
 
@@ -166,7 +166,7 @@ fn put_body(bodies: &mut [usize; sizes::GROUPS], g: usize, at: usize) -> usize
 // The table of those places. Places past the last group stay.
 pub fn fill_bodies(bodies: &mut [usize; sizes::GROUPS], acl: &[u8])
     requires { ⌜ (length (now bodies) ≡ groupsMax) × Inside (now acl) (now bodies) × (length (aclOf (now acl)) ≤ groupsMax) ⌝ }
-    ensures { λ _. ⌜ Bodies (now (acl .entry)) (now (bodies .exit)) ⌝ }
+    ensures { λ _. ⌜ Bodies (now (acl .entry)) (now (bodies .exit)) × (now (bodies .exit) ≡ bodiesFrom (now (bodies .entry)) 0 0 (records (now (acl .entry)))) ⌝ }
 {
     let mut g = 0;
     let mut at = 0;

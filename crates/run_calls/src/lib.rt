@@ -1,7 +1,12 @@
 // The calls of a replay script (docs/REPLAY.md) that run many requests on the ledger, and the one that prepares an ACL for them. Each makes the call and
-// prints its line; a run hands the ledger back.
+// prints its line; a run hands back the ledger, and leaves the buffer, of the definition that its letter stands for. No contract can say what is printed.
 ghost use mathlib.Core.Path.{_≡_};
 ghost use lib.ListN.{length};
+ghost use Rattle.rules.specs.Sizes.{permissionsMax};
+ghost use Rattle.gate.specs.Outcomes.{ledgerAs};
+ghost use Rattle.prepared.specs.Forms.{formAs};
+ghost use Rattle.runs.specs.Judged.{runOutcomeAs};
+ghost use Rattle.run_calls.specs.Letters.{formBytes, usesGiven, formGiven, runAnswer};
 use files::Checked;
 use gate::Ledger;
 use prepared::Prepared;
@@ -11,7 +16,8 @@ use runs::RunReply;
 
 // The sets of the permissions, at the front of a form's bytes.
 fn uses_of(bytes: &[u8]) -> [u64; sizes::PERMISSIONS]
-    requires { ⌜ length (now bytes) ≡ 144 ⌝ }
+    requires { ⌜ length (now bytes) ≡ formBytes ⌝ }
+    ensures { λ r. ⌜ r ≡ usesGiven (now (bytes .entry)) permissionsMax ⌝ }
 {
     let mut uses = [0u64; sizes::PERMISSIONS];
     let mut i = 0;
@@ -24,7 +30,8 @@ fn uses_of(bytes: &[u8]) -> [u64; sizes::PERMISSIONS]
 
 // A form that is given as bytes: eighteen numbers, big-endian.
 fn form_of(bytes: &[u8]) -> Prepared
-    requires { ⌜ length (now bytes) ≡ 144 ⌝ }
+    requires { ⌜ length (now bytes) ≡ formBytes ⌝ }
+    ensures { λ r. ⌜ formAs r ≡ formGiven (now (bytes .entry)) ⌝ }
 {
     let uses = uses_of(bytes);
     Prepared {
@@ -45,7 +52,8 @@ fn answer(
     requests: &[u8],
     answers: &mut [u8],
 ) -> RunOutcome
-    requires { ⌜ length (now form) ≡ 144 ⌝ }
+    requires { ⌜ length (now form) ≡ formBytes ⌝ }
+    ensures { λ r. ⌜ runOutcomeAs r (now (answers .exit)) ≡ runAnswer (ledgerAs ledger) letter (now (form .entry)) (now (km0 .entry)) (now (acl .entry)) (now (row .entry)) (now (requests .entry)) (now (answers .entry)) ⌝ }
 {
     if letter == b'B' {
         return lending::run(ledger, km0, acl, row, requests, answers);
@@ -75,7 +83,8 @@ pub fn run_call(
     requests: &[u8],
     answers: &mut [u8],
 ) -> Ledger
-    requires { ⌜ length (now form) ≡ 144 ⌝ }
+    requires { ⌜ length (now form) ≡ formBytes ⌝ }
+    ensures { λ r. ⌜ (ledgerAs r ≡ runAnswer (ledgerAs before) letter (now (form .entry)) (now (km0 .entry)) (now (acl .entry)) (now (row .entry)) (now (requests .entry)) (now (answers .entry)) .ledger) × (now (answers .exit) ≡ runAnswer (ledgerAs before) letter (now (form .entry)) (now (km0 .entry)) (now (acl .entry)) (now (row .entry)) (now (requests .entry)) (now (answers .entry)) .buffer) ⌝ }
 {
     let o = answer(before, letter, form, km0, acl, row, requests, answers);
     let reply = o.reply;

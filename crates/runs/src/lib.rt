@@ -62,7 +62,7 @@ fn run_known(
     requires { ⌜ Known (now acl) (formAs form) (now requests) (length (now answers)) ⌝ }
     ensures { λ r. ⌜ runOutcomeAs r (now (answers .exit)) ≡ runEnd (ledgerAs ledger) (now (requests .entry)) (now (answers .entry)) none (askedInOrder (askSets (now (km0 .entry)) (aclOf (now (acl .entry))) certified) (ledgerAs ledger) (records (now (requests .entry)))) ⌝ }
 {
-    let mut bodies = [0usize; sizes::GROUPS];
+    let mut bodies = [0usize; Ledger::GROUPS];
     prepared::fill_bodies(&mut bodies, acl);
     let mut counts = ledger.counts;
     let uses = form.uses;
@@ -84,7 +84,7 @@ fn run_known(
     ledger.counts = counts;
     RunOutcome {
         ledger,
-        reply: RunReply::Ran(requests.len() / sizes::RECORD),
+        reply: RunReply::Ran(requests.len() / Ledger::RECORD),
     }
 }
 
@@ -102,7 +102,7 @@ fn lengths_fit(most: usize, km0: &[u8], acl: &[u8], requests: &[u8]) -> bool
 fn answers_fit(requests: &[u8], room: usize) -> Checked
     ensures { λ r. ⌜ faultAs r ≡ unless (leb (requestsIn (now (requests .entry)) * answerBytes) room) shortBuffer ⌝ }
 {
-    if requests.len() / sizes::RECORD * sizes::ANSWER <= room {
+    if requests.len() / Ledger::RECORD * sizes::ANSWER <= room {
         return Checked::Sound;
     }
     Checked::Refused(Refusal::ShortBuffer)

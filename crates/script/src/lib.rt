@@ -1,7 +1,10 @@
 // Reads the calls of a replay script (docs/REPLAY.md) from standard input: a letter, then the numbers and the runs of bytes that its call takes. In every
-// call the numbers come first, two at most, then a form, if the call takes one, so that one walk reads them all.
+// call the numbers come first, two at most, then a form, if the call takes one, so that one walk reads them all. No contract can say what is read.
+ghost use mathlib.Core.Path.{_≡_};
+ghost use mathlib.Core.Bool.{_||_};
 ghost use Prim.Native.Nat.{_≤_};
-ghost use lib.ListN.{length};
+ghost use lib.ListN.{length, take};
+ghost use lib.Dec.{eqb};
 use libc::STDIN_FILENO;
 
 // The greatest length of a run of bytes.
@@ -43,7 +46,7 @@ pub enum Next {
 
 // A length, or the buffer's where that is less.
 pub fn within(s: &[u8], n: u64) -> usize
-    ensures { λ r. ⌜ r ≤ length (now (s .entry)) ⌝ }
+    ensures { λ r. ⌜ (r ≡ length (take n (now (s .entry)))) × (r ≤ length (now (s .entry))) ⌝ }
 {
     let m = n as usize;
     if s.len() < m {
@@ -53,7 +56,9 @@ pub fn within(s: &[u8], n: u64) -> usize
 }
 
 // The first n bytes, or all where there are fewer.
-pub fn prefix(s: &[u8], n: u64) -> &[u8] {
+pub fn prefix(s: &[u8], n: u64) -> &[u8]
+    ensures { λ r. ⌜ now r ≡ take n (now (s .entry)) ⌝ }
+{
     let m = within(s, n);
     &s[0..m]
 }
@@ -80,7 +85,9 @@ fn runs_of(letter: u8) -> u64 {
 }
 
 // Whether a call is a run of many requests.
-pub fn is_run(letter: u8) -> bool {
+pub fn is_run(letter: u8) -> bool
+    ensures { λ r. ⌜ r ≡ (eqb letter 66 || eqb letter 81) ⌝ }
+{
     (letter == b'B') | (letter == b'Q')
 }
 

@@ -4,7 +4,8 @@ ghost use mathlib.Core.Path.{_≡_};
 ghost use Prim.Native.Nat.{_<_};
 ghost use Rattle.rules.specs.Sizes.{slotsMax};
 ghost use Rattle.rules.specs.Basics.{Bytes};
-ghost use Rattle.rules.specs.Cabinet.{ledgerAt};
+ghost use Rattle.rules.specs.Cabinet.{ledgerAt, putBack};
+ghost use Rattle.gate.specs.Outcomes.{ledgerAs};
 ghost use Rattle.prepared.specs.Forms.{formAs};
 ghost use Rattle.row.specs.Rows.{rowAs};
 ghost use Rattle.runs.specs.Judged.{runOutcomeAs, runSeen, preparedSeen};
@@ -12,6 +13,7 @@ ghost use Rattle.cabinet.specs.Kept.{cabinetAs};
 ghost use Rattle.rules.specs.CabinetRuns.{ranAsGate, runInSlot, cabinetRun, cabinetPreparedRun};
 ghost use Rattle.slots.specs.Handed.{cabinetRanAs, notRun};
 use cabinet::Cabinet;
+use cabinet::Slot;
 use gate::Ledger;
 use prepared::Prepared;
 use refusals::Refusal;
@@ -26,6 +28,39 @@ pub struct CabinetRan {
     pub reply: RunReply,
 }
 
+// The ledger that a run is handed for a slot.
+fn slot_ledger(cabinet: Cabinet, slot: usize) -> Ledger
+    requires { ⌜ slot < slotsMax ⌝ }
+    ensures { λ r. ⌜ ledgerAs r ≡ ledgerAt (cabinetAs cabinet) slot ⌝ }
+{
+    let s = cabinet.slots[slot];
+    let counts = s.counts;
+    let counters = cabinet.counters;
+    Ledger {
+        counts,
+        counters,
+        loaded: s.loaded,
+        last: s.last,
+    }
+}
+
+// The cabinet with the ledger that a run handed back for a slot, put into its places.
+fn with_ledger(mut cabinet: Cabinet, slot: usize, l: Ledger) -> Cabinet
+    requires { ⌜ slot < slotsMax ⌝ }
+    ensures { λ r. ⌜ cabinetAs r ≡ putBack (cabinetAs cabinet) slot (ledgerAs l) ⌝ }
+{
+    let counts = l.counts;
+    let counters = l.counters;
+    let put = Slot {
+        counts,
+        loaded: l.loaded,
+        last: l.last,
+    };
+    cabinet.slots[slot] = put;
+    cabinet.counters = counters;
+    cabinet
+}
+
 // What the run handed back for a slot, put into its places.
 fn put_back(cabinet: Cabinet, slot: usize, o: RunOutcome) -> CabinetRan
     requires { ⌜ slot < slotsMax ⌝ }
@@ -34,7 +69,7 @@ fn put_back(cabinet: Cabinet, slot: usize, o: RunOutcome) -> CabinetRan
     let reply = o.reply;
     let ledger: Ledger = o.ledger;
     CabinetRan {
-        cabinet: cabinet.with_ledger(slot, ledger),
+        cabinet: with_ledger(cabinet, slot, ledger),
         reply,
     }
 }
@@ -64,7 +99,14 @@ fn run_judged(
     if Cabinet::SLOTS <= slot {
         return no_slot(cabinet);
     }
-    let o = runs::run_judged(cabinet.ledger(slot), km0, acl, seen, requests, answers);
+    let o = runs::run_judged(
+        slot_ledger(cabinet, slot),
+        km0,
+        acl,
+        seen,
+        requests,
+        answers,
+    );
     put_back(cabinet, slot, o)
 }
 
@@ -85,7 +127,7 @@ fn prepared_judged(
         return no_slot(cabinet);
     }
     let o = runs::prepared_judged(
-        cabinet.ledger(slot),
+        slot_ledger(cabinet, slot),
         km0,
         acl,
         seen,

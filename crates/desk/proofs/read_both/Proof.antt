@@ -1,4 +1,4 @@
-use Rattle.desk.proofs.Laws.{bad-lengths, good-lengths, refused}
+use Rattle.desk.proofs.Laws.{bad-lengths, good-lengths, table-kept, table-filled, refused}
 use borrow.Author.Needs.{needs}
 use Rattle.desk.proofs.read_both.Statement.{statement}
 use Rattle.desk.proofs.read_both.Tie as tie
@@ -10,7 +10,10 @@ whole-requires-2 : tie.Need-whole-requires-2
 whole-requires-2 c κs = search needs
 
 returns : tie.Need-returns
-returns c = (bad-lengths _ _ _ _ (c .before .before .whole .ensures) (c .before .whole2 .ensures) (c .if1 .taken), λ z. refused _ z)
+returns c =
+    let w = c .before .before .whole .ensures in
+    let v = c .before .whole2 .ensures in
+    (bad-lengths _ _ _ _ w v (c .if1 .taken), (λ z. refused _ z), table-kept _ _ _ _ w v _ (search needs) (c .if1 .taken))
 
 find-places-requires : tie.Need-find-places-requires
 find-places-requires c κs = search needs
@@ -36,7 +39,8 @@ returns-2 c =
     let l = b .before .before .before in (
       good-lengths _ _ _ _ (l .before .before .whole .ensures) (l .before .whole2 .ensures) _ _ _ _ _ (l .if1 .left) (c .first-fault2 .ensures) (c .before .first-fault .ensures)
           (b .bundle-records .ensures) (c .before .before .before .before .acl-records .ensures) (c .before .before .suite-known .ensures),
-      λ z. b .before .find-places .ensures,
+      (λ z. b .before .find-places .ensures .0),
+      table-filled _ _ _ _ (l .before .before .whole .ensures) (l .before .whole2 .ensures) _ (b .before .find-places .ensures .1) (l .if1 .left),
     )
 
 pub read-both-spec : {M : Type 1} → statement M

@@ -2,20 +2,20 @@ use Prim.Native.Nat.{_≤_, _-_}
 use mathlib.Core.Path.{_≡_}
 use lib.ListN.{length}
 use Rattle.rules.specs.Basics.{recordsFrom}
-use Rattle.facts.specs.Places.{entries, Filling}
-use Rattle.facts.proofs.Places.{entry-below, filling-start, filling-kept, filling-put, filling-done}
+use Rattle.facts.specs.Places.{entries, notedFrom, placesOf, Filling}
+use Rattle.facts.proofs.Places.{entry-below, filling-start, filling-kept, filling-put, filling-done, noted-start, noted-kept, noted-put, noted-done}
 use borrow.Author.Needs.{needs}
 use Rattle.facts.proofs.find_places.Statement.{statement}
 use Rattle.facts.proofs.find_places.Tie as tie
 
 abbrev Inv-loop : tie.InvT-loop
-Inv-loop places₀ bundle at₀ places at = (at ≤ length bundle) × ((length places ≡ entries) × Filling bundle places (recordsFrom bundle at))
+Inv-loop places₀ bundle at₀ places at = (at ≤ length bundle) × ((length places ≡ entries) × (Filling bundle places (recordsFrom bundle at) × (notedFrom places at (recordsFrom bundle at) ≡ placesOf bundle)))
 
 abbrev μ-loop : tie.MeasureT-loop
 μ-loop places₀ bundle at₀ places at = length bundle - at
 
 loop-holds : tie.Need-loop-holds Inv-loop μ-loop
-loop-holds c = (search needs, (search needs, search (needs, filling-start)))
+loop-holds c = (search needs, (search needs, (search (needs, filling-start), search (needs, noted-start))))
 
 sub-loop : tie.Need-sub-loop Inv-loop μ-loop
 sub-loop c = search needs
@@ -45,7 +45,7 @@ loop-less : tie.Need-loop-less Inv-loop μ-loop
 loop-less c = search needs
 
 loop-again : tie.Need-loop-again Inv-loop μ-loop
-loop-again c = (search needs, (search needs, search (needs, filling-kept)))
+loop-again c = (search needs, (search needs, (search (needs, filling-kept), search (needs, noted-kept))))
 
 add-places : tie.Need-add-places Inv-loop μ-loop
 add-places c = search needs
@@ -63,10 +63,10 @@ loop-less-2 : tie.Need-loop-less-2 Inv-loop μ-loop
 loop-less-2 c = search needs
 
 loop-again-2 : tie.Need-loop-again-2 Inv-loop μ-loop
-loop-again-2 c = (search needs, (search needs, search (needs, filling-put)))
+loop-again-2 c = (search needs, (search needs, (search (needs, filling-put), search (needs, noted-put))))
 
 returns : tie.Need-returns Inv-loop μ-loop
-returns c = search (needs, filling-done)
+returns c = (search (needs, filling-done), search (needs, noted-done))
 
 pub find-places-spec : {M : Type 1} → statement M
 find-places-spec =

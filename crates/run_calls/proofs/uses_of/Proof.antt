@@ -1,18 +1,20 @@
 use Prim.Native.Nat.{_-_, _≤_}
 use mathlib.Core.Path.{_≡_}
-use lib.ListN.{length}
+use lib.ListN.{length, take}
+use Rattle.run_calls.specs.Letters.{usesGiven}
+use Rattle.run_calls.proofs.Laws.{uses-start, uses-next, uses-done}
 use borrow.Author.Needs.{needs}
 use Rattle.run_calls.proofs.uses_of.Statement.{statement}
 use Rattle.run_calls.proofs.uses_of.Tie as tie
 
 abbrev Inv-loop : tie.InvT-loop
-Inv-loop bytes uses₀ i₀ uses i = (length uses ≡ 16) × (i ≤ 16)
+Inv-loop bytes uses₀ i₀ uses i = (length uses ≡ 16) × (i ≤ 16) × (take i uses ≡ usesGiven bytes i)
 
 abbrev μ-loop : tie.MeasureT-loop
 μ-loop bytes uses₀ i₀ uses i = 16 - i
 
 loop-holds : tie.Need-loop-holds Inv-loop μ-loop
-loop-holds c = search needs
+loop-holds c = (search needs, search needs, uses-start _)
 
 mul-be64 : tie.Need-mul-be64 Inv-loop μ-loop
 mul-be64 c = search needs
@@ -33,10 +35,10 @@ loop-less : tie.Need-loop-less Inv-loop μ-loop
 loop-less c = search needs
 
 loop-again : tie.Need-loop-again Inv-loop μ-loop
-loop-again c = search needs
+loop-again c = (search needs, search needs, search (needs, uses-next))
 
 returns : tie.Need-returns Inv-loop μ-loop
-returns c = search needs
+returns c = search (needs, uses-done)
 
 pub uses-of-spec : {M : Type 1} → statement M
 uses-of-spec =

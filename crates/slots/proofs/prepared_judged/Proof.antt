@@ -14,8 +14,8 @@ no-slot-requires c κs = search needs
 returns : tie.Need-returns
 returns c = c .no-slot .ensures _ ∙ slot-missing _ _ _ _ (c .before .if1 .taken)
 
-ledger-requires : tie.Need-ledger-requires
-ledger-requires c κs = search needs
+slot-ledger-requires : tie.Need-slot-ledger-requires
+slot-ledger-requires c κs = search needs
 
 prepared-judged-requires : tie.Need-prepared-judged-requires
 prepared-judged-requires c κs = search needs
@@ -32,9 +32,9 @@ returns-2 c =
     let l = j .before .before in
     let a = l .before .before .before .before .before .before .args in
     slot-there (cabinetAs (a .cabinet)) (a .slot) (a .answers .now) _ _ _ (l .before .if1 .left) (c .put-back .ensures _)
-    (j .prepared-judged .ensures ∙ ap (λ (m : rules.Ledger). preparedSeen m (a .km0 .now) (a .acl .now) (a .seen) (formAs (a .form)) (a .requests .now) (a .answers .now)) (l .ledger .ensures))
+    (j .prepared-judged .ensures ∙ ap (λ (m : rules.Ledger). preparedSeen m (a .km0 .now) (a .acl .now) (a .seen) (formAs (a .form)) (a .requests .now) (a .answers .now)) (l .slot-ledger .ensures))
 
 pub prepared-judged-spec : {M : Type 1} → statement M
 prepared-judged-spec =
     tie.close
-    (tie.spec no-slot-requires returns ledger-requires prepared-judged-requires put-back-requires same-length returns-2)
+    (tie.spec no-slot-requires returns slot-ledger-requires prepared-judged-requires put-back-requires same-length returns-2)

@@ -13,8 +13,8 @@ no-slot-requires c κs = search needs
 returns : tie.Need-returns
 returns c = c .no-slot .ensures _ ∙ slot-missing _ _ _ _ (c .before .if1 .taken)
 
-ledger-requires : tie.Need-ledger-requires
-ledger-requires c κs = search needs
+slot-ledger-requires : tie.Need-slot-ledger-requires
+slot-ledger-requires c κs = search needs
 
 run-judged-requires : tie.Need-run-judged-requires
 run-judged-requires c κs = search needs
@@ -31,9 +31,9 @@ returns-2 c =
     let l = j .before .before in
     let a = l .before .before .before .before .before .before .args in
     slot-there (cabinetAs (a .cabinet)) (a .slot) (a .answers .now) _ _ _ (l .before .if1 .left) (c .put-back .ensures _)
-    (j .run-judged .ensures ∙ ap (λ (m : rules.Ledger). runSeen m (a .km0 .now) (a .acl .now) (a .seen) (a .requests .now) (a .answers .now)) (l .ledger .ensures))
+    (j .run-judged .ensures ∙ ap (λ (m : rules.Ledger). runSeen m (a .km0 .now) (a .acl .now) (a .seen) (a .requests .now) (a .answers .now)) (l .slot-ledger .ensures))
 
 pub run-judged-spec : {M : Type 1} → statement M
 run-judged-spec =
     tie.close
-    (tie.spec no-slot-requires returns ledger-requires run-judged-requires put-back-requires same-length returns-2)
+    (tie.spec no-slot-requires returns slot-ledger-requires run-judged-requires put-back-requires same-length returns-2)

@@ -1,7 +1,7 @@
 use borrow.Author.Needs.{needs}
 use Rattle.cabinet.proofs.Laws.{ledger-handed}
-use Rattle.cabinet.proofs.Cabinet.with_ledger.Statement.{statement}
-use Rattle.cabinet.proofs.Cabinet.with_ledger.Tie as tie
+use Rattle.slots.proofs.with_ledger.Statement.{statement}
+use Rattle.slots.proofs.with_ledger.Tie as tie
 
 mul-put : tie.Need-mul-put
 mul-put c = search needs
