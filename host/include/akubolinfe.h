@@ -26,7 +26,8 @@
  *     knows whether a presented certificate, or a signature that is reported as good, was checked.
  *
  * Sizes
- *   A ledger has 1,296 bytes and a cabinet 3,200.
+ *   A ledger has 1,296 bytes and a cabinet 3,200. The stack that a call in place needs, measured on the longest files: 6 KB on a ledger,
+ *   9 KB for a run on it, 12 KB in a slot of a cabinet, 29 KB for a run in a slot. By value it is at most 7 KB more.
  *
  * Link with `pkg-config --cflags --libs akubolinfe`. */
 #ifndef AKUBOLINFE_H
