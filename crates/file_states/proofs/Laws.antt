@@ -9,7 +9,7 @@ use lib.Dec.{eqb, ltb}
 use borrow.Author.Tests.{eq-eqb, ne-eqb, lt-ltb, le-ltb, not-true, not-false}
 use Rattle.rules.specs.Numbers.{malformed, tooMany}
 use Rattle.rules.specs.Sizes.{certificatesMax, delegationsMax, dayRecords, hintRecords, listedMax}
-use Rattle.rules.specs.Basics.{if_then_else_, Bytes, flag, present, implies, firstFault, recordFault}
+use Rattle.rules.specs.Basics.{if_then_else_, Bytes, flag, present, recordFault}
 use Rattle.rules.specs.Request.{requestLaidOut, fileRequestRecord, standsAlone, hintRecord, certificateRecord, delegationRecord, certificateFault, delegationFault, presentedRecordFault, afterPresented}
 use Rattle.rules.specs.Bundle.{orderOf, listedOrder, bundleInPlace, bundleHasRoom, bundleRecordFault, listedAfter}
 use Rattle.rules.proofs.Rows.{bad-record, full-record, sound-record}

@@ -7,7 +7,7 @@ use mathlib.Core.List.{List, [], _∷_, _++_, append-assoc, append-nil, flatten,
 use mathlib.Core.Bool.{Bool, true, false}
 use lib.ListN.{length, drop, replicate}
 use Rattle.rules.specs.Sizes.{hashBytes}
-use Rattle.rules.specs.Basics.{if_then_else_, Bytes, ascii}
+use Rattle.rules.specs.Basics.{if_then_else_, Bytes}
 use Rattle.listings.specs.Words.{spaced, permissionNames}
 use Rattle.listings.specs.OtherWords.{fieldNames, signatureNames}
 use Rattle.listings.specs.Decoding.{hasWord, afterWord, afterHash, afterNumber, hashAfter, numberAfter, bytesOf, ofBits, headed, begins, past, decoded}

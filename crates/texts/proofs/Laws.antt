@@ -4,7 +4,7 @@ use native.Mathlib.Omega.{arith}
 use mathlib.Core.Path.{_≡_, refl, sym, _∙_, ap}
 use mathlib.Core.List.{[], _∷_}
 use mathlib.Core.Option.{Option, none, some}
-use mathlib.Core.Bool.{Bool, true, false, not, _&&_, false≢true}
+use mathlib.Core.Bool.{Bool, true, false, not, false≢true}
 use lib.ListN.{length}
 use lib.Seq.{take-all}
 use borrow.Author.Tests.{not-true, not-false}
@@ -32,7 +32,7 @@ use Rattle.listing.specs.declared.Reply.the-variants.{Produced, Refused}
 use Rattle.listing.specs.declared.Lines.the-variants.{Count, Bad}
 use Rattle.listing.proofs.Writing.{small-file, write-short, write-whole}
 use Rattle.listing.proofs.Reading.{LinesJudged, judged-none, judged-missing, judged-all, read-short, read-room, read-whole}
-use Rattle.file_states.specs.States.{AnyState, ofRequest, ofRequests, ofBundle, ofHints, stateFault, stateAfter, stateEnd, stateMost, kindFrom, Stepped, stopped, on, past, stepOf, checkedAs}
+use Rattle.file_states.specs.States.{AnyState, ofRequest, ofRequests, ofBundle, ofHints, stateFault, stateAfter, stateEnd, stateMost, kindFrom, stopped, on, past, stepOf, checkedAs}
 use Rattle.texts.specs.Entries.{goodWith, writtenAs, readAs}
 use Rattle.texts.specs.declared.Kind.{Kind}
 use Rattle.texts.specs.declared.Kind.the-variants.{Acl, Request, Requests, Bundle, Hints}

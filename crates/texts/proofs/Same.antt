@@ -1,17 +1,17 @@
 -- One kind of file by the states of another: what is written and read is the same.
 use Prim.Native.Nat.{ℕ, _+_}
-use mathlib.Core.Path.{_≡_, refl, sym, _∙_, ap}
+use mathlib.Core.Path.{_≡_, refl, _∙_, ap}
 use mathlib.Core.List.{List, [], _∷_}
-use mathlib.Core.Option.{Option, none}
-use mathlib.Core.Bool.{Bool, not}
+use mathlib.Core.Option.{Option}
+use mathlib.Core.Bool.{not}
 use Rattle.rules.specs.Numbers.{badLength}
 use Rattle.rules.specs.Basics.{Bytes, present, records, fits, unless, orNext, firstFault, scan, fileFault}
-use Rattle.rules.specs.Bundle.{BundlePlace, bundleStart}
+use Rattle.rules.specs.Bundle.{bundleStart}
 use Rattle.listings.specs.OtherWords.{recordLine}
 use Rattle.listings.specs.OtherDecoding.{recordOf}
 use Rattle.listings.specs.Words.{textBy}
-use Rattle.listings.specs.Kinds.{FileKind, RequestPlace, requestDue, recordsFault, kindFault, requestKind, requestsKind, bundleKind, hintsKind}
-use Rattle.listings.specs.Listing.{linesOf, TextPlace, asWritten, goodIn, faultAtLine, pastLine, textEnd, textFault, bytesBy, readingOf, deliveredAs, readText, readTextInto, delivered, roomFault, writingFault, writeText, Listed}
+use Rattle.listings.specs.Kinds.{FileKind, requestDue, recordsFault, kindFault, requestKind, requestsKind, bundleKind, hintsKind}
+use Rattle.listings.specs.Listing.{linesOf, asWritten, goodIn, faultAtLine, pastLine, textEnd, textFault, bytesBy, readingOf, deliveredAs, readText, readTextInto, delivered, roomFault, writingFault, writeText}
 use Rattle.file_states.specs.States.{AnyState, ofRequest, ofRequests, ofBundle, ofHints, stateFault, stateAfter, stateEnd, kindFrom}
 
 -- a kind whose lines are those of any record, read by the states of its own
