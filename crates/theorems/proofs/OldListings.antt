@@ -6,17 +6,17 @@ use mathlib.Core.List.{List, [], _∷_}
 use mathlib.Core.Option.{Option, none, some}
 use mathlib.Core.Bool.{true, not, _&&_, false≢true}
 use Rattle.rules.specs.Sizes.{Capacity, today}
-use Rattle.rules.specs.Basics.{Bytes, present, scan}
-use Rattle.rules.specs.Acl.{recordFaultUnder}
+use Rattle.rules.specs.Basics.{Bytes, present, same, scan}
+use Rattle.rules.specs.Acl.{AclPlace, recordFaultUnder}
 use Rattle.rules.proofs.Laws.{never, and-left, and-right, unless-passed, orNext-first, orNext-next}
+use Rattle.listings.specs.Words.{lineOf}
 use Rattle.listings.specs.Decoding.{decoded}
-use Rattle.listings.specs.Listing.{linesOf, isWritten, ListingPlace, listingStart, afterLine, listingEnd, listedBytes, acl, readingOf, goodLine, lineFault, listingFault, readListing}
-use Rattle.theorems.specs.Capacity.{base, NoSmaller, goodLineUnder, lineFaultUnder, readListingUnder}
+use Rattle.listings.specs.Listing.{linesOf, TextPlace, textStart, asWritten, goodIn, faultAtLine, pastLine, textEnd, textFault, bytesBy, readAs, readingOf, readText, readListing}
+use Rattle.theorems.specs.Capacity.{base, NoSmaller, aclKindUnder, readListingUnder}
 use Rattle.theorems.proofs.Larger.{record-more, base-smaller}
 
 -- At today's sizes it is the reader of listings.
 pub today-listing : (text : Bytes) → readListingUnder today text ≡ readListing text
-unfolding readListingUnder readListing listingFault lineFaultUnder lineFault goodLineUnder goodLine
 today-listing text = refl
 
 -- A line that is good under some sizes is good under larger ones.
@@ -24,33 +24,35 @@ not-present : (o : Option ℕ) → not (present o) ≡ true → o ≡ none
 not-present none e = refl
 not-present (some n) e = absurd (false≢true e)
 
-line-more : (small large : Capacity) → NoSmaller small large → (s : ListingPlace) (line : Bytes) → lineFaultUnder small s line ≡ none → lineFaultUnder large s line ≡ none
-unfolding lineFaultUnder goodLineUnder
+line-more : (small large : Capacity) → NoSmaller small large → (s : TextPlace AclPlace) (line : Bytes) → faultAtLine (aclKindUnder small) s line ≡ none → faultAtLine (aclKindUnder large) s line ≡ none
+unfolding faultAtLine goodIn asWritten
 line-more small large more s line e =
-    let a = unless-passed (not (present (recordFaultUnder small (s .place) (decoded line))) && isWritten line) (s .line) e in
-    let b = not-present _ (and-left (not (present (recordFaultUnder small (s .place) (decoded line)))) (isWritten line) a) in
+    let a = unless-passed (not (present (recordFaultUnder small (s .place) (decoded line))) && same (lineOf (decoded line)) line) (s .line) e in
+    let b = not-present _ (and-left (not (present (recordFaultUnder small (s .place) (decoded line)))) (same (lineOf (decoded line)) line) a) in
     let c = record-more small large more (s .place) (decoded line) b in
-    let d = and-right (not (present (recordFaultUnder small (s .place) (decoded line)))) (isWritten line) a in
+    let d = and-right (not (present (recordFaultUnder small (s .place) (decoded line)))) (same (lineOf (decoded line)) line) a in
     rw (c, d)
 
-lines-more : (small large : Capacity) → NoSmaller small large → (s : ListingPlace) (lines : List Bytes) → scan (lineFaultUnder small) afterLine listingEnd s lines ≡ none → scan (lineFaultUnder large) afterLine listingEnd s lines ≡ none
-unfolding scan
+lines-more : (small large : Capacity) → NoSmaller small large → (s : TextPlace AclPlace) (lines : List Bytes)
+    → scan (faultAtLine (aclKindUnder small)) (pastLine (aclKindUnder small)) (textEnd (aclKindUnder small)) s lines ≡ none
+    → scan (faultAtLine (aclKindUnder large)) (pastLine (aclKindUnder large)) (textEnd (aclKindUnder large)) s lines ≡ none
+unfolding scan pastLine textEnd
 lines-more small large more s [] e = e
 lines-more small large more s (line ∷ lines) e =
-    rw (line-more small large more s line (orNext-first (lineFaultUnder small s line) _ e))
-    (lines-more small large more (afterLine s line) lines (orNext-next (lineFaultUnder small s line) _ e))
+    rw (line-more small large more s line (orNext-first (faultAtLine (aclKindUnder small) s line) _ e))
+    (lines-more small large more (pastLine (aclKindUnder small) s line) lines (orNext-next (faultAtLine (aclKindUnder small) s line) _ e))
 
 -- a text that is read as an ACL has no bad line, and the bytes are those that its lines say
-read-is : (bytes file : Bytes) (o : Option ℕ) → readingOf bytes o ≡ acl file → (o ≡ none) × (bytes ≡ file)
+read-is : (bytes file : Bytes) (o : Option ℕ) → readingOf bytes o ≡ readAs file → (o ≡ none) × (bytes ≡ file)
 read-is bytes file none e = (refl, cc)
 read-is bytes file (some n) e = absurd (never (cc))
 
-pub listing-under : (small large : Capacity) → NoSmaller small large → (text file : Bytes) → readListingUnder small text ≡ acl file → readListingUnder large text ≡ acl file
-unfolding readListingUnder
+pub listing-under : (small large : Capacity) → NoSmaller small large → (text file : Bytes) → readListingUnder small text ≡ readAs file → readListingUnder large text ≡ readAs file
+unfolding readText textFault
 listing-under small large more text file e =
-    let r = read-is (listedBytes text) file _ e in
-    rw (lines-more small large more listingStart (linesOf text) (r .0)) (ap acl (r .1))
+    let r = read-is (bytesBy decoded text) file _ e in
+    rw (lines-more small large more (textStart (aclKindUnder small)) (linesOf text) (r .0)) (ap readAs (r .1))
 
 -- A listing that was accepted under document 01's sizes is read to the same bytes.
-pub listing-unchanged : (text file : Bytes) → readListingUnder base text ≡ acl file → readListing text ≡ acl file
+pub listing-unchanged : (text file : Bytes) → readListingUnder base text ≡ readAs file → readListing text ≡ readAs file
 listing-unchanged text file e = sym (today-listing text) ∙ listing-under base today base-smaller text file e

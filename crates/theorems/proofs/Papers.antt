@@ -31,7 +31,8 @@ use Rattle.rules.specs.Subject.{subject, subjectBuffer, subjectReply, unwritten
 use Rattle.rules.specs.Suites.{isSuite, suiteMechanism}
 use Rattle.rules.specs.Trim.{roomy, trimAclBuffer, trimFault, trimHintBuffer, trimHints, trimReply, trimmed, trimmedAcl, unread, untrimmed}
 use Rattle.rules.specs.Written.{Octets}
-use Rattle.listings.specs.Listing.{FirstBad, Octet, acl, badLine, delivered, isRefusal, produced, readListing, readListingInto, writeListing}
+use Rattle.listings.specs.Listing.{FirstBad, Octet, readAs, badLine, delivered, isRefusal, produced, readListing, readListingInto, writeListing}
+use Rattle.listings.specs.Kinds.{aclKind}
 use Rattle.listings.specs.Words.{listingMax, listingOf}
 use Rattle.theorems.proofs.CabinetWitness.{elsewhere, oneRun, otherRun, shared}
 use Rattle.theorems.proofs.Files.{IsBlobAction}
@@ -71,7 +72,7 @@ use Rattle.theorems.proofs.Bounds as Bounds
 use Rattle.theorems.proofs.Monotone as Monotone
 use Rattle.theorems.proofs.Accepted as Accepted
 use Rattle.theorems.proofs.Subjects as Subjects
-use Rattle.listings.proofs.Reading as Reading
+use Rattle.listings.proofs.Acl as Listings
 use Rattle.listings.proofs.Entries as Entries
 use Rattle.listings.proofs.Lengths as Lengths
 use Rattle.theorems.proofs.Keyed as Keyed
@@ -401,38 +402,38 @@ subject-lengths = Subjects.subject-lengths
 
 -- "Every ACL's listing reads back to the same bytes, and every listing accepted is the one that would be written for its ACL."
 -- The listing of an ACL without fault is read to the same bytes.
-pub listing-read-back : (file : Bytes) → Every Octet file → aclFileFault file ≡ none → readListing (listingOf file) ≡ acl file
-listing-read-back = Reading.listing-read-back
+pub listing-read-back : (file : Bytes) → Every Octet file → aclFileFault file ≡ none → readListing (listingOf file) ≡ readAs file
+listing-read-back = Listings.listing-read-back
 
 -- A text that is read as an ACL is the listing of that ACL, which has no fault.
-pub accepted-is-written : (text file : Bytes) → readListing text ≡ acl file → (aclFileFault file ≡ none) × (listingOf file ≡ text) × Every Octet file
-accepted-is-written = Reading.accepted-is-written
+pub accepted-is-written : (text file : Bytes) → readListing text ≡ readAs file → (aclFileFault file ≡ none) × (listingOf file ≡ text) × Every Octet file
+accepted-is-written = Listings.accepted-is-written
 
 -- What one entry point wrote, the other reads back.
 pub write-then-read : (file b c : Bytes) (n : ℕ) → Every Octet file → writeListing file b .reply ≡ produced n → length file ≤ length c → readListingInto (take n (writeListing file b .buffer)) c ≡ delivered file c none
-write-then-read = Entries.write-then-read
+write-then-read = Entries.write-then-read aclKind Listings.acl-lawful
 
 -- What one entry point read, the other writes again.
 pub read-then-write : (text b c : Bytes) (n : ℕ) → readListingInto text b .reply ≡ produced n → length text ≤ length c → writeListing (take n (readListingInto text b .buffer)) c ≡ delivered text c none
-read-then-write = Entries.read-then-write
+read-then-write = Entries.read-then-write aclKind Listings.acl-lawful
 
 -- "A line that is not the written form of a record valid there gives a new number 15 and the first such line's number, from 1"
 -- The line named by 15 is bad, and all lines before it are the listing of a valid beginning of an ACL.
-pub first-bad-line : (text : Bytes) (n : ℕ) → readListing text ≡ badLine n → FirstBad text n
-first-bad-line = Reading.first-bad-line
+pub first-bad-line : (text : Bytes) (n : ℕ) → readListing text ≡ badLine n → FirstBad aclKind text n
+first-bad-line = Listings.first-bad-line
 
 -- Its number is at most 1,345.
 pub bad-line-bound : (text : Bytes) (n : ℕ) → readListing text ≡ badLine n → n ≤ aclRecords + 1
-bad-line-bound = Reading.bad-line-bound
+bad-line-bound = Listings.bad-line-bound
 
 -- "On all these it stays untouched; else the reply is the result's length and bytes past it stay."
 -- A refused listing leaves the buffer as it was.
 pub write-refused : (file buffer : Bytes) → isRefusal (writeListing file buffer .reply) ≡ true → writeListing file buffer .buffer ≡ buffer
-write-refused = Entries.write-refused
+write-refused = Entries.write-refused aclKind
 
 -- So does a refused reading.
 pub read-refused : (text buffer : Bytes) → isRefusal (readListingInto text buffer .reply) ≡ true → readListingInto text buffer .buffer ≡ buffer
-read-refused = Entries.read-refused
+read-refused = Entries.read-refused aclKind
 
 -- No listing has more than 164,416 bytes.
 pub listing-bound : (file : Bytes) → Every Octet file → aclFileFault file ≡ none → length (listingOf file) ≤ listingMax
@@ -542,11 +543,11 @@ pub all-unchanged : (s : State) (cs : List Call) → SizedUnder base (s .ledger)
 all-unchanged = CarriedOver.all-unchanged
 
 -- A listing accepted under some sizes is read to the same bytes under larger ones.
-pub listing-under : (small large : Capacity) → NoSmaller small large → (text file : Bytes) → readListingUnder small text ≡ acl file → readListingUnder large text ≡ acl file
+pub listing-under : (small large : Capacity) → NoSmaller small large → (text file : Bytes) → readListingUnder small text ≡ readAs file → readListingUnder large text ≡ readAs file
 listing-under = OldListings.listing-under
 
 -- A listing accepted under document 01's sizes is read to the same bytes today.
-pub listing-unchanged : (text file : Bytes) → readListingUnder base text ≡ acl file → readListing text ≡ acl file
+pub listing-unchanged : (text file : Bytes) → readListingUnder base text ≡ readAs file → readListing text ≡ readAs file
 listing-unchanged = OldListings.listing-unchanged
 
 -- Request h.

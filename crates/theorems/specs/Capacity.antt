@@ -12,13 +12,15 @@ use lib.Dec.{eqb, ltb}
 use Rattle.rules.specs.Sizes.{Capacity, hashBytes, requestRecords, aclRecordsUnder}
 use Rattle.rules.specs.Numbers.{badLength, notNarrower, outOfRange}
 use Rattle.rules.specs.Basics.{if_then_else_, Bytes, Every, present, unless, firstFault, scan, records, fits}
-use Rattle.rules.specs.Acl.{Limit, Group, aclOf, AclPlace, recordFaultUnder, aclFaultUnder, aclFileFaultUnder}
+use Rattle.rules.specs.Acl.{Limit, Group, aclOf, AclPlace, aclStart, afterRecord, aclEnd, recordFaultUnder, aclFaultUnder, aclFileFaultUnder}
 use Rattle.rules.specs.Request.{Hint, requestOf, requestLaidOut, requestFault, useOf, reduceAcl, expandAcl, hintsOf, hintsFault}
 use Rattle.rules.specs.Ledger.{Ledger, cleared, recounted}
 use Rattle.rules.specs.Narrow.{narrows}
 use Rattle.rules.specs.Gate.{Answer, Outcome, judge, refused, permitted, finished, outcomeUnless, settle}
+use Rattle.listings.specs.Words.{lineOf}
 use Rattle.listings.specs.Decoding.{decoded}
-use Rattle.listings.specs.Listing.{linesOf, isWritten, ListingPlace, listingStart, afterLine, listingEnd, listedBytes, ListingReading, readingOf}
+use Rattle.listings.specs.Kinds.{FileKind}
+use Rattle.listings.specs.Listing.{ListingReading, readText}
 use Rattle.theorems.specs.Demands.{Call, requesting, loading, clearing, narrowing, expanding, State, replacement, inForce}
 
 -- document 01: "at most 16 groups", "byte 5 counter 0-95"
@@ -149,12 +151,18 @@ abbrev pub AllAcceptedUnder : Capacity → State → List Call → Type 0
 AllAcceptedUnder z s [] = Unit {0}
 AllAcceptedUnder z s (c ∷ cs) = AcceptedUnder z (s .acl) c × AllAcceptedUnder z (afterUnder z s c) cs
 
--- A listing's text, read under these sizes.
-unfoldable pub goodLineUnder : Capacity → AclPlace → Bytes → Bool
-goodLineUnder z s line = not (present (recordFaultUnder z s (decoded line))) && isWritten line
+-- An ACL under these sizes, as a kind of file that has a text; and its listing, read as an ACL.
+abbrev pub aclKindUnder : Capacity → FileKind AclPlace
+aclKindUnder z =
+    record {
+      line = lineOf;
+      told = decoded;
+      start = aclStart;
+      fault = recordFaultUnder z;
+      after = afterRecord;
+      end = aclEnd;
+      most = aclRecordsUnder z;
+    }
 
-unfoldable pub lineFaultUnder : Capacity → ListingPlace → Bytes → Option ℕ
-lineFaultUnder z s line = unless (goodLineUnder z (s .place) line) (s .line)
-
-unfoldable pub readListingUnder : Capacity → Bytes → ListingReading
-readListingUnder z text = readingOf (listedBytes text) (scan (lineFaultUnder z) afterLine listingEnd listingStart (linesOf text))
+abbrev pub readListingUnder : Capacity → Bytes → ListingReading
+readListingUnder z = readText (aclKindUnder z)
