@@ -6,12 +6,12 @@ use Prim.Native.Nat.{ℕ, _-_, _≤_, _<_}
 use mathlib.Core.Path.{_≡_}
 use mathlib.Core.List.{List, [], _∷_, _++_, map}
 use mathlib.Core.Option.{Option, none}
-use mathlib.Core.Bool.{Bool, true, not, _&&_}
+use mathlib.Core.Bool.{Bool, true, _&&_}
 use lib.ListN.{length, getD, replicate}
 use lib.Dec.{eqb, ltb}
 use Rattle.rules.specs.Sizes.{Capacity, hashBytes, requestRecords, aclRecordsUnder}
 use Rattle.rules.specs.Numbers.{badLength, notNarrower, outOfRange}
-use Rattle.rules.specs.Basics.{if_then_else_, Bytes, Every, present, unless, firstFault, scan, records, fits}
+use Rattle.rules.specs.Basics.{if_then_else_, Bytes, Every, unless, firstFault, records, fits}
 use Rattle.rules.specs.Acl.{Limit, Group, aclOf, AclPlace, aclStart, afterRecord, aclEnd, recordFaultUnder, aclFaultUnder, aclFileFaultUnder}
 use Rattle.rules.specs.Request.{Hint, requestOf, requestLaidOut, requestFault, useOf, reduceAcl, expandAcl, hintsOf, hintsFault}
 use Rattle.rules.specs.Ledger.{Ledger, cleared, recounted}
