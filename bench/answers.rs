@@ -62,24 +62,27 @@ fn ran(script: &mut &[u8], ledger: &mut Ledger) -> Option<String> {
     let (form, km0, acl) = (form(script)?, bytes(script)?, bytes(script)?);
     let (row, requests, mut answers) = (row(script)?, bytes(script)?, bytes(script)?.to_vec());
     let mut same = answers.clone();
-    let (after, reply) = ledger.prepared_run(km0, acl, &row, form, requests, &mut same);
+    let mut after = ledger.clone();
+    let reply = after.prepared_run(km0, acl, &row, form, requests, &mut same);
     let told = ordinary::prepared_run(ledger, km0, acl, &row, &form, requests, &mut answers);
-    assert_eq!((*ledger, told, &answers), (after, reply, &same));
+    assert_eq!((&*ledger, told, &answers), (&after, reply, &same));
     let told = told.map_or_else(|n| format!("refuse {n}"), |n| format!("length {n}"));
     Some(with_ledger(format!("{told} {}", hex(answers)), ledger))
 }
 
 // The answer to one call; none where the script cannot be read on.
 fn answer(letter: u8, script: &mut &[u8], ledger: &mut Ledger) -> Option<String> {
-    let (after, reply) = match letter {
-        b'F' => (Ledger::fresh(), proved::Reply::Done),
+    let reply = match letter {
+        b'F' => {
+            *ledger = Ledger::fresh();
+            proved::Reply::Done
+        }
         b'L' => ledger.load(number(script)?),
         b'C' => ledger.clear(number(script)? as usize),
         b'P' => return Some(prepared(bytes(script)?)),
         b'Q' => return ran(script, ledger),
         _ => return None,
     };
-    *ledger = after;
     let told = if reply == proved::Reply::Done { "done" } else { "refuse 10" };
     Some(with_ledger(told.to_string(), ledger))
 }

@@ -6,6 +6,7 @@ mod inputs;
 mod ordinary;
 #[path = "../host/rust/akubolinfe.rs"]
 mod proved;
+mod row;
 mod stack;
 mod timing;
 
@@ -43,13 +44,15 @@ macro_rules! side {
 
         impl $name {
             fn loaded() -> Self {
-                Self($program::Ledger::fresh().load(TIME).0)
+                let mut ledger = $program::Ledger::fresh();
+                assert_eq!(ledger.load(TIME), $program::Reply::Done);
+                Self(ledger)
             }
 
-            fn repeat(&mut self, n: u32, call: impl Fn($program::Ledger) -> ($program::Ledger, $program::Reply)) -> String {
+            fn repeat(&mut self, n: u32, call: impl Fn(&mut $program::Ledger) -> $program::Reply) -> String {
                 let mut reply = $program::Reply::Done;
                 for _ in 0..n {
-                    (self.0, reply) = call(black_box(self.0));
+                    reply = call(black_box(&mut self.0));
                 }
                 format!("{reply:?} {:?}", self.0)
             }
@@ -184,7 +187,7 @@ fn measure(case: &Case) -> f64 {
 // The stack of one call on the longest files, of every function of the library.
 fn measure_stack() {
     let (km0, full) = (inputs::km0(), inputs::granted_last(ALL));
-    let ledger = proved::Ledger::fresh();
+    let mut ledger = proved::Ledger::fresh();
     let print = |name: &str, depth: usize| println!("{name:<48} {depth:>9}");
     println!("\nstack of a call of the library, in bytes (below 4,096: shown as 4,096)");
     print("fresh", stack::depth(|| proved::Ledger::fresh()));
@@ -192,11 +195,36 @@ fn measure_stack() {
     print("clear", stack::depth(|| ledger.clear(255)));
     let (chained, delegated) = (inputs::by_delegation(ALL), inputs::delegated_request(SIGN));
     print("request", stack::depth(|| ledger.request(&km0, &chained, &delegated)));
-    let (narrow, expand) = (inputs::full_request(REDUCE_ACL), inputs::full_request(EXPAND_ACL));
-    print("narrow", stack::depth(|| ledger.narrow(&km0, &full, &narrow, &full, &inputs::full_hints(ALL))));
+    let (narrow, expand, hints) = (inputs::full_request(REDUCE_ACL), inputs::full_request(EXPAND_ACL), inputs::full_hints(ALL));
+    print("narrow", stack::depth(|| ledger.narrow(&km0, &full, &narrow, &full, &hints)));
     let wide = inputs::expandable(ALL);
     print("expand", stack::depth(|| ledger.expand(&km0, &wide, &expand, &full)));
-    print("desk", stack::depth(|| proved::assess(&inputs::full_bundle(), &inputs::full_key(ALL))));
+    let (row, records, mut answers) = (row::decoded(&delegated), delegated[..64].repeat(1000), vec![0; 8000]);
+    print("run", stack::depth(|| ledger.run(&km0, &full, &row, &records[..6400], &mut answers)));
+    let form = proved::prepare(&full).expect("an ACL without fault");
+    print("prepared run", stack::depth(|| ledger.prepared_run(&km0, &full, &row, form, &records, &mut answers)));
+    let mut cabinet = proved::Cabinet::fresh();
+    print("fresh cabinet", stack::depth(|| proved::Cabinet::fresh()));
+    print("load of a slot", stack::depth(|| cabinet.load(7, TIME)));
+    print("clear of a cabinet", stack::depth(|| cabinet.clear(255)));
+    print("request in a slot", stack::depth(|| cabinet.request(7, &km0, &chained, &delegated)));
+    print("narrow in a slot", stack::depth(|| cabinet.narrow(7, &km0, &full, &narrow, &full, &hints)));
+    print("expand in a slot", stack::depth(|| cabinet.expand(7, &km0, &wide, &expand, &full)));
+    print("run in a slot", stack::depth(|| cabinet.run(7, &km0, &full, &row, &records[..6400], &mut answers)));
+    print("prepared run in a slot", stack::depth(|| cabinet.prepared_run(7, &km0, &full, &row, form, &records, &mut answers)));
+    print("prepare", stack::depth(|| proved::prepare(&full)));
+    print("request by value", stack::depth(|| proved::by_value::request(ledger.clone(), &km0, &chained, &delegated)));
+    print("request in a slot by value", stack::depth(|| proved::by_value::cabinet_request(cabinet.clone(), 7, &km0, &chained, &delegated)));
+    print("prepared run in a slot by value", stack::depth(|| {
+        proved::by_value::cabinet_prepared_run(cabinet.clone(), 7, &km0, &full, &row, form, &records, &mut answers)
+    }));
+    let (bundle, key) = (inputs::full_bundle(), inputs::full_key(ALL));
+    print("desk", stack::depth(|| proved::assess(&bundle, &key)));
+    let (mut text, mut acl, mut hints) = (vec![0; proved::LISTING_BYTES], vec![0; proved::ACL_BYTES], vec![0; proved::HINT_BYTES]);
+    print("trim", stack::depth(|| proved::trim(&bundle, &key, &mut acl, &mut hints)));
+    print("write a listing", stack::depth(|| proved::write_listing(&full, &mut text)));
+    let length = proved::write_listing(&full, &mut text).expect("a listing") as usize;
+    print("read a listing", stack::depth(|| proved::read_listing(&text[..length], &mut acl)));
     let mut buffer = [0; 137];
     print("subject", stack::depth(|| proved::write_subject(4, 4, &inputs::four_hashes(), &mut buffer)));
 }

@@ -33,7 +33,7 @@ struct Case {
 #[derive(PartialEq, Debug)]
 struct State {
     ledger: Ledger,
-    told: Result<u64, u64>,
+    told: Result<u64, u32>,
     answers: Vec<u8>,
 }
 
@@ -41,7 +41,7 @@ type Side = fn(&mut State, &Case, u32);
 
 fn proved_runs(s: &mut State, c: &Case, runs: u32) {
     for _ in 0..runs {
-        (s.ledger, s.told) = black_box(s.ledger).prepared_run(
+        s.told = black_box(&mut s.ledger).prepared_run(
             &inputs::km0(), black_box(&c.acl), black_box(&c.row), c.form, black_box(&c.requests), black_box(&mut s.answers),
         );
     }
@@ -95,7 +95,7 @@ fn cases() -> Vec<Case> {
 
 impl State {
     fn loaded() -> State {
-        State { ledger: Ledger::fresh().load(TIME).0, told: Ok(0), answers: vec![1; 8 * USES] }
+        State { ledger: Ledger::loaded(TIME), told: Ok(0), answers: vec![1; 8 * USES] }
     }
 
     // Nanoseconds per use of one round.

@@ -1,6 +1,5 @@
 /* Prints an ACL as text and reads the text back, asks the gate for every request record of a day, one by one and in a run on the
- * prepared ACL, then serves two keys under that ACL from one cabinet, where they share its counters, at last in place, and asks the
- * desk for a verdict:
+ * prepared ACL, serves two keys under that ACL from one cabinet, where they share its counters, and asks the desk for a verdict:
  *     example KM0 ACL REQUESTS BUNDLE BUNDLE_ACL */
 #include <stdio.h>
 #include <stdlib.h>
@@ -14,122 +13,95 @@ typedef struct {
 } file;
 
 /* A file that is longer than the buffer is cut, and still longer than any file may be. */
-static int read_file(const char *name, file *into)
+static bool read_file(const char *name, file *into)
 {
     FILE *f = fopen(name, "rb");
     if (f == NULL) {
         perror(name);
-        return 0;
+        return false;
     }
     into->length = fread(into->bytes, 1, sizeof into->bytes, f);
-    if (ferror(f)) {
+    bool bad = ferror(f) != 0;
+    if (bad)
         perror(name);
-        fclose(f);
-        return 0;
-    }
     fclose(f);
-    return 1;
+    return !bad;
 }
 
 /* The listing of an ACL, and whether it reads back to the same bytes. */
 static void print_listing(const file *acl)
 {
     static uint8_t text[AKUBOLINFE_LISTING_BYTES], back[AKUBOLINFE_ACL_BYTES];
-    akubolinfe_listing l = akubolinfe_write_listing(acl->bytes, acl->length, text, sizeof text);
-    if (l.answer != AKUBOLINFE_PRODUCED) {
-        printf("no listing: refused %llu\n", (unsigned long long)l.number);
+    akubolinfe_text_reply l = akubolinfe_write_listing(acl->bytes, acl->length, text, sizeof text);
+    if (l.refusal) {
+        printf("no listing: refused %u\n", (unsigned)l.refusal);
         return;
     }
-    fwrite(text, 1, l.number, stdout);
-    akubolinfe_listing r = akubolinfe_read_listing(text, l.number, back, sizeof back);
-    if (r.answer == AKUBOLINFE_PRODUCED && r.number == acl->length && memcmp(back, acl->bytes, acl->length) == 0)
-        printf("reads back to the same %llu bytes\n", (unsigned long long)r.number);
+    fwrite(text, 1, l.length, stdout);
+    akubolinfe_text_reply r = akubolinfe_read_listing(text, l.length, back, sizeof back);
+    if (r.refusal == 0 && r.length == acl->length && memcmp(back, acl->bytes, acl->length) == 0)
+        printf("reads back to the same %llu bytes\n", (unsigned long long)r.length);
     else
-        printf("does not read back: refused %llu, line %llu\n", (unsigned long long)r.number, (unsigned long long)r.line);
+        printf("does not read back: refused %u, line %llu\n", (unsigned)r.refusal, (unsigned long long)r.line);
     l = akubolinfe_read_listing((const uint8_t *)"group\nlimit uses 01\n", 20, back, sizeof back);
-    printf("a leading zero: refused %llu, line %llu\n", (unsigned long long)l.number, (unsigned long long)l.line);
+    printf("a leading zero: refused %u, line %llu\n", (unsigned)l.refusal, (unsigned long long)l.line);
 }
 
-/* The reply of the gate or of a cabinet. */
-static void print_reply(uint64_t answer, uint64_t number, uint64_t group)
+/* An answer of the gate. */
+static void print_reply(akubolinfe_reply r)
 {
-    printf("%s %llu", answer == AKUBOLINFE_PERMITTED ? "permit" : "refuse", (unsigned long long)number);
-    if (answer == AKUBOLINFE_REFUSED && group != AKUBOLINFE_NO_GROUP)
-        printf(" %llu", (unsigned long long)group);
-    printf("\n");
+    if (r.refusal == 0)
+        printf("permit %u\n", (unsigned)r.group);
+    else if (r.group == AKUBOLINFE_NO_GROUP)
+        printf("refuse %u\n", (unsigned)r.refusal);
+    else
+        printf("refuse %u %u\n", (unsigned)r.refusal, (unsigned)r.group);
 }
 
-static akubolinfe_ledger print_day(const file *km0, const file *acl, const file *requests)
+static void print_day(akubolinfe_ledger *ledger, const file *km0, const file *acl, const file *requests)
 {
-    akubolinfe_ledger ledger = akubolinfe_load(akubolinfe_fresh(), 0).ledger;
+    akubolinfe_load_in_place(ledger, 0);
     for (size_t at = 0; AKUBOLINFE_RECORD <= requests->length - at; at += AKUBOLINFE_RECORD) {
-        akubolinfe_outcome o = akubolinfe_request(ledger, km0->bytes, km0->length, acl->bytes, acl->length,
-                                                  requests->bytes + at, AKUBOLINFE_RECORD);
         printf("%zu ", at / AKUBOLINFE_RECORD + 1);
-        print_reply(o.answer, o.number, o.group);
-        ledger = o.ledger;
+        print_reply(akubolinfe_request_in_place(ledger, km0->bytes, km0->length, acl->bytes, acl->length, requests->bytes + at,
+                                                AKUBOLINFE_RECORD));
     }
-    return ledger;
 }
 
-/* A number of four bytes, greatest place first. */
-static uint64_t four_bytes(const uint8_t *bytes)
+/* A number of four bytes, the greatest first. */
+static uint32_t four_bytes(const uint8_t *bytes)
 {
-    return (uint64_t)bytes[0] << 24 | (uint64_t)bytes[1] << 16 | (uint64_t)bytes[2] << 8 | bytes[3];
+    return (uint32_t)bytes[0] << 24 | (uint32_t)bytes[1] << 16 | (uint32_t)bytes[2] << 8 | bytes[3];
 }
 
-/* The day's requests in one run, without certificates, and the same run in a slot of a cabinet. Both end with the ledger of asking
- * one by one. */
-static void print_run(const file *km0, const file *acl, const file *requests, akubolinfe_ledger one_by_one)
+/* The day's requests in one run, without certificates. It leaves the ledger of asking one by one. */
+static void print_run(const akubolinfe_ledger *one_by_one, const file *km0, const file *acl, const file *requests)
 {
-    static uint8_t answers[AKUBOLINFE_PREPARED_RECORDS * AKUBOLINFE_ANSWER_BYTES], again[sizeof answers];
-    akubolinfe_form form = akubolinfe_prepare(acl->bytes, acl->length).form;
-    akubolinfe_ledger loaded = akubolinfe_load(akubolinfe_fresh(), 0).ledger;
-    akubolinfe_run_outcome o = akubolinfe_prepared_run(loaded, km0->bytes, km0->length, acl->bytes, acl->length, NULL, 0, form,
-                                                       requests->bytes, requests->length, answers, sizeof answers);
-    if (o.answer != AKUBOLINFE_RAN) {
-        printf("run: refused %llu\n", (unsigned long long)o.number);
+    static uint8_t answers[AKUBOLINFE_PREPARED_RECORDS * AKUBOLINFE_ANSWER_BYTES];
+    akubolinfe_preparation p = akubolinfe_prepare(acl->bytes, acl->length);
+    akubolinfe_ledger ledger = akubolinfe_fresh();
+    akubolinfe_load_in_place(&ledger, 0);
+    akubolinfe_run_reply r = akubolinfe_prepared_run_in_place(&ledger, km0->bytes, km0->length, acl->bytes, acl->length, NULL, 0,
+                                                              p.form, requests->bytes, requests->length, answers, sizeof answers);
+    if (r.refusal) {
+        printf("run: refused %u\n", (unsigned)r.refusal);
         return;
     }
-    for (size_t k = 0; k < o.number; k++) {
+    for (size_t k = 0; k < r.count; k++) {
         const uint8_t *answer = answers + k * AKUBOLINFE_ANSWER_BYTES;
-        uint64_t number = four_bytes(answer), group = four_bytes(answer + 4);
+        akubolinfe_reply one = {four_bytes(answer), four_bytes(answer + 4)};
         printf("run %zu: ", k + 1);
-        if (number == 0)
-            print_reply(AKUBOLINFE_PERMITTED, group, group);
-        else
-            print_reply(AKUBOLINFE_REFUSED, number, group == UINT32_MAX ? AKUBOLINFE_NO_GROUP : group);
+        print_reply(one);
     }
-    akubolinfe_cabinet cabinet = akubolinfe_cabinet_load(akubolinfe_cabinet_fresh(), 5, 0).cabinet;
-    akubolinfe_cabinet_run_outcome c = akubolinfe_cabinet_prepared_run(cabinet, 5, km0->bytes, km0->length, acl->bytes, acl->length,
-                                                                       NULL, 0, form, requests->bytes, requests->length, again,
-                                                                       sizeof again);
-    int same = c.answer == o.answer && c.number == o.number && memcmp(again, answers, sizeof answers) == 0
-               && memcmp(c.cabinet.slots[5].counts, o.ledger.counts, sizeof o.ledger.counts) == 0
-               && memcmp(c.cabinet.counters, o.ledger.counters, sizeof o.ledger.counters) == 0;
-    printf("the ledger is %s, the run in a slot %s\n", memcmp(&o.ledger, &one_by_one, sizeof one_by_one) == 0 ? "the same" : "another",
-           same ? "the same" : "another");
+    printf("the ledger is %s\n", memcmp(&ledger, one_by_one, sizeof ledger) == 0 ? "the same" : "another");
 }
 
 /* A request record to the key of a slot. */
-static akubolinfe_cabinet print_use(akubolinfe_cabinet cabinet, size_t slot, const file *km0, const file *acl,
-                                    const uint8_t *request)
+static void print_use(akubolinfe_cabinet *cabinet, size_t slot, const file *km0, const file *acl, const uint8_t *request)
 {
-    akubolinfe_cabinet_outcome o = akubolinfe_cabinet_request(cabinet, slot, km0->bytes, km0->length, acl->bytes, acl->length,
-                                                              request, AKUBOLINFE_RECORD);
     printf("key %zu: ", slot);
-    print_reply(o.answer, o.number, o.group);
-    return o.cabinet;
-}
-
-/* .. charged where the cabinet stands. */
-static void print_use_in_place(akubolinfe_cabinet *cabinet, size_t slot, const file *km0, const file *acl, const uint8_t *request)
-{
-    akubolinfe_slot *s = &cabinet->slots[slot];
-    akubolinfe_reply r = akubolinfe_request_in_place(s->counts, cabinet->counters, s->loaded, &s->last, km0->bytes, km0->length,
-                                                     acl->bytes, acl->length, request, AKUBOLINFE_RECORD);
-    printf("key %zu in place: ", slot);
-    print_reply(r.answer, r.number, r.group);
+    print_reply(akubolinfe_cabinet_request_in_place(cabinet, slot, km0->bytes, km0->length, acl->bytes, acl->length, request,
+                                                    AKUBOLINFE_RECORD));
 }
 
 /* Two keys under the same ACL, each asked for every request record in turn. The counts of the groups are each key's own; a counter
@@ -138,44 +110,55 @@ static void print_keys(const file *km0, const file *acl, const file *requests)
 {
     akubolinfe_cabinet cabinet = akubolinfe_cabinet_fresh();
     for (size_t slot = 0; slot < 2; slot++)
-        cabinet = akubolinfe_cabinet_load(cabinet, slot, 0).cabinet;
+        if (akubolinfe_cabinet_load_in_place(&cabinet, slot, 0).refusal)
+            return;
     size_t at = 0;
     for (; AKUBOLINFE_RECORD <= requests->length - at; at += AKUBOLINFE_RECORD)
         for (size_t slot = 0; slot < 2; slot++)
-            cabinet = print_use(cabinet, slot, km0, acl, requests->bytes + at);
+            print_use(&cabinet, slot, km0, acl, requests->bytes + at);
     if (at == 0)
         return;
     printf("counter 3 is cleared at %lu\n", (unsigned long)cabinet.counters[3]);
-    cabinet = akubolinfe_cabinet_clear(cabinet, 3).cabinet;
+    if (akubolinfe_cabinet_clear_in_place(&cabinet, 3).refusal)
+        return;
     const uint8_t *request = requests->bytes + at - AKUBOLINFE_RECORD;
-    akubolinfe_cabinet handed_back = print_use(cabinet, 1, km0, acl, request);
-    print_use_in_place(&cabinet, 1, km0, acl, request);
-    printf("the cabinet is %s\n", memcmp(&cabinet, &handed_back, sizeof cabinet) == 0 ? "the same" : "another");
-    print_use(cabinet, AKUBOLINFE_SLOTS, km0, acl, requests->bytes);
+    akubolinfe_cabinet_outcome by_value = akubolinfe_cabinet_request(cabinet, 1, km0->bytes, km0->length, acl->bytes,
+                                                                     acl->length, request, AKUBOLINFE_RECORD);
+    print_use(&cabinet, 1, km0, acl, request);
+    printf("by value the cabinet is %s\n", memcmp(&cabinet, &by_value.cabinet, sizeof cabinet) == 0 ? "the same" : "another");
+    print_use(&cabinet, AKUBOLINFE_SLOTS, km0, acl, request);
 }
 
 static void print_verdict(const file *bundle, const file *acl)
 {
     akubolinfe_verdict v = akubolinfe_desk(bundle->bytes, bundle->length, acl->bytes, acl->length);
-    if (v.answer == AKUBOLINFE_ACCEPTED)
-        printf("accepted: approach %llu, protection %llu, recoverable %d\n", (unsigned long long)v.approach,
-               (unsigned long long)v.protection, v.recoverable);
+    if (akubolinfe_accepted(v))
+        printf("accepted: approach %u, protection %u, recoverable %d\n", (unsigned)v.approach, (unsigned)v.protection,
+               v.recoverable);
+    else if (v.refusal)
+        printf("refused %u\n", (unsigned)v.refusal);
     else
-        printf("%s %llu\n", v.answer == AKUBOLINFE_STEP_FAILED ? "failed step" : "refused", (unsigned long long)v.number);
+        printf("failed step %u\n", (unsigned)v.step);
 }
 
 int main(int count, char **names)
 {
     static file files[5];
     if (count != 6) {
-        fprintf(stderr, "example: five file names are due: KM0 ACL REQUESTS BUNDLE BUNDLE_ACL\n");
+        fprintf(stderr, "usage: example KM0 ACL REQUESTS BUNDLE BUNDLE_ACL\n");
+        return EXIT_FAILURE;
+    }
+    if (akubolinfe_abi() != AKUBOLINFE_ABI) {
+        fprintf(stderr, "example: the library is not that of the header\n");
         return EXIT_FAILURE;
     }
     for (int i = 0; i < 5; i++)
         if (!read_file(names[i + 1], &files[i]))
             return EXIT_FAILURE;
+    akubolinfe_ledger ledger = akubolinfe_fresh();
     print_listing(&files[1]);
-    print_run(&files[0], &files[1], &files[2], print_day(&files[0], &files[1], &files[2]));
+    print_day(&ledger, &files[0], &files[1], &files[2]);
+    print_run(&ledger, &files[0], &files[1], &files[2]);
     print_keys(&files[0], &files[1], &files[2]);
     print_verdict(&files[3], &files[4]);
     return EXIT_SUCCESS;

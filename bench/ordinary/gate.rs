@@ -16,7 +16,7 @@ fn hash_of(bytes: &[u8]) -> Result<&Hash, Refusal> {
 
 impl From<Refusal> for Reply {
     fn from(why: Refusal) -> Reply {
-        Reply::Refuse(why as u64, None)
+        Reply::Refuse(why as u32, None)
     }
 }
 
@@ -25,14 +25,14 @@ impl From<Denial> for Reply {
         match why {
             Denial::Early => Reply::Refuse(4, None),
             Denial::Unadmitted => Reply::Refuse(5, None),
-            Denial::Uncertified(place) => Reply::Refuse(6, Some(place as u64)),
-            Denial::Exhausted(place) => Reply::Refuse(7, Some(place as u64)),
+            Denial::Uncertified(place) => Reply::Refuse(6, Some(place as u32)),
+            Denial::Exhausted(place) => Reply::Refuse(7, Some(place as u32)),
         }
     }
 }
 
 fn reply(decided: Result<usize, Reply>) -> Reply {
-    decided.map_or_else(|refused| refused, |place| Reply::Permit(place as u64))
+    decided.map_or_else(|refused| refused, |place| Reply::Permit(place as u32))
 }
 
 impl Ledger {
@@ -42,38 +42,35 @@ impl Ledger {
     }
 
     /// A load, at any time.
-    pub fn load(mut self, time: u64) -> (Ledger, Reply) {
+    pub fn load(&mut self, time: u64) -> Reply {
         self.counts = [0; GROUPS];
         self.loaded = time;
         self.last = time;
-        (self, Reply::Done)
+        Reply::Done
     }
 
     /// A clear of one named counter.
-    pub fn clear(mut self, counter: usize) -> (Ledger, Reply) {
+    pub fn clear(&mut self, counter: usize) -> Reply {
         let Some(count) = self.counters.get_mut(counter) else {
-            return (self, Refusal::OutOfRange.into());
+            return Refusal::OutOfRange.into();
         };
         *count = 0;
-        (self, Reply::Done)
+        Reply::Done
     }
 
     /// A request for a use or a blob.
-    pub fn request(mut self, km0: &[u8], acl: &[u8], req: &[u8]) -> (Ledger, Reply) {
-        let decided = self.try_request(km0, acl, req);
-        (self, reply(decided))
+    pub fn request(&mut self, km0: &[u8], acl: &[u8], req: &[u8]) -> Reply {
+        reply(self.try_request(km0, acl, req))
     }
 
     /// A narrowing; if it is permitted the new ACL is in force.
-    pub fn narrow(mut self, km0: &[u8], acl: &[u8], req: &[u8], new: &[u8], hints: &[u8]) -> (Ledger, Reply) {
-        let decided = self.try_narrow(km0, acl, req, new, hints);
-        (self, reply(decided))
+    pub fn narrow(&mut self, km0: &[u8], acl: &[u8], req: &[u8], new: &[u8], hints: &[u8]) -> Reply {
+        reply(self.try_narrow(km0, acl, req, new, hints))
     }
 
     /// An expansion; if it is permitted the new ACL is in force.
-    pub fn expand(mut self, km0: &[u8], acl: &[u8], req: &[u8], new: &[u8]) -> (Ledger, Reply) {
-        let decided = self.try_expand(km0, acl, req, new);
-        (self, reply(decided))
+    pub fn expand(&mut self, km0: &[u8], acl: &[u8], req: &[u8], new: &[u8]) -> Reply {
+        reply(self.try_expand(km0, acl, req, new))
     }
 
     // The three below change the ledger only once nothing can refuse any more.

@@ -1,29 +1,34 @@
-/* Akubolinfe for C programs: the permission gate, for one key and for a cabinet of eight, the attestation desk, the trimming
- * tool, the subject writer, and ACLs as text. x86-64 Linux.
+/* Akubolinfe for C and C++: a permission gate for keys kept in nShield modules (for one key, and for a cabinet of eight), the
+ * attestation desk, the trimming tool, the subject writer, and ACLs as text. x86-64 Linux.
  *
- * Every function takes any bytes, of any length, and any numbers, and returns; what is wrong with them it answers with a number. A
- * refusal hands ledger or cabinet back as it was, and leaves every buffer and every lent table as it was.
+ * Answers
+ *   Every answer begins with `refusal`: 0 if the call did what it was asked, else the number of the refusal (AKUBOLINFE_MALFORMED and
+ *   the others below). `if (answer.refusal)` is the test for all of them; a verdict and a trimming also have `step`, the number of the
+ *   attestation step that failed. What an answer does not carry is zero; a group that is not named is AKUBOLINFE_NO_GROUP.
+ *   Every function takes any bytes, of any length, and any numbers, and returns. A refused call changes nothing: no ledger, no cabinet
+ *   and no buffer.
  *
- * What the caller has to see to:
+ * In place and by value
+ *   The functions whose names end in `_in_place` change the ledger or the cabinet that the pointer leads to. Use these. Those without
+ *   `_in_place` take a ledger or a cabinet by value and return the changed one in the outcome: the caller has to pass that one to the
+ *   next call. A caller who passes the old one again forgets what was used.
  *
- * - Bytes are lent as a pointer and a length. The pointer leads to that many bytes, and nothing else changes them before the
- *   call returns. Where the length is zero nothing is read or written, and the pointer may be NULL.
- * - What is only read (`const`) may overlap. A buffer, a table or a last time that is written must not overlap anything else that is
- *   lent to the same call.
- * - Bytes need no alignment. Tables and a last time are aligned as C aligns their numbers, and are never NULL. A row of certificates is
- *   an array of `akubolinfe_certificate`, aligned as C aligns that type (2 bytes), and its length counts certificates, not bytes.
- * - Nothing is kept between calls, and there is no global state. Threads may call at the same time. The ledger or the cabinet goes in by
- *   value and comes back by value: hand the one that came back last to the next call, and let calls on one key, or on one cabinet,
- *   follow each other; of two calls that start from the same ledger one is forgotten. The calls in place (`.._in_place`) change the ledger
- *   or the cabinet where it stands; while one runs nothing else reads or writes the places that it was lent.
- * - Structs by value are large: a ledger has 1,296 bytes, a cabinet 3,200, and each comes back within the result. In place nothing is
- *   copied. Besides these a call needs some kilobytes of stack (`bench/measure stack` prints how many).
- * - Lend the ACL that is in force, the KM0 hash of the module and the true time. No function looks at a clock, and none knows whether a
- *   presented certificate or a signature reported as good was checked.
+ * The caller
+ *   - lends bytes as a pointer and a length. The pointer leads to that many bytes, and nothing else changes them before the call
+ *     returns. If the length is zero nothing is read or written, and the pointer may be NULL.
+ *   - lends what is written (a ledger, a cabinet, a buffer) so that it overlaps nothing else that is lent to the same call. What is
+ *     only read (`const`) may overlap.
+ *   - aligns a ledger, a cabinet and an array of certificates as C aligns their types, and never passes NULL for a ledger or a cabinet.
+ *     Bytes need no alignment. The length of an array of certificates counts certificates, not bytes.
+ *   - makes the calls on one ledger or one cabinet one after the other. Calls on different ones may run at the same time in any number
+ *     of threads: the library keeps nothing between calls, and it has no global state.
+ *   - passes the ACL that is in force, the KM0 hash of the module, and the true time in seconds. No function reads a clock, and none
+ *     knows whether a presented certificate, or a signature that is reported as good, was checked.
  *
- * Build and install it with `make -C host install PREFIX=..`, which installs this header, the library as libakubolinfe.a and a
- * pkg-config file, and link with `pkg-config --cflags --libs akubolinfe`. Within the repository the library has the name that `rt staticlib
- * host` gives it, target/staticlib/libhost.a; it is the same file. */
+ * Sizes
+ *   A ledger has 1,296 bytes and a cabinet 3,200.
+ *
+ * Link with `pkg-config --cflags --libs akubolinfe`. */
 #ifndef AKUBOLINFE_H
 #define AKUBOLINFE_H
 
@@ -31,19 +36,96 @@
 #include <stddef.h>
 #include <stdint.h>
 
-/* Sizes in bytes and records. The longest ACL has a record of kind 15 (where blobs are stored) after each of its actions. */
+#ifdef __cplusplus
+extern "C" {
+#endif
+
+/* The answer of the function is not to be dropped: the compiler warns. */
+#if defined(__GNUC__)
+#define AKUBOLINFE_MUST_USE __attribute__((warn_unused_result))
+#else
+#define AKUBOLINFE_MUST_USE
+#endif
+
+/* The version of the library. AKUBOLINFE_ABI grows whenever a program that was compiled with an older header has to be compiled
+ * again; it is the number in the name of the shared library, libakubolinfe.so.1. */
+#define AKUBOLINFE_VERSION "1.0"
+#define AKUBOLINFE_ABI 1
+
+/* The AKUBOLINFE_ABI of the library that is linked. A program that loads the library at run time compares it with its own. */
+AKUBOLINFE_MUST_USE uint32_t akubolinfe_abi(void);
+
+/* Sizes of records, hashes and tables. */
 #define AKUBOLINFE_RECORD 64
 #define AKUBOLINFE_HASH 20
 #define AKUBOLINFE_GROUPS 64
 #define AKUBOLINFE_COUNTERS 256
 #define AKUBOLINFE_SLOTS 8
+
+/* Greatest lengths in bytes. Longer ACLs, requests, hints and bundles are refused with 1. No subject, no listing, no trimmed ACL and
+ * no hints are longer than this, so a buffer of this length is never refused with 9. */
 #define AKUBOLINFE_ACL_BYTES 86016
+#define AKUBOLINFE_REQUEST_BYTES 3200
 #define AKUBOLINFE_HINT_BYTES 4096
+#define AKUBOLINFE_BUNDLE_BYTES 3328
+#define AKUBOLINFE_SUBJECT_BYTES 137
 #define AKUBOLINFE_LISTING_BYTES 164416
 
-/* What was used: a count for each group, the named counters, the load time and the last time, in seconds. A ledger that was kept
- * with 16 counts and 96 counters (464 bytes) is carried over into a fresh one: its counts and its counters, each to the front of
- * theirs, and both times. What lies past them is zero. */
+/* Greatest numbers of a run: its certificates, and its request records, without and with a prepared form. */
+#define AKUBOLINFE_CERTIFICATES 32
+#define AKUBOLINFE_RUN_RECORDS 100
+#define AKUBOLINFE_PREPARED_RECORDS 1000
+
+/* The bytes of one answer in the buffer of a run. */
+#define AKUBOLINFE_ANSWER_BYTES 8
+
+/* Refusals. */
+#define AKUBOLINFE_BAD_LENGTH 1     /* a length is wrong: not whole records of 64 bytes, a file over its greatest length, a KM0 hash
+                                       that is not 20 bytes, or subject hashes of the wrong length */
+#define AKUBOLINFE_MALFORMED 2      /* a record is malformed or out of place */
+#define AKUBOLINFE_TOO_MANY 3       /* one group, limit, action, certificate, delegation or listed module key too many */
+#define AKUBOLINFE_CLOCK_BACK 4     /* the time is before the load time or the last permitted request */
+#define AKUBOLINFE_NOT_ADMITTED 5   /* no group admits the request */
+#define AKUBOLINFE_NOT_CERTIFIED 6  /* no group that admits the request has its certifier presented */
+#define AKUBOLINFE_SPENT 7          /* every group that admits the request and is certified is used up */
+#define AKUBOLINFE_NOT_NARROWER 8   /* the hints do not show that the new ACL is a narrowing */
+#define AKUBOLINFE_SHORT_BUFFER 9   /* a buffer is too short */
+#define AKUBOLINFE_OUT_OF_RANGE 10  /* the counter is over 255, or the certificate is not 3, 4 or 5 */
+#define AKUBOLINFE_UNKNOWN_SUITE 11 /* the ciphersuite is not 1 to 5 */
+#define AKUBOLINFE_OPEN_ARCHIVE 12  /* a MakeArchiveBlob action without kahash is in a group without a certifier */
+#define AKUBOLINFE_NO_SLOT 13       /* the slot is over 7 */
+#define AKUBOLINFE_OTHER_FORM 14    /* the prepared form is not the one of this ACL */
+#define AKUBOLINFE_NOT_LISTING 15   /* a line is not the written form of a record that is valid there */
+
+/* Attestation steps. */
+#define AKUBOLINFE_WV1 1     /* the warrant's signature is not good, or its ESN is absent */
+#define AKUBOLINFE_MSCV1 2   /* the module state certificate's signature is not good */
+#define AKUBOLINFE_MSCV2 3   /* the module state certificate's ESN or KML is absent */
+#define AKUBOLINFE_MSCV3 4   /* the ESNs of the warrant and the module state certificate differ */
+#define AKUBOLINFE_MSCV4 5   /* the hash of knsopub is not HKNSO, or HKNSO is absent */
+#define AKUBOLINFE_MSCV5 6   /* hkm is not one of the listed module keys */
+#define AKUBOLINFE_WBCV1 7   /* CertKMaKMCbKNSO is not good, or knsopub, hkm or hkmc is absent */
+#define AKUBOLINFE_WBCV2 8   /* CertKMaKMCaKFIPSbKNSO is not good, or knsopub, hkm, hkmc or hkfips is absent */
+#define AKUBOLINFE_WBCV3 9   /* CertKREaKRAbKNSO is not good, or knsopub, hkre or hkra is absent */
+#define AKUBOLINFE_KGCV1 10  /* the key generation signature is not good */
+#define AKUBOLINFE_KGCV2 11  /* the key hash in kcmsg or the hash of pubkeydata is absent, or they differ */
+#define AKUBOLINFE_ACLV3 12  /* an action has a permission that the policy does not admit */
+#define AKUBOLINFE_WB1 13    /* a MakeBlob action has neither AllowKmOnly nor kthash */
+#define AKUBOLINFE_WB2 14    /* a MakeBlob action's kmhash is not the trusted module key hkm */
+#define AKUBOLINFE_WB3 15    /* a MakeBlob action has AllowNullKmToken */
+#define AKUBOLINFE_WB6 16    /* a MakeBlob action has kthash without ktparams */
+#define AKUBOLINFE_RB1 17    /* a MakeArchiveBlob action needs the recovery key, and hkre is not trusted */
+#define AKUBOLINFE_RB2 18    /* a MakeArchiveBlob action's kahash is not hkre */
+#define AKUBOLINFE_RB3 19    /* a MakeArchiveBlob action's mechanism is not the one of the ciphersuite */
+#define AKUBOLINFE_KV3 20    /* the key's protection is below the lowest that the policy takes */
+#define AKUBOLINFE_CSRL1 21  /* a CSR is in use, and its key is absent or is not pubkeydata */
+
+/* No group is named. */
+#define AKUBOLINFE_NO_GROUP UINT32_MAX
+
+/* What was used of one key: a count for each group, the named counters, the load time and the last time, in seconds. Keep it from one
+ * call to the next, and store it if it has to outlive the program. A ledger that was kept with 16 counts and 96 counters (464 bytes) is
+ * carried over into a fresh one: its counts and its counters, each to the front of theirs, and both times. */
 typedef struct {
     uint32_t counts[AKUBOLINFE_GROUPS];
     uint32_t counters[AKUBOLINFE_COUNTERS];
@@ -51,213 +133,39 @@ typedef struct {
     uint64_t last;
 } akubolinfe_ledger;
 
-/* What an outcome's `answer` is. */
-#define AKUBOLINFE_DONE 0
-#define AKUBOLINFE_PERMITTED 1
-#define AKUBOLINFE_REFUSED 2
-
-/* No group is named. */
-#define AKUBOLINFE_NO_GROUP UINT64_MAX
-
-/* The ledger handed back; what the answer is; the group that permits, or the refusal's number; the group that permits, or
- * that came nearest (refusal 6: the lowest that admits; 7: the lowest that admits and is certified). */
-typedef struct {
-    akubolinfe_ledger ledger;
-    uint64_t answer;
-    uint64_t number;
-    uint64_t group;
-} akubolinfe_outcome;
-
-/* Refusals. */
-#define AKUBOLINFE_BAD_LENGTH 1
-#define AKUBOLINFE_MALFORMED 2
-#define AKUBOLINFE_TOO_MANY 3
-#define AKUBOLINFE_CLOCK_BACK 4
-#define AKUBOLINFE_NOT_ADMITTED 5
-#define AKUBOLINFE_NOT_CERTIFIED 6
-#define AKUBOLINFE_SPENT 7
-#define AKUBOLINFE_NOT_NARROWER 8
-#define AKUBOLINFE_SHORT_BUFFER 9
-#define AKUBOLINFE_OUT_OF_RANGE 10
-#define AKUBOLINFE_UNKNOWN_SUITE 11
-#define AKUBOLINFE_OPEN_ARCHIVE 12
-#define AKUBOLINFE_NO_SLOT 13
-#define AKUBOLINFE_OTHER_FORM 14
-#define AKUBOLINFE_NOT_LISTING 15
-
-/* The fresh ledger: all zero. */
-akubolinfe_ledger akubolinfe_fresh(void);
-
-/* A load, at any time: group counts zero, both times set. */
-akubolinfe_outcome akubolinfe_load(akubolinfe_ledger ledger, uint64_t time);
-
-/* A clear of one named counter, 0 to 255. */
-akubolinfe_outcome akubolinfe_clear(akubolinfe_ledger ledger, size_t counter);
-
-/* A request for a use or a blob: the KM0 hash, the ACL in force, the request record; directly after it, if it asks for a blob
- * that is stored (flag 6), a record of kind 15 with the one device and, if used, the hash of the ACL template; then up to 32
- * certificates (kind 9), then up to 16 delegations (kind 14): at most 50 records. */
-akubolinfe_outcome akubolinfe_request(akubolinfe_ledger ledger, const uint8_t *km0, size_t km0_length, const uint8_t *acl,
-                                      size_t acl_length, const uint8_t *request, size_t request_length);
-
-/* A narrowing: with the new ACL and a hint for each of its groups. If it is permitted the new ACL is in force. */
-akubolinfe_outcome akubolinfe_narrow(akubolinfe_ledger ledger, const uint8_t *km0, size_t km0_length, const uint8_t *acl,
-                                     size_t acl_length, const uint8_t *request, size_t request_length,
-                                     const uint8_t *new_acl, size_t new_acl_length, const uint8_t *hints,
-                                     size_t hints_length);
-
-/* An expansion: with the new ACL. If it is permitted the new ACL is in force. */
-akubolinfe_outcome akubolinfe_expand(akubolinfe_ledger ledger, const uint8_t *km0, size_t km0_length, const uint8_t *acl,
-                                     size_t acl_length, const uint8_t *request, size_t request_length,
-                                     const uint8_t *new_acl, size_t new_acl_length);
-
-/* A reply alone: what the answer is, its number and the group, as in an `akubolinfe_outcome`. */
-typedef struct {
-    uint64_t answer;
-    uint64_t number;
-    uint64_t group;
-} akubolinfe_reply;
-
-/* The same steps on a ledger that stays where it is: its tables and its last time are lent, and a permit charges them there. The
- * load time is read alone. For a ledger `l` lend `l.counts, l.counters, l.loaded, &l.last`; for slot `s` of a cabinet `c` (below), `s` at
- * most 7, lend `c.slots[s].counts, c.counters, c.slots[s].loaded, &c.slots[s].last`. Reply and lent places are then those of the
- * outcome by value; a refusal leaves the places as they were. */
-
-/* A request in place. */
-akubolinfe_reply akubolinfe_request_in_place(uint32_t counts[AKUBOLINFE_GROUPS], uint32_t counters[AKUBOLINFE_COUNTERS],
-                                             uint64_t loaded, uint64_t *last, const uint8_t *km0, size_t km0_length,
-                                             const uint8_t *acl, size_t acl_length, const uint8_t *request,
-                                             size_t request_length);
-
-/* A narrowing in place. */
-akubolinfe_reply akubolinfe_narrow_in_place(uint32_t counts[AKUBOLINFE_GROUPS], uint32_t counters[AKUBOLINFE_COUNTERS],
-                                            uint64_t loaded, uint64_t *last, const uint8_t *km0, size_t km0_length,
-                                            const uint8_t *acl, size_t acl_length, const uint8_t *request,
-                                            size_t request_length, const uint8_t *new_acl, size_t new_acl_length,
-                                            const uint8_t *hints, size_t hints_length);
-
-/* An expansion in place. */
-akubolinfe_reply akubolinfe_expand_in_place(uint32_t counts[AKUBOLINFE_GROUPS], uint32_t counters[AKUBOLINFE_COUNTERS],
-                                            uint64_t loaded, uint64_t *last, const uint8_t *km0, size_t km0_length,
-                                            const uint8_t *acl, size_t acl_length, const uint8_t *request,
-                                            size_t request_length, const uint8_t *new_acl, size_t new_acl_length);
-
-/* A slot of a cabinet: what a ledger has beside its counters. */
+/* What a cabinet has of one key: what a ledger has besides its counters. */
 typedef struct {
     uint32_t counts[AKUBOLINFE_GROUPS];
     uint64_t loaded;
     uint64_t last;
 } akubolinfe_slot;
 
-/* A cabinet: eight keys, each with a slot, and the named counters, which all of them share. */
+/* Eight keys, each with a slot, and the named counters, which all of them share. */
 typedef struct {
     akubolinfe_slot slots[AKUBOLINFE_SLOTS];
     uint32_t counters[AKUBOLINFE_COUNTERS];
 } akubolinfe_cabinet;
 
-/* The cabinet handed back, and the answer as in an `akubolinfe_outcome`. */
+/* The answer of the gate. A permit has refusal 0 and the group that permits; a load or a clear that is done has refusal 0 and no group.
+ * Refusals 6 and 7 name the group that came nearest: the lowest that admits the request (6), the lowest that admits it and is
+ * certified (7). */
 typedef struct {
+    uint32_t refusal;
+    uint32_t group;
+} akubolinfe_reply;
+
+/* The same with the ledger, or the cabinet, after the call. */
+typedef struct {
+    uint32_t refusal;
+    uint32_t group;
+    akubolinfe_ledger ledger;
+} akubolinfe_outcome;
+
+typedef struct {
+    uint32_t refusal;
+    uint32_t group;
     akubolinfe_cabinet cabinet;
-    uint64_t answer;
-    uint64_t number;
-    uint64_t group;
 } akubolinfe_cabinet_outcome;
-
-/* The fresh cabinet: all zero. */
-akubolinfe_cabinet akubolinfe_cabinet_fresh(void);
-
-/* The calls of a slot, and the runs in it (below), are those of a ledger, on the slot's counts and times and the shared counters;
- * at each call the ACL of the slot's key is lent. No other slot changes. A slot over 7 is refused with 13, before anything else
- * is looked at. */
-
-/* A load of a slot, at any time: its group counts zero, both its times set. */
-akubolinfe_cabinet_outcome akubolinfe_cabinet_load(akubolinfe_cabinet cabinet, size_t slot, uint64_t time);
-
-/* A clear of one named counter, 0 to 255, for every slot. */
-akubolinfe_cabinet_outcome akubolinfe_cabinet_clear(akubolinfe_cabinet cabinet, size_t counter);
-
-/* A request to a slot, as `akubolinfe_request`. */
-akubolinfe_cabinet_outcome akubolinfe_cabinet_request(akubolinfe_cabinet cabinet, size_t slot, const uint8_t *km0,
-                                                      size_t km0_length, const uint8_t *acl, size_t acl_length,
-                                                      const uint8_t *request, size_t request_length);
-
-/* A narrowing in a slot, as `akubolinfe_narrow`. */
-akubolinfe_cabinet_outcome akubolinfe_cabinet_narrow(akubolinfe_cabinet cabinet, size_t slot, const uint8_t *km0,
-                                                     size_t km0_length, const uint8_t *acl, size_t acl_length,
-                                                     const uint8_t *request, size_t request_length,
-                                                     const uint8_t *new_acl, size_t new_acl_length, const uint8_t *hints,
-                                                     size_t hints_length);
-
-/* An expansion in a slot, as `akubolinfe_expand`. */
-akubolinfe_cabinet_outcome akubolinfe_cabinet_expand(akubolinfe_cabinet cabinet, size_t slot, const uint8_t *km0,
-                                                     size_t km0_length, const uint8_t *acl, size_t acl_length,
-                                                     const uint8_t *request, size_t request_length,
-                                                     const uint8_t *new_acl, size_t new_acl_length);
-
-/* What a verdict's `answer` is. */
-#define AKUBOLINFE_ACCEPTED 1
-#define AKUBOLINFE_STEP_FAILED 2
-#define AKUBOLINFE_DESK_REFUSED 3
-
-/* A verdict. An acceptance names approach and, for approach 2, protection (1 to 4) and recoverability. A failed step has
- * its number, from 1: WV1 MSCV1 MSCV2 MSCV3 MSCV4 MSCV5 WBCV1 WBCV2 WBCV3 KGCV1 KGCV2 ACLV3 WB1 WB2 WB3 WB6 RB1 RB2 RB3
- * KV3 CSRL1. A refusal has its number. What does not belong to the answer is zero. */
-typedef struct {
-    uint64_t answer;
-    uint64_t approach;
-    uint64_t protection;
-    bool recoverable;
-    uint64_t number;
-} akubolinfe_verdict;
-
-/* The desk's verdict on a bundle and an ACL. */
-akubolinfe_verdict akubolinfe_desk(const uint8_t *bundle, size_t bundle_length, const uint8_t *acl, size_t acl_length);
-
-/* What a subject's `answer` is: written, with its length; or refused, with the refusal's number. */
-#define AKUBOLINFE_WRITTEN 1
-#define AKUBOLINFE_NOT_WRITTEN 2
-
-typedef struct {
-    uint64_t answer;
-    uint64_t number;
-} akubolinfe_written;
-
-/* The subject of world certificate 3, 4 or 5 under a suite 1 to 5, at the front of the buffer. */
-akubolinfe_written akubolinfe_subject(uint64_t certificate, uint64_t suite, const uint8_t *hashes, size_t hashes_length,
-                                      uint8_t *buffer, size_t buffer_length);
-
-/* What a listing's `answer` is: produced, with the length of the result; or refused, with the refusal's number and, if that
- * is 15, the number of the first bad line, from 1. What does not belong to the answer is zero. */
-#define AKUBOLINFE_PRODUCED 1
-#define AKUBOLINFE_NOT_PRODUCED 2
-
-typedef struct {
-    uint64_t answer;
-    uint64_t number;
-    uint64_t line;
-} akubolinfe_listing;
-
-/* An ACL's listing (docs/LISTING.md) at the front of the buffer. No listing is longer than AKUBOLINFE_LISTING_BYTES. */
-akubolinfe_listing akubolinfe_write_listing(const uint8_t *acl, size_t acl_length, uint8_t *buffer, size_t buffer_length);
-
-/* The ACL of a listing at the front of the buffer. */
-akubolinfe_listing akubolinfe_read_listing(const uint8_t *text, size_t text_length, uint8_t *buffer, size_t buffer_length);
-
-/* What a trimming's `answer` is: trimmed, with the lengths of the new ACL and of its hints; or, as in a verdict,
- * AKUBOLINFE_STEP_FAILED with the number of a step before the ACL, or AKUBOLINFE_DESK_REFUSED with the refusal's number. Without
- * results `hints` is zero. */
-#define AKUBOLINFE_TRIMMED 1
-
-typedef struct {
-    uint64_t answer;
-    uint64_t number;
-    uint64_t hints;
-} akubolinfe_trimmed;
-
-/* The ACL without what fails at the desk, at the front of one buffer, and at the front of the other the hints by which it narrows
- * the old ACL. Only answer 1 writes anything. AKUBOLINFE_ACL_BYTES and AKUBOLINFE_HINT_BYTES are room enough for any. */
-akubolinfe_trimmed akubolinfe_trim(const uint8_t *bundle, size_t bundle_length, const uint8_t *acl, size_t acl_length,
-                                   uint8_t *new_acl, size_t new_acl_length, uint8_t *hints, size_t hints_length);
 
 /* A decoded certificate: the hash of its key, and its mechanism, which is not zero. */
 typedef struct {
@@ -265,80 +173,266 @@ typedef struct {
     uint16_t mechanism;
 } akubolinfe_certificate;
 
-/* Greatest lengths: the certificates of a run, and its request records, without and with a prepared form. */
-#define AKUBOLINFE_CERTIFICATES 32
-#define AKUBOLINFE_RUN_RECORDS 100
-#define AKUBOLINFE_PREPARED_RECORDS 1000
-
-/* An answer in the buffer of a run has eight bytes, each number in four of them, greatest place first: 0 for a permit or the
- * refusal's number, then the group that permits or came nearest, 0xffffffff where none is named. */
-#define AKUBOLINFE_ANSWER_BYTES 8
-
-/* What a run's `answer` is: run, with the number of its requests; or refused as a whole, with the refusal's number, ledger and
- * buffer as they were. */
-#define AKUBOLINFE_RAN 1
-#define AKUBOLINFE_NOT_RUN 2
-
-typedef struct {
-    akubolinfe_ledger ledger;
-    uint64_t answer;
-    uint64_t number;
-} akubolinfe_run_outcome;
-
-/* A run of request records, at most 100, asked one after the other with the certificates of a row: their answers at the front of
- * the buffer. A refused request changes nothing, and the run goes on. */
-akubolinfe_run_outcome akubolinfe_run(akubolinfe_ledger ledger, const uint8_t *km0, size_t km0_length, const uint8_t *acl,
-                                      size_t acl_length, const akubolinfe_certificate *row, size_t row_length,
-                                      const uint8_t *requests, size_t requests_length, uint8_t *answers,
-                                      size_t answers_length);
-
-/* The prepared form of an ACL, sets of its groups, bit g for group g: for each permission those with an action that sets its bit,
- * and those with an action for working blobs and for recovery blobs. */
+/* The prepared form of an ACL: sets of its groups, bit g for group g. `uses` has, for each permission, the groups with an action that sets
+ * its bit; `working` and `recovery` have the groups with a MakeBlob action and with a MakeArchiveBlob action. */
 typedef struct {
     uint64_t uses[16];
     uint64_t working;
     uint64_t recovery;
 } akubolinfe_form;
 
-/* What a preparation's `answer` is: prepared, with the form; or refused, with the ACL's refusal and an empty form. */
-#define AKUBOLINFE_PREPARED 1
-#define AKUBOLINFE_NOT_PREPARED 2
-
+/* The form of an ACL, or the refusal of the ACL and a form that is all zero. */
 typedef struct {
+    uint32_t refusal;
     akubolinfe_form form;
-    uint64_t answer;
-    uint64_t number;
 } akubolinfe_preparation;
 
-/* The form of an ACL, made once. */
-akubolinfe_preparation akubolinfe_prepare(const uint8_t *acl, size_t acl_length);
-
-/* A run of at most 1,000 request records on a prepared ACL. A form that is not this ACL's is refused with 14. */
-akubolinfe_run_outcome akubolinfe_prepared_run(akubolinfe_ledger ledger, const uint8_t *km0, size_t km0_length,
-                                               const uint8_t *acl, size_t acl_length, const akubolinfe_certificate *row,
-                                               size_t row_length, akubolinfe_form form, const uint8_t *requests,
-                                               size_t requests_length, uint8_t *answers, size_t answers_length);
-
-/* The cabinet handed back, and the answer as in an `akubolinfe_run_outcome`. */
+/* The answer of a run: the number of its requests, each of which has its own answer in the buffer; or the refusal of the run as a whole. */
 typedef struct {
+    uint32_t refusal;
+    uint64_t count;
+} akubolinfe_run_reply;
+
+/* The same with the ledger, or the cabinet, after the run. */
+typedef struct {
+    uint32_t refusal;
+    uint64_t count;
+    akubolinfe_ledger ledger;
+} akubolinfe_run_outcome;
+
+typedef struct {
+    uint32_t refusal;
+    uint64_t count;
     akubolinfe_cabinet cabinet;
-    uint64_t answer;
-    uint64_t number;
 } akubolinfe_cabinet_run_outcome;
 
-/* A run in a slot of a cabinet, as `akubolinfe_run`. */
-akubolinfe_cabinet_run_outcome akubolinfe_cabinet_run(akubolinfe_cabinet cabinet, size_t slot, const uint8_t *km0,
-                                                      size_t km0_length, const uint8_t *acl, size_t acl_length,
-                                                      const akubolinfe_certificate *row, size_t row_length,
-                                                      const uint8_t *requests, size_t requests_length, uint8_t *answers,
-                                                      size_t answers_length);
+/* The desk's verdict: accepted if `refusal` and `step` are both zero (see akubolinfe_accepted). An acceptance names the approach, 1 or 2,
+ * and, for approach 2, the protection (1 module, 2 softcard, 3 card set, 4 not kept in any working blob) and whether the key can
+ * be recovered. `step` is the first attestation step that failed. */
+typedef struct {
+    uint32_t refusal;
+    uint32_t step;
+    uint32_t approach;
+    uint32_t protection;
+    bool recoverable;
+} akubolinfe_verdict;
 
-/* A run on a prepared ACL in a slot of a cabinet, as `akubolinfe_prepared_run`. */
-akubolinfe_cabinet_run_outcome akubolinfe_cabinet_prepared_run(akubolinfe_cabinet cabinet, size_t slot, const uint8_t *km0,
-                                                               size_t km0_length, const uint8_t *acl, size_t acl_length,
-                                                               const akubolinfe_certificate *row, size_t row_length,
-                                                               akubolinfe_form form, const uint8_t *requests,
-                                                               size_t requests_length, uint8_t *answers,
-                                                               size_t answers_length);
+/* The answer of the subject writer: the length of the subject. */
+typedef struct {
+    uint32_t refusal;
+    uint64_t length;
+} akubolinfe_subject_reply;
+
+/* The answer of the functions for listings: the length of the result; for refusal 15 the number of the first bad line, from 1. */
+typedef struct {
+    uint32_t refusal;
+    uint64_t line;
+    uint64_t length;
+} akubolinfe_text_reply;
+
+/* The answer of the trimming tool: trimmed if `refusal` and `step` are both zero, with the lengths of the new ACL and of its hints.
+ * `step` is the first attestation step that failed before the ACL was looked at. */
+typedef struct {
+    uint32_t refusal;
+    uint32_t step;
+    uint64_t acl_length;
+    uint64_t hints_length;
+} akubolinfe_trim_reply;
+
+/* A ledger from which nothing was used, all zero. Load it before the first request. */
+AKUBOLINFE_MUST_USE akubolinfe_ledger akubolinfe_fresh(void);
+
+/* Loads the key: the counts of the groups become zero, load time and last time become `time`, which may be any. The named counters
+ * stay. Never refused. */
+akubolinfe_reply akubolinfe_load_in_place(akubolinfe_ledger *ledger, uint64_t time);
+
+/* Sets one named counter, 0 to 255, to zero. Refused with 10 if there is no such counter. */
+AKUBOLINFE_MUST_USE akubolinfe_reply akubolinfe_clear_in_place(akubolinfe_ledger *ledger, size_t counter);
+
+/* Asks for a use of the key or for a blob. `km0` is the hash of the module key KM0, 20 bytes; `acl` is the ACL in force. `request` is
+ * the request record; then, if the request is for a blob that is stored (flag 6), a record of kind 15 with the one device and, if one
+ * is used, the hash of the ACL template; then up to 32 certificates (kind 9), then up to 16 delegations (kind 14). A permit charges
+ * the group that permits and the counters that it names, and sets the last time.
+ * Refused with 1; 2, 3, 12 (the first fault in the ACL, then in the request); 4, 5, 6, 7. */
+AKUBOLINFE_MUST_USE akubolinfe_reply akubolinfe_request_in_place(akubolinfe_ledger *ledger, const uint8_t *km0, size_t km0_length,
+                                                                 const uint8_t *acl, size_t acl_length, const uint8_t *request,
+                                                                 size_t request_length);
+
+/* Asks to replace the ACL by a narrower one. `hints` has a record for each group of the new ACL that names the old group and the old
+ * actions that it comes from. If it is permitted the new ACL is in force, and each new group has the count of its old group.
+ * Refused as akubolinfe_request_in_place, with faults in the new ACL and in the hints after those in the request; then with 8. */
+AKUBOLINFE_MUST_USE akubolinfe_reply akubolinfe_narrow_in_place(akubolinfe_ledger *ledger, const uint8_t *km0, size_t km0_length,
+                                                                const uint8_t *acl, size_t acl_length, const uint8_t *request,
+                                                                size_t request_length, const uint8_t *new_acl,
+                                                                size_t new_acl_length, const uint8_t *hints,
+                                                                size_t hints_length);
+
+/* Asks to replace the ACL by any other. If it is permitted the new ACL is in force, and the counts of the groups are zero.
+ * Refused as akubolinfe_request_in_place, with faults in the new ACL after those in the request. */
+AKUBOLINFE_MUST_USE akubolinfe_reply akubolinfe_expand_in_place(akubolinfe_ledger *ledger, const uint8_t *km0, size_t km0_length,
+                                                                const uint8_t *acl, size_t acl_length, const uint8_t *request,
+                                                                size_t request_length, const uint8_t *new_acl,
+                                                                size_t new_acl_length);
+
+/* Asks up to 100 requests, each of one record, in order, all with the certificates of `row`, at most 32. Answer k is at
+ * answers[8 * k]: the refusal, 0 for a permit, in four bytes, then the group in four, both with the greatest byte first, 0xffffffff if
+ * no group is named. The answers, and the ledger, are those of akubolinfe_request_in_place for each request in turn; a request that is
+ * refused changes nothing, and the run continues. Bytes after the last answer are unchanged.
+ * The run as a whole is refused with 1, 3 (too many certificates), 2 (a mechanism that is zero), a fault in the ACL, 9 (fewer than 8
+ * bytes for each request). */
+AKUBOLINFE_MUST_USE akubolinfe_run_reply akubolinfe_run_in_place(akubolinfe_ledger *ledger, const uint8_t *km0, size_t km0_length,
+                                                                 const uint8_t *acl, size_t acl_length,
+                                                                 const akubolinfe_certificate *row, size_t row_length,
+                                                                 const uint8_t *requests, size_t requests_length,
+                                                                 uint8_t *answers, size_t answers_length);
+
+/* The same for up to 1,000 requests, with the form that akubolinfe_prepare made of this ACL. After the other refusals of the run, a form
+ * that is not the one of this ACL is refused with 14. */
+AKUBOLINFE_MUST_USE akubolinfe_run_reply akubolinfe_prepared_run_in_place(
+    akubolinfe_ledger *ledger, const uint8_t *km0, size_t km0_length, const uint8_t *acl, size_t acl_length,
+    const akubolinfe_certificate *row, size_t row_length, akubolinfe_form form, const uint8_t *requests, size_t requests_length,
+    uint8_t *answers, size_t answers_length);
+
+/* A cabinet from which nothing was used, all zero. Load each slot before its first request. */
+AKUBOLINFE_MUST_USE akubolinfe_cabinet akubolinfe_cabinet_fresh(void);
+
+/* The calls on a slot of a cabinet are those on a ledger, with the slot's counts and times and the counters that all slots share. Each
+ * call passes the ACL of the slot's key. No other slot changes. A slot over 7 is refused with 13 before anything else is checked. */
+AKUBOLINFE_MUST_USE akubolinfe_reply akubolinfe_cabinet_load_in_place(akubolinfe_cabinet *cabinet, size_t slot, uint64_t time);
+
+/* Sets one named counter, 0 to 255, to zero, for every slot. */
+AKUBOLINFE_MUST_USE akubolinfe_reply akubolinfe_cabinet_clear_in_place(akubolinfe_cabinet *cabinet, size_t counter);
+
+AKUBOLINFE_MUST_USE akubolinfe_reply akubolinfe_cabinet_request_in_place(akubolinfe_cabinet *cabinet, size_t slot,
+                                                                         const uint8_t *km0, size_t km0_length,
+                                                                         const uint8_t *acl, size_t acl_length,
+                                                                         const uint8_t *request, size_t request_length);
+
+AKUBOLINFE_MUST_USE akubolinfe_reply akubolinfe_cabinet_narrow_in_place(
+    akubolinfe_cabinet *cabinet, size_t slot, const uint8_t *km0, size_t km0_length, const uint8_t *acl, size_t acl_length,
+    const uint8_t *request, size_t request_length, const uint8_t *new_acl, size_t new_acl_length, const uint8_t *hints,
+    size_t hints_length);
+
+AKUBOLINFE_MUST_USE akubolinfe_reply akubolinfe_cabinet_expand_in_place(akubolinfe_cabinet *cabinet, size_t slot,
+                                                                        const uint8_t *km0, size_t km0_length,
+                                                                        const uint8_t *acl, size_t acl_length,
+                                                                        const uint8_t *request, size_t request_length,
+                                                                        const uint8_t *new_acl, size_t new_acl_length);
+
+AKUBOLINFE_MUST_USE akubolinfe_run_reply akubolinfe_cabinet_run_in_place(akubolinfe_cabinet *cabinet, size_t slot,
+                                                                         const uint8_t *km0, size_t km0_length,
+                                                                         const uint8_t *acl, size_t acl_length,
+                                                                         const akubolinfe_certificate *row, size_t row_length,
+                                                                         const uint8_t *requests, size_t requests_length,
+                                                                         uint8_t *answers, size_t answers_length);
+
+AKUBOLINFE_MUST_USE akubolinfe_run_reply akubolinfe_cabinet_prepared_run_in_place(
+    akubolinfe_cabinet *cabinet, size_t slot, const uint8_t *km0, size_t km0_length, const uint8_t *acl, size_t acl_length,
+    const akubolinfe_certificate *row, size_t row_length, akubolinfe_form form, const uint8_t *requests, size_t requests_length,
+    uint8_t *answers, size_t answers_length);
+
+/* The same calls by value: each returns the changed ledger or cabinet in the outcome, and the unchanged one with a refusal. */
+AKUBOLINFE_MUST_USE akubolinfe_outcome akubolinfe_load(akubolinfe_ledger ledger, uint64_t time);
+
+AKUBOLINFE_MUST_USE akubolinfe_outcome akubolinfe_clear(akubolinfe_ledger ledger, size_t counter);
+
+AKUBOLINFE_MUST_USE akubolinfe_outcome akubolinfe_request(akubolinfe_ledger ledger, const uint8_t *km0, size_t km0_length,
+                                                          const uint8_t *acl, size_t acl_length, const uint8_t *request,
+                                                          size_t request_length);
+
+AKUBOLINFE_MUST_USE akubolinfe_outcome akubolinfe_narrow(akubolinfe_ledger ledger, const uint8_t *km0, size_t km0_length,
+                                                         const uint8_t *acl, size_t acl_length, const uint8_t *request,
+                                                         size_t request_length, const uint8_t *new_acl, size_t new_acl_length,
+                                                         const uint8_t *hints, size_t hints_length);
+
+AKUBOLINFE_MUST_USE akubolinfe_outcome akubolinfe_expand(akubolinfe_ledger ledger, const uint8_t *km0, size_t km0_length,
+                                                         const uint8_t *acl, size_t acl_length, const uint8_t *request,
+                                                         size_t request_length, const uint8_t *new_acl, size_t new_acl_length);
+
+AKUBOLINFE_MUST_USE akubolinfe_run_outcome akubolinfe_run(akubolinfe_ledger ledger, const uint8_t *km0, size_t km0_length,
+                                                          const uint8_t *acl, size_t acl_length,
+                                                          const akubolinfe_certificate *row, size_t row_length,
+                                                          const uint8_t *requests, size_t requests_length, uint8_t *answers,
+                                                          size_t answers_length);
+
+AKUBOLINFE_MUST_USE akubolinfe_run_outcome akubolinfe_prepared_run(akubolinfe_ledger ledger, const uint8_t *km0, size_t km0_length,
+                                                                   const uint8_t *acl, size_t acl_length,
+                                                                   const akubolinfe_certificate *row, size_t row_length,
+                                                                   akubolinfe_form form, const uint8_t *requests,
+                                                                   size_t requests_length, uint8_t *answers,
+                                                                   size_t answers_length);
+
+AKUBOLINFE_MUST_USE akubolinfe_cabinet_outcome akubolinfe_cabinet_load(akubolinfe_cabinet cabinet, size_t slot, uint64_t time);
+
+AKUBOLINFE_MUST_USE akubolinfe_cabinet_outcome akubolinfe_cabinet_clear(akubolinfe_cabinet cabinet, size_t counter);
+
+AKUBOLINFE_MUST_USE akubolinfe_cabinet_outcome akubolinfe_cabinet_request(akubolinfe_cabinet cabinet, size_t slot,
+                                                                          const uint8_t *km0, size_t km0_length,
+                                                                          const uint8_t *acl, size_t acl_length,
+                                                                          const uint8_t *request, size_t request_length);
+
+AKUBOLINFE_MUST_USE akubolinfe_cabinet_outcome akubolinfe_cabinet_narrow(
+    akubolinfe_cabinet cabinet, size_t slot, const uint8_t *km0, size_t km0_length, const uint8_t *acl, size_t acl_length,
+    const uint8_t *request, size_t request_length, const uint8_t *new_acl, size_t new_acl_length, const uint8_t *hints,
+    size_t hints_length);
+
+AKUBOLINFE_MUST_USE akubolinfe_cabinet_outcome akubolinfe_cabinet_expand(akubolinfe_cabinet cabinet, size_t slot,
+                                                                         const uint8_t *km0, size_t km0_length,
+                                                                         const uint8_t *acl, size_t acl_length,
+                                                                         const uint8_t *request, size_t request_length,
+                                                                         const uint8_t *new_acl, size_t new_acl_length);
+
+AKUBOLINFE_MUST_USE akubolinfe_cabinet_run_outcome akubolinfe_cabinet_run(akubolinfe_cabinet cabinet, size_t slot,
+                                                                          const uint8_t *km0, size_t km0_length,
+                                                                          const uint8_t *acl, size_t acl_length,
+                                                                          const akubolinfe_certificate *row, size_t row_length,
+                                                                          const uint8_t *requests, size_t requests_length,
+                                                                          uint8_t *answers, size_t answers_length);
+
+AKUBOLINFE_MUST_USE akubolinfe_cabinet_run_outcome akubolinfe_cabinet_prepared_run(
+    akubolinfe_cabinet cabinet, size_t slot, const uint8_t *km0, size_t km0_length, const uint8_t *acl, size_t acl_length,
+    const akubolinfe_certificate *row, size_t row_length, akubolinfe_form form, const uint8_t *requests, size_t requests_length,
+    uint8_t *answers, size_t answers_length);
+
+/* Makes the form of an ACL, once for all its runs. Refused with the first fault of the ACL: 1, 2, 3, 12. */
+AKUBOLINFE_MUST_USE akubolinfe_preparation akubolinfe_prepare(const uint8_t *acl, size_t acl_length);
+
+/* The desk's verdict on a bundle and the ACL that comes with it. Refused with 1; 2, 3, 11, 12 (the first fault in the bundle, then in
+ * the ACL). */
+AKUBOLINFE_MUST_USE akubolinfe_verdict akubolinfe_desk(const uint8_t *bundle, size_t bundle_length, const uint8_t *acl,
+                                                       size_t acl_length);
+
+/* Whether a verdict accepts. */
+static inline bool akubolinfe_accepted(akubolinfe_verdict verdict)
+{
+    return verdict.refusal == 0 && verdict.step == 0;
+}
+
+/* Removes from an ACL what fails at the desk: every permission that fails ACLV3, and every blob action that fails a step WB1 to RB3.
+ * Writes the new ACL to the front of `new_acl` and, to the front of `hints`, the hints with which akubolinfe_narrow_in_place takes it;
+ * bytes after them are unchanged. Refused as akubolinfe_desk; then, if no step before the ACL fails, with 9. */
+AKUBOLINFE_MUST_USE akubolinfe_trim_reply akubolinfe_trim(const uint8_t *bundle, size_t bundle_length, const uint8_t *acl,
+                                                          size_t acl_length, uint8_t *new_acl, size_t new_acl_length,
+                                                          uint8_t *hints, size_t hints_length);
+
+/* Writes the subject of world certificate 3, 4 or 5 under ciphersuite 1 to 5 to the front of the buffer; bytes after it are unchanged.
+ * `hashes` has 20 bytes for each hash, in this order: KNSO, KM, KMC (certificate 3: 60 bytes); KNSO, KM, KMC, KFIPS (4: 80 bytes);
+ * KNSO, KRE, KRA (5: 60 bytes). Refused with 10, 11, 1, 9. */
+AKUBOLINFE_MUST_USE akubolinfe_subject_reply akubolinfe_subject(uint64_t certificate, uint64_t suite, const uint8_t *hashes,
+                                                                size_t hashes_length, uint8_t *buffer, size_t buffer_length);
+
+/* Writes the listing of an ACL, one line for each record, to the front of the buffer; bytes after it are unchanged. Refused with the
+ * first fault of the ACL (1, 2, 3, 12), then with 9. */
+AKUBOLINFE_MUST_USE akubolinfe_text_reply akubolinfe_write_listing(const uint8_t *acl, size_t acl_length, uint8_t *buffer,
+                                                                   size_t buffer_length);
+
+/* Writes the ACL of a listing to the front of the buffer; bytes after it are unchanged. Every listing that is accepted is the one that
+ * akubolinfe_write_listing writes for its ACL. Refused with 15 and the number of the first bad line, then with 9. */
+AKUBOLINFE_MUST_USE akubolinfe_text_reply akubolinfe_read_listing(const uint8_t *text, size_t text_length, uint8_t *buffer,
+                                                                  size_t buffer_length);
+
+#ifdef __cplusplus
+}
+#endif
 
 #endif

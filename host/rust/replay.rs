@@ -1,13 +1,14 @@
 // Answers a replay script (docs/REPLAY.md) through the C surface, so that the linked library can be compared with the second
-// program: `second/compare` takes it in the place of the replay program. A request, a narrowing and an expansion are made in place and
-// by value, a run on a ledger and in a slot of a cabinet, and this program ends where the two differ. With `--cfg ordinary` it answers
-// through the ordinary Rust program of bench/ordinary instead, which has neither cabinet nor listings nor trimming tool nor runs.
+// program: `second/compare` takes it in the place of the replay program. Every call on a ledger or a cabinet is made in place and by
+// value, and a run on a ledger is made in a slot of a cabinet too; this program ends where two of them differ. With `--cfg ordinary` it
+// answers through the ordinary Rust program of bench/ordinary instead, which has neither cabinet nor listings nor trimming tool nor
+// runs.
 #[cfg_attr(ordinary, path = "../../bench/ordinary/mod.rs")]
 mod akubolinfe;
 
 use akubolinfe::{assess, write_subject, Ledger, Reply, Verdict};
 #[cfg(not(ordinary))]
-use akubolinfe::{by_value, prepare, read_listing, trim, write_listing, Cabinet, Certificate, Form, NotListed, NotTrimmed, Slot};
+use akubolinfe::{by_value, prepare, read_listing, trim, write_listing, Cabinet, Certificate, Form, NotListed, NotTrimmed, Ran, Slot};
 use std::io::{Read, Write};
 
 // The rest of a script.
@@ -57,11 +58,6 @@ fn words(reply: Reply) -> String {
 fn ledger_words(ledger: &Ledger) -> String {
     let tables = table("counts", &ledger.counts) + &table("counters", &ledger.counters);
     format!(" load {} last {}{tables}", ledger.loaded, ledger.last)
-}
-
-fn told(ledger: &mut Ledger, (after, reply): (Ledger, Reply)) -> String {
-    *ledger = after;
-    words(reply) + &ledger_words(ledger)
 }
 
 fn verdict(v: Verdict) -> String {
@@ -156,49 +152,85 @@ fn cabinet_of(ledger: &Ledger, slot: usize) -> Cabinet {
     cabinet
 }
 
-// A run on a ledger, and the same run in a slot: the reply, the buffer and the ledger have to agree, and the other slots stay. In slot 8,
-// which there is not, it is refused with 13, and nothing changes.
+// A run, on a ledger and in a slot, in place and by value.
 #[cfg(not(ordinary))]
-fn ran(
-    ledger: &mut Ledger, buffer: &mut [u8], slot: usize, on_ledger: impl Fn(Ledger, &mut [u8]) -> (Ledger, Result<u64, u64>),
-    in_slot: impl Fn(Cabinet, usize, &mut [u8]) -> (Cabinet, Result<u64, u64>),
-) -> String {
-    let (before, lent) = (cabinet_of(ledger, slot), buffer.to_vec());
-    let mut answers = lent.clone();
-    let none = in_slot(before, 8, &mut answers);
-    assert!(none == (before, Err(13)) && answers == lent, "slot 8");
-    let (cabinet, told) = in_slot(before, slot, &mut answers);
-    let (after, reply) = on_ledger(*ledger, buffer);
-    let mut expected = before;
-    expected.slots[slot] = cabinet_of(&after, slot).slots[slot];
-    expected.counters = after.counters;
-    assert!((cabinet, told) == (expected, reply) && answers == buffer, "slot {slot}");
-    *ledger = after;
+struct Run {
+    km0: Vec<u8>,
+    acl: Vec<u8>,
+    row: Vec<Certificate>,
+    form: Option<Form>,
+    requests: Vec<u8>,
+}
+
+#[cfg(not(ordinary))]
+impl Run {
+    fn on(&self, ledger: &mut Ledger, b: &mut [u8]) -> Ran {
+        match self.form {
+            None => ledger.run(&self.km0, &self.acl, &self.row, &self.requests, b),
+            Some(f) => ledger.prepared_run(&self.km0, &self.acl, &self.row, f, &self.requests, b),
+        }
+    }
+
+    fn by_value(&self, l: Ledger, b: &mut [u8]) -> (Ledger, Ran) {
+        match self.form {
+            None => by_value::run(l, &self.km0, &self.acl, &self.row, &self.requests, b),
+            Some(f) => by_value::prepared_run(l, &self.km0, &self.acl, &self.row, f, &self.requests, b),
+        }
+    }
+
+    fn in_slot(&self, cabinet: &mut Cabinet, slot: usize, b: &mut [u8]) -> Ran {
+        match self.form {
+            None => cabinet.run(slot, &self.km0, &self.acl, &self.row, &self.requests, b),
+            Some(f) => cabinet.prepared_run(slot, &self.km0, &self.acl, &self.row, f, &self.requests, b),
+        }
+    }
+
+    fn in_slot_by_value(&self, c: Cabinet, slot: usize, b: &mut [u8]) -> (Cabinet, Ran) {
+        match self.form {
+            None => by_value::cabinet_run(c, slot, &self.km0, &self.acl, &self.row, &self.requests, b),
+            Some(f) => by_value::cabinet_prepared_run(c, slot, &self.km0, &self.acl, &self.row, f, &self.requests, b),
+        }
+    }
+
+    // The run in a slot, in place and by value: the reply, the cabinet and the buffer have to agree.
+    fn both_in_slot(&self, cabinet: &Cabinet, slot: usize, lent: &[u8]) -> (Cabinet, Ran, Vec<u8>) {
+        let (mut c, mut answers, mut same) = (cabinet.clone(), lent.to_vec(), lent.to_vec());
+        let reply = self.in_slot(&mut c, slot, &mut answers);
+        assert!(self.in_slot_by_value(cabinet.clone(), slot, &mut same) == (c.clone(), reply) && same == answers, "run in slot {slot} by value");
+        (c, reply, answers)
+    }
+
+    // The run in the slot that its number of requests picks: reply, buffer and ledger have to be those of the run on the ledger, and the
+    // other slots are unchanged. In slot 8, which no cabinet has, the run is refused with 13, and nothing changes.
+    fn check_slots(&self, ledger: &Ledger, lent: &[u8], after: &Ledger, reply: Ran, answers: &[u8]) {
+        let slot = self.requests.len() / 64 % 8;
+        let before = cabinet_of(ledger, slot);
+        assert!(self.both_in_slot(&before, 8, lent) == (before.clone(), Err(13), lent.to_vec()), "slot 8");
+        let mut expected = before.clone();
+        expected.slots[slot] = cabinet_of(after, slot).slots[slot].clone();
+        expected.counters = after.counters;
+        assert!(self.both_in_slot(&before, slot, lent) == (expected, reply, answers.to_vec()), "slot {slot}");
+    }
+}
+
+#[cfg(not(ordinary))]
+fn batch(s: &mut Script, ledger: &mut Ledger, form: Option<Form>) -> Option<String> {
+    let (km0, acl, row, requests, mut buffer) = (s.run()?, s.run()?, row(&s.run()?)?, s.run()?, s.run()?);
+    let run = Run { km0, acl, row, form, requests };
+    let (before, lent) = (ledger.clone(), buffer.clone());
+    let mut same = lent.clone();
+    let reply = run.on(ledger, &mut buffer);
+    assert!(run.by_value(before.clone(), &mut same) == (ledger.clone(), reply) && same == buffer, "run by value");
+    run.check_slots(&before, &lent, ledger, reply, &buffer);
     let words = match reply {
-        Ok(n) => format!("length {n} {}", hex(buffer)),
-        Err(n) => format!("refuse {n} {}", hex(buffer)),
+        Ok(n) => format!("length {n} {}", hex(&buffer)),
+        Err(n) => format!("refuse {n} {}", hex(&buffer)),
     };
-    words + &ledger_words(ledger)
+    Some(words + &ledger_words(ledger))
 }
 
-// A run, with the slot that its number of requests picks.
-#[cfg(not(ordinary))]
-fn batch(s: &mut Script, ledger: &mut Ledger, f: Option<Form>) -> Option<String> {
-    let (km0, acl, row, run, mut buffer) = (s.run()?, s.run()?, row(&s.run()?)?, s.run()?, s.run()?);
-    let slot = run.len() / 64 % 8;
-    Some(match f {
-        None => ran(
-            ledger, &mut buffer, slot, |l, b| l.run(&km0, &acl, &row, &run, b),
-            |c, slot, b| c.run(slot, &km0, &acl, &row, &run, b),
-        ),
-        Some(f) => ran(
-            ledger, &mut buffer, slot, |l, b| l.prepared_run(&km0, &acl, &row, f, &run, b),
-            |c, slot, b| c.prepared_run(slot, &km0, &acl, &row, f, &run, b),
-        ),
-    })
-}
-
-// What a request, a narrowing and an expansion are lent: KM0, the ACL and the request; the new ACL and the hints, where they belong to the letter.
+// What a request, a narrowing and an expansion are lent: KM0, the ACL and the request; the new ACL and the hints, where the letter has them.
+#[derive(Default)]
 struct Lent {
     km0: Vec<u8>,
     acl: Vec<u8>,
@@ -214,41 +246,54 @@ fn lent(letter: u8, s: &mut Script) -> Option<Lent> {
     Some(Lent { km0, acl, req, new, hints })
 }
 
-// A request, a narrowing or an expansion, which is made in place; by value it has to reply the same and to hand the same back.
-fn asked(letter: u8, s: &mut Script, ledger: Ledger) -> Option<(Ledger, Reply)> {
-    let Lent { km0, acl, req, new, hints } = &lent(letter, s)?;
-    let outcome = match letter {
+// A call on a ledger, which is made in place; by value it has to reply the same and to return the same ledger.
+fn asked(letter: u8, s: &mut Script, ledger: &mut Ledger) -> Option<Reply> {
+    #[cfg(not(ordinary))]
+    let before = ledger.clone();
+    let number = if matches!(letter, b'L' | b'C') { s.number()? } else { 0 };
+    let Lent { km0, acl, req, new, hints } = &if matches!(letter, b'L' | b'C') { Lent::default() } else { lent(letter, s)? };
+    let reply = match letter {
+        b'L' => ledger.load(number),
+        b'C' => ledger.clear(number as usize),
         b'R' => ledger.request(km0, acl, req),
         b'N' => ledger.narrow(km0, acl, req, new, hints),
         _ => ledger.expand(km0, acl, req, new),
     };
     #[cfg(not(ordinary))]
     let whole = match letter {
-        b'R' => by_value::request(ledger, km0, acl, req),
-        b'N' => by_value::narrow(ledger, km0, acl, req, new, hints),
-        _ => by_value::expand(ledger, km0, acl, req, new),
+        b'L' => by_value::load(before, number),
+        b'C' => by_value::clear(before, number as usize),
+        b'R' => by_value::request(before, km0, acl, req),
+        b'N' => by_value::narrow(before, km0, acl, req, new, hints),
+        _ => by_value::expand(before, km0, acl, req, new),
     };
     #[cfg(not(ordinary))]
-    assert!(outcome == whole, "by value");
-    Some(outcome)
+    assert!(whole == (ledger.clone(), reply), "by value");
+    Some(reply)
 }
 
-// .. in a slot.
+// A call on a cabinet; `first` is the slot, or the counter of a clear.
 #[cfg(not(ordinary))]
-fn asked_in_slot(letter: u8, s: &mut Script, cabinet: Cabinet, slot: usize) -> Option<(Cabinet, Reply)> {
-    let Lent { km0, acl, req, new, hints } = &lent(letter, s)?;
-    let outcome = match letter {
-        b'r' => cabinet.request(slot, km0, acl, req),
-        b'n' => cabinet.narrow(slot, km0, acl, req, new, hints),
-        _ => cabinet.expand(slot, km0, acl, req, new),
+fn asked_in_slot(letter: u8, s: &mut Script, cabinet: &mut Cabinet, first: usize) -> Option<Reply> {
+    let before = cabinet.clone();
+    let number = if letter == b'l' { s.number()? } else { 0 };
+    let Lent { km0, acl, req, new, hints } = &if matches!(letter, b'l' | b'c') { Lent::default() } else { lent(letter, s)? };
+    let reply = match letter {
+        b'l' => cabinet.load(first, number),
+        b'c' => cabinet.clear(first),
+        b'r' => cabinet.request(first, km0, acl, req),
+        b'n' => cabinet.narrow(first, km0, acl, req, new, hints),
+        _ => cabinet.expand(first, km0, acl, req, new),
     };
     let whole = match letter {
-        b'r' => by_value::cabinet_request(cabinet, slot, km0, acl, req),
-        b'n' => by_value::cabinet_narrow(cabinet, slot, km0, acl, req, new, hints),
-        _ => by_value::cabinet_expand(cabinet, slot, km0, acl, req, new),
+        b'l' => by_value::cabinet_load(before, first, number),
+        b'c' => by_value::cabinet_clear(before, first),
+        b'r' => by_value::cabinet_request(before, first, km0, acl, req),
+        b'n' => by_value::cabinet_narrow(before, first, km0, acl, req, new, hints),
+        _ => by_value::cabinet_expand(before, first, km0, acl, req, new),
     };
-    assert!(outcome == whole, "by value");
-    Some(outcome)
+    assert!(whole == (cabinet.clone(), reply), "by value");
+    Some(reply)
 }
 
 // What is carried from call to call.
@@ -261,30 +306,29 @@ struct State {
 // The cabinet's answer to one call, the slot called and the shared counters.
 #[cfg(not(ordinary))]
 fn cabinet_answer(letter: u8, s: &mut Script, cabinet: &mut Cabinet) -> Option<String> {
-    let c = *cabinet;
     let first = if letter == b'f' { 0 } else { s.number()? as usize };
-    let (after, reply) = match letter {
-        b'f' => (Cabinet::fresh(), Reply::Done),
-        b'l' => c.load(first, s.number()?),
-        b'c' => c.clear(first),
-        _ => asked_in_slot(letter, s, c, first)?,
+    let reply = match letter {
+        b'f' => {
+            *cabinet = Cabinet::fresh();
+            Reply::Done
+        }
+        _ => asked_in_slot(letter, s, cabinet, first)?,
     };
-    *cabinet = after;
-    let slot = after.slots.get(first).filter(|_| letter != b'f' && letter != b'c');
+    let slot = cabinet.slots.get(first).filter(|_| letter != b'f' && letter != b'c');
     let called = slot.map_or(String::new(), |s| {
         format!(" slot {first} load {} last {}{}", s.loaded, s.last, table("counts", &s.counts))
     });
-    Some(words(reply) + &called + &table("counters", &after.counters))
+    Some(words(reply) + &called + &table("counters", &cabinet.counters))
 }
 
 // The answer to one call; none where the script cannot be read on.
 fn answer(letter: u8, s: &mut Script, state: &mut State) -> Option<String> {
-    let l = state.ledger;
-    let outcome = match letter {
-        b'F' => (Ledger::fresh(), Reply::Done),
-        b'L' => l.load(s.number()?),
-        b'C' => l.clear(s.number()? as usize),
-        b'R' | b'N' | b'X' => asked(letter, s, l)?,
+    let reply = match letter {
+        b'F' => {
+            state.ledger = Ledger::fresh();
+            Reply::Done
+        }
+        b'L' | b'C' | b'R' | b'N' | b'X' => asked(letter, s, &mut state.ledger)?,
         b'D' => return Some(verdict(assess(&s.run()?, &s.run()?))),
         b'S' => return subject(s),
         #[cfg(not(ordinary))]
@@ -306,7 +350,7 @@ fn answer(letter: u8, s: &mut Script, state: &mut State) -> Option<String> {
         b'f' | b'l' | b'c' | b'r' | b'n' | b'x' => return cabinet_answer(letter, s, &mut state.cabinet),
         _ => return None,
     };
-    Some(told(&mut state.ledger, outcome))
+    Some(words(reply) + &ledger_words(&state.ledger))
 }
 
 fn main() -> std::io::Result<()> {

@@ -1,107 +1,183 @@
-// A run, and a prepared form, as the C surface hands them over: the ledger or the form, and plain numbers.
+// The C surface of runs: runs on a ledger and in a slot of a cabinet, by value and in place, and the form of an ACL. A slice is a pointer and a length.
 ghost use mathlib.Core.Path.{_≡_};
-ghost use Rattle.rules.specs.Basics.{Bytes};
-ghost use Rattle.prepared.specs.Forms.{formAs, preparationAs};
-ghost use Rattle.runs.specs.Judged.{runReplyAs, runOutcomeAs};
-ghost use Rattle.slots.specs.Handed.{cabinetRanAs};
-ghost use Rattle.host_runs.specs.Surface.{runCode, runNumber, hostRunAs, hostRunFor, hostCabinetRunAs, hostCabinetRunFor, hostFormAs, hostFormFor};
+ghost use Rattle.rules.specs.Runs.{run};
+ghost use Rattle.rules.specs.Prepared.{prepare, preparedRun};
+ghost use Rattle.rules.specs.CabinetRuns.{cabinetRun, cabinetPreparedRun};
+ghost use Rattle.gate.specs.Outcomes.{ledgerAs};
+ghost use Rattle.cabinet.specs.Kept.{cabinetAs};
+ghost use Rattle.prepared.specs.Forms.{formAs, preparationFor};
+ghost use Rattle.row.specs.Rows.{rowAs};
+ghost use Rattle.surface_runs.specs.Surface.{hostRunAs, hostRunIn, hostRunFor, hostCabinetRunAs, hostCabinetRunIn, hostCabinetRunFor, hostFormAs, hostFormFor};
 use cabinet::Cabinet;
-use files::Checked;
 use gate::Ledger;
-use prepared::Preparation;
 use prepared::Prepared;
-use runs::RunOutcome;
-use runs::RunReply;
-use slots::CabinetRan;
+use row::Certificate;
+use surface_runs::HostCabinetRun;
+use surface_runs::HostForm;
+use surface_runs::HostRun;
+use surface_runs::HostRunReply;
 
-// A run as the host gets it: the ledger, 1 and the number of requests, or 2 and the refusal.
-#[repr(C)]
-pub struct HostRun {
-    pub ledger: Ledger,
-    pub answer: u64,
-    pub number: u64,
-}
-
-// A run in a slot of a cabinet as the host gets it: the cabinet, and the numbers of a run.
-#[repr(C)]
-pub struct HostCabinetRun {
-    pub cabinet: Cabinet,
-    pub answer: u64,
-    pub number: u64,
-}
-
-// A form as the host gets it: 1 and the form, or 2, the ACL's refusal and the form of no groups.
-#[repr(C)]
-pub struct HostForm {
-    pub form: Prepared,
-    pub answer: u64,
-    pub number: u64,
-}
-
-// What a reply is, and its number.
-fn run_code(reply: RunReply) -> u64
-    ensures { λ r. ⌜ r ≡ runCode (runReplyAs reply) ⌝ }
+// The form of an ACL.
+#[no_mangle]
+pub extern "C" fn akubolinfe_prepare(acl: &[u8]) -> HostForm
+    ensures { λ r. ⌜ hostFormAs r ≡ hostFormFor (preparationFor (prepare (now (acl .entry)))) ⌝ }
 {
-    match reply {
-        RunReply::Ran(_) => 1,
-        RunReply::Refused(_) => 2,
+    surface_runs::form(prepared::prepare(acl))
+}
+
+// A run over decoded certificates.
+#[no_mangle]
+pub extern "C" fn akubolinfe_run(
+    ledger: Ledger,
+    km0: &[u8],
+    acl: &[u8],
+    row: &[Certificate],
+    requests: &[u8],
+    answers: &mut [u8],
+) -> HostRun
+    ensures { λ r. ⌜ hostRunAs r (now (answers .exit)) ≡ hostRunFor (run (ledgerAs ledger) (now (km0 .entry)) (now (acl .entry)) (rowAs (now (row .entry))) (now (requests .entry)) (now (answers .entry))) ⌝ }
+{
+    surface_runs::run(runs::run(ledger, km0, acl, row, requests, answers))
+}
+
+// A run over decoded certificates in place.
+#[no_mangle]
+pub extern "C" fn akubolinfe_run_in_place(
+    ledger: &mut Ledger,
+    km0: &[u8],
+    acl: &[u8],
+    row: &[Certificate],
+    requests: &[u8],
+    answers: &mut [u8],
+) -> HostRunReply
+    ensures { λ r. ⌜ hostRunIn r (now (ledger .exit)) (now (answers .exit)) ≡ hostRunFor (run (ledgerAs (now (ledger .entry))) (now (km0 .entry)) (now (acl .entry)) (rowAs (now (row .entry))) (now (requests .entry)) (now (answers .entry))) ⌝ }
+{
+    let o = akubolinfe_run(*ledger, km0, acl, row, requests, answers);
+    *ledger = o.ledger;
+    HostRunReply {
+        refusal: o.refusal,
+        count: o.count,
     }
 }
 
-fn run_number(reply: RunReply) -> u64
-    ensures { λ r. ⌜ r ≡ runNumber (runReplyAs reply) ⌝ }
+// A run on a prepared ACL.
+#[no_mangle]
+pub extern "C" fn akubolinfe_prepared_run(
+    ledger: Ledger,
+    km0: &[u8],
+    acl: &[u8],
+    row: &[Certificate],
+    form: Prepared,
+    requests: &[u8],
+    answers: &mut [u8],
+) -> HostRun
+    ensures { λ r. ⌜ hostRunAs r (now (answers .exit)) ≡ hostRunFor (preparedRun (ledgerAs ledger) (now (km0 .entry)) (now (acl .entry)) (rowAs (now (row .entry))) (formAs form) (now (requests .entry)) (now (answers .entry))) ⌝ }
 {
-    match reply {
-        RunReply::Ran(n) => n as u64,
-        RunReply::Refused(why) => refusals::number(why) as u64,
+    surface_runs::run(runs::prepared_run(ledger, km0, acl, row, form, requests, answers))
+}
+
+// A run on a prepared ACL in place.
+#[no_mangle]
+pub extern "C" fn akubolinfe_prepared_run_in_place(
+    ledger: &mut Ledger,
+    km0: &[u8],
+    acl: &[u8],
+    row: &[Certificate],
+    form: Prepared,
+    requests: &[u8],
+    answers: &mut [u8],
+) -> HostRunReply
+    ensures { λ r. ⌜ hostRunIn r (now (ledger .exit)) (now (answers .exit)) ≡ hostRunFor (preparedRun (ledgerAs (now (ledger .entry))) (now (km0 .entry)) (now (acl .entry)) (rowAs (now (row .entry))) (formAs form) (now (requests .entry)) (now (answers .entry))) ⌝ }
+{
+    let o = akubolinfe_prepared_run(*ledger, km0, acl, row, form, requests, answers);
+    *ledger = o.ledger;
+    HostRunReply {
+        refusal: o.refusal,
+        count: o.count,
     }
 }
 
-// A run as the host gets it.
-pub fn run(o: RunOutcome) -> HostRun
-    ensures { λ r. ⌜ ((buffer : Bytes) → hostRunAs r buffer ≡ hostRunFor (runOutcomeAs o buffer)) ⌝ }
+// A run over decoded certificates in a slot of a cabinet.
+#[no_mangle]
+pub extern "C" fn akubolinfe_cabinet_run(
+    cabinet: Cabinet,
+    slot: usize,
+    km0: &[u8],
+    acl: &[u8],
+    row: &[Certificate],
+    requests: &[u8],
+    answers: &mut [u8],
+) -> HostCabinetRun
+    ensures { λ r. ⌜ hostCabinetRunAs r (now (answers .exit)) ≡ hostCabinetRunFor (cabinetRun (cabinetAs cabinet) slot (now (km0 .entry)) (now (acl .entry)) (rowAs (now (row .entry))) (now (requests .entry)) (now (answers .entry))) ⌝ }
 {
-    let reply = o.reply;
-    let ledger = o.ledger;
-    HostRun {
-        ledger,
-        answer: run_code(reply),
-        number: run_number(reply),
+    surface_runs::cabinet_run(slots::run(cabinet, slot, km0, acl, row, requests, answers))
+}
+
+// A run over decoded certificates in a slot, in place.
+#[no_mangle]
+pub extern "C" fn akubolinfe_cabinet_run_in_place(
+    cabinet: &mut Cabinet,
+    slot: usize,
+    km0: &[u8],
+    acl: &[u8],
+    row: &[Certificate],
+    requests: &[u8],
+    answers: &mut [u8],
+) -> HostRunReply
+    ensures { λ r. ⌜ hostCabinetRunIn r (now (cabinet .exit)) (now (answers .exit)) ≡ hostCabinetRunFor (cabinetRun (cabinetAs (now (cabinet .entry))) slot (now (km0 .entry)) (now (acl .entry)) (rowAs (now (row .entry))) (now (requests .entry)) (now (answers .entry))) ⌝ }
+{
+    let o = akubolinfe_cabinet_run(*cabinet, slot, km0, acl, row, requests, answers);
+    *cabinet = o.cabinet;
+    HostRunReply {
+        refusal: o.refusal,
+        count: o.count,
     }
 }
 
-// A run in a slot of a cabinet as the host gets it.
-pub fn cabinet_run(o: CabinetRan) -> HostCabinetRun
-    ensures { λ r. ⌜ ((buffer : Bytes) → hostCabinetRunAs r buffer ≡ hostCabinetRunFor (cabinetRanAs o buffer)) ⌝ }
+// A run on a prepared ACL in a slot of a cabinet.
+#[no_mangle]
+pub extern "C" fn akubolinfe_cabinet_prepared_run(
+    cabinet: Cabinet,
+    slot: usize,
+    km0: &[u8],
+    acl: &[u8],
+    row: &[Certificate],
+    form: Prepared,
+    requests: &[u8],
+    answers: &mut [u8],
+) -> HostCabinetRun
+    ensures { λ r. ⌜ hostCabinetRunAs r (now (answers .exit)) ≡ hostCabinetRunFor (cabinetPreparedRun (cabinetAs cabinet) slot (now (km0 .entry)) (now (acl .entry)) (rowAs (now (row .entry))) (formAs form) (now (requests .entry)) (now (answers .entry))) ⌝ }
 {
-    let reply = o.reply;
-    let cabinet = o.cabinet;
-    HostCabinetRun {
+    surface_runs::cabinet_run(slots::prepared_run(
         cabinet,
-        answer: run_code(reply),
-        number: run_number(reply),
-    }
-}
-
-// A form and the two numbers beside it.
-fn form_numbers(form: Prepared, answer: u64, number: u64) -> HostForm
-    ensures { λ r. ⌜ hostFormAs r ≡ record { form = formAs form; answer = answer; number = number } ⌝ }
-{
-    HostForm {
+        slot,
+        km0,
+        acl,
+        row,
         form,
-        answer,
-        number,
-    }
+        requests,
+        answers,
+    ))
 }
 
-// A form as the host gets it.
-pub fn form(p: Preparation) -> HostForm
-    ensures { λ r. ⌜ hostFormAs r ≡ hostFormFor (preparationAs p) ⌝ }
+// A run on a prepared ACL in a slot, in place.
+#[no_mangle]
+pub extern "C" fn akubolinfe_cabinet_prepared_run_in_place(
+    cabinet: &mut Cabinet,
+    slot: usize,
+    km0: &[u8],
+    acl: &[u8],
+    row: &[Certificate],
+    form: Prepared,
+    requests: &[u8],
+    answers: &mut [u8],
+) -> HostRunReply
+    ensures { λ r. ⌜ hostCabinetRunIn r (now (cabinet .exit)) (now (answers .exit)) ≡ hostCabinetRunFor (cabinetPreparedRun (cabinetAs (now (cabinet .entry))) slot (now (km0 .entry)) (now (acl .entry)) (rowAs (now (row .entry))) (formAs form) (now (requests .entry)) (now (answers .entry))) ⌝ }
 {
-    let fault = p.fault;
-    let form = p.form;
-    match fault {
-        Checked::Sound => form_numbers(form, 1, 0),
-        Checked::Refused(why) => form_numbers(form, 2, refusals::number(why) as u64),
+    let o = akubolinfe_cabinet_prepared_run(*cabinet, slot, km0, acl, row, form, requests, answers);
+    *cabinet = o.cabinet;
+    HostRunReply {
+        refusal: o.refusal,
+        count: o.count,
     }
 }

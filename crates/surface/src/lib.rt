@@ -1,14 +1,16 @@
-// The answers of the C surface: what the entry points answer, in plain structs of numbers. The exported functions are in `host`.
+// The answers of the C surface: what the entry points answer, in plain structs of numbers. Each begins with the refusal, 0 where there is none; what an
+// answer does not carry is zero. The exported functions are in `host`.
 ghost use mathlib.Core.Path.{_≡_};
 ghost use Rattle.refusals.specs.Refusals.{denialGroup};
 ghost use Rattle.listing.specs.Answers as answers;
 ghost use Rattle.desk.specs.Replies as replies;
+ghost use Rattle.steps.specs.Steps.{stepAs, stepNumber};
 ghost use Rattle.charging.specs.Charges.{answerAs};
 ghost use Rattle.gate.specs.Outcomes.{outcomeAs};
 ghost use Rattle.cabinet.specs.Kept.{cabinetOutcomeAs};
 ghost use Rattle.subject.specs.Writing as writing;
 ghost use Rattle.trimming.specs.Trimming as tool;
-ghost use Rattle.surface.specs.Surface.{hostReplyAs, answerCode, answerNumber, orNoGroup, answerGroup, hostReplyFor, hostOutcomeAs, hostOutcomeFor, hostCabinetOutcomeAs, hostCabinetOutcomeFor, hostWrittenAs, hostWrittenFor, hostVerdictAs, hostVerdictFor, notAccepted, hostListingAs, listingNumbers, hostListingFor, hostTrimmedAs, trimNumbers, hostTrimmedFor};
+ghost use Rattle.surface.specs.Surface.{groupNumber, groupOrNone, answerRefusal, answerGroup, hostReplyAs, hostReplyFor, hostOutcomeAs, hostOutcomeFor, hostCabinetOutcomeAs, hostCabinetOutcomeFor, hostVerdictAs, hostVerdictFor, notAccepted, hostSubjectAs, hostSubjectFor, hostTextAs, textNumbers, hostTextFor, hostTrimAs, trimNumbers, hostTrimFor};
 use cabinet::Cabinet;
 use cabinet::CabinetOutcome;
 use charging::Reply;
@@ -17,114 +19,111 @@ use desk::Verdict;
 use gate::Ledger;
 use gate::Outcome;
 use refusals::Denial;
+use steps::Step;
 use subject::Written;
 use trimming::TrimReply;
 
 // No group is named: all ones.
-const NO_GROUP: u64 = 18446744073709551615;
+const NO_GROUP: u32 = 4294967295;
 
-// What the answer is (0 done, 1 permitted, 2 refused), its number: the group, or the refusal; and the group that permits, or that came nearest, all ones
-// where none is named.
+// The answer of the gate: the group that permits, or that came nearest; all ones where none is named.
 #[repr(C)]
 pub struct HostReply {
-    pub answer: u64,
-    pub number: u64,
-    pub group: u64,
+    pub refusal: u32,
+    pub group: u32,
 }
 
-// The ledger handed back, and the reply's numbers.
+// .. with the ledger after the call.
 #[repr(C)]
 pub struct HostOutcome {
+    pub refusal: u32,
+    pub group: u32,
     pub ledger: Ledger,
-    pub answer: u64,
-    pub number: u64,
-    pub group: u64,
 }
 
-// The cabinet handed back, and the reply's numbers.
+// .. with the cabinet after the call.
 #[repr(C)]
 pub struct HostCabinetOutcome {
+    pub refusal: u32,
+    pub group: u32,
     pub cabinet: Cabinet,
-    pub answer: u64,
-    pub number: u64,
-    pub group: u64,
 }
 
-// A verdict: 1 accepted, 2 a step failed, 3 refused; what an acceptance names; the step's number from 1, or the refusal's.
+// A verdict: the number of the step that failed, from 1, and what an acceptance names.
 #[repr(C)]
 pub struct HostVerdict {
-    pub answer: u64,
-    pub approach: u64,
-    pub protection: u64,
+    pub refusal: u32,
+    pub step: u32,
+    pub approach: u32,
+    pub protection: u32,
     pub recoverable: bool,
-    pub number: u64,
 }
 
-// A subject: 1 and its length, or 2 and the refusal.
+// The answer of the subject writer: the length of the subject.
 #[repr(C)]
-pub struct HostWritten {
-    pub answer: u64,
-    pub number: u64,
+pub struct HostSubject {
+    pub refusal: u32,
+    pub length: u64,
 }
 
-// A listing written or read: 1 and the result's length, or 2 and the refusal's number; with 15 the number of the first bad line, from 1.
+// The answer of the functions for listings: the number of the first bad line, from 1, and the length of the result.
 #[repr(C)]
-pub struct HostListing {
-    pub answer: u64,
-    pub number: u64,
+pub struct HostText {
+    pub refusal: u32,
     pub line: u64,
+    pub length: u64,
 }
 
-// A trimming: 1, the new ACL's length and the hints' length; 2 and the failing step's number, from 1; or 3 and the refusal's.
+// The answer of the trimming tool: the number of the step that failed, from 1, and the lengths of the new ACL and of its hints.
 #[repr(C)]
-pub struct HostTrimmed {
-    pub answer: u64,
-    pub number: u64,
+pub struct HostTrim {
+    pub refusal: u32,
+    pub step: u32,
+    pub acl: u64,
     pub hints: u64,
 }
 
-// What a reply is, and its number.
-fn answer_code(reply: Reply) -> u64
-    ensures { λ r. ⌜ r ≡ answerCode (answerAs reply) ⌝ }
+// A group as a number of 32 bits. No ACL has a group that does not fit.
+fn group_number(group: usize) -> u32
+    ensures { λ r. ⌜ r ≡ groupNumber group ⌝ }
 {
-    match reply {
-        Reply::Done => 0,
-        Reply::Permit(_) => 1,
-        Reply::Refuse(_) => 2,
-        Reply::Deny(_) => 2,
+    if group < 4294967295 {
+        return group as u32;
     }
-}
-
-fn answer_number(reply: Reply) -> u64
-    ensures { λ r. ⌜ r ≡ answerNumber (answerAs reply) ⌝ }
-{
-    match reply {
-        Reply::Done => 0,
-        Reply::Permit(place) => place as u64,
-        Reply::Refuse(why) => refusals::number(why) as u64,
-        Reply::Deny(why) => refusals::denial_number(why) as u64,
-    }
+    NO_GROUP
 }
 
 // The group that came nearest, where a denial names one.
-fn nearest(d: Denial) -> u64
-    ensures { λ r. ⌜ r ≡ orNoGroup (denialGroup d) ⌝ }
+fn nearest(d: Denial) -> u32
+    ensures { λ r. ⌜ r ≡ groupOrNone (denialGroup d) ⌝ }
 {
     match d {
         Denial::Early => NO_GROUP,
         Denial::Unadmitted => NO_GROUP,
-        Denial::Uncertified(place) => place as u64,
-        Denial::Exhausted(place) => place as u64,
+        Denial::Uncertified(group) => group_number(group),
+        Denial::Exhausted(group) => group_number(group),
+    }
+}
+
+// The refusal of a reply, 0 where it is none.
+fn reply_refusal(reply: Reply) -> u32
+    ensures { λ r. ⌜ r ≡ answerRefusal (answerAs reply) ⌝ }
+{
+    match reply {
+        Reply::Done => 0,
+        Reply::Permit(_) => 0,
+        Reply::Refuse(why) => refusals::number(why) as u32,
+        Reply::Deny(why) => refusals::denial_number(why) as u32,
     }
 }
 
 // The group that a reply names.
-fn answer_group(reply: Reply) -> u64
+fn reply_group(reply: Reply) -> u32
     ensures { λ r. ⌜ r ≡ answerGroup (answerAs reply) ⌝ }
 {
     match reply {
         Reply::Done => NO_GROUP,
-        Reply::Permit(place) => place as u64,
+        Reply::Permit(group) => group_number(group),
         Reply::Refuse(_) => NO_GROUP,
         Reply::Deny(why) => nearest(why),
     }
@@ -135,9 +134,8 @@ pub fn host_reply(reply: Reply) -> HostReply
     ensures { λ r. ⌜ hostReplyAs r ≡ hostReplyFor (answerAs reply) ⌝ }
 {
     HostReply {
-        answer: answer_code(reply),
-        number: answer_number(reply),
-        group: answer_group(reply),
+        refusal: reply_refusal(reply),
+        group: reply_group(reply),
     }
 }
 
@@ -147,12 +145,11 @@ pub fn host_outcome(o: Outcome) -> HostOutcome
 {
     let ledger = o.ledger;
     let reply = o.reply;
-    let told = host_reply(reply);
+    let answer = host_reply(reply);
     HostOutcome {
+        refusal: answer.refusal,
+        group: answer.group,
         ledger,
-        answer: told.answer,
-        number: told.number,
-        group: told.group,
     }
 }
 
@@ -162,13 +159,19 @@ pub fn host_cabinet_outcome(o: CabinetOutcome) -> HostCabinetOutcome
 {
     let cabinet = o.cabinet;
     let reply = o.reply;
-    let told = host_reply(reply);
+    let answer = host_reply(reply);
     HostCabinetOutcome {
+        refusal: answer.refusal,
+        group: answer.group,
         cabinet,
-        answer: told.answer,
-        number: told.number,
-        group: told.group,
     }
+}
+
+// The number of a step, from 1.
+fn step_number(s: Step) -> u32
+    ensures { λ r. ⌜ r ≡ stepNumber (stepAs s) ⌝ }
+{
+    steps::number(s) as u32
 }
 
 // An acceptance as the host gets it.
@@ -177,24 +180,24 @@ fn acceptance(a: Acceptance) -> HostVerdict
 {
     let protection = a.protection;
     HostVerdict {
-        answer: 1,
-        approach: a.approach as u64,
-        protection: desk::protection_number(protection) as u64,
+        refusal: 0,
+        step: 0,
+        approach: a.approach as u32,
+        protection: desk::protection_number(protection) as u32,
         recoverable: a.recoverable,
-        number: 0,
     }
 }
 
-// A verdict that is no acceptance.
-fn not_accepted(answer: u64, number: u64) -> HostVerdict
-    ensures { λ r. ⌜ hostVerdictAs r ≡ notAccepted answer number ⌝ }
+// A verdict that does not accept.
+fn not_accepted(refusal: u32, step: u32) -> HostVerdict
+    ensures { λ r. ⌜ hostVerdictAs r ≡ notAccepted refusal step ⌝ }
 {
     HostVerdict {
-        answer,
+        refusal,
+        step,
         approach: 0,
         protection: 0,
         recoverable: false,
-        number,
     }
 }
 
@@ -204,67 +207,68 @@ pub fn host_verdict(v: Verdict) -> HostVerdict
 {
     match v {
         Verdict::Accepted(a) => acceptance(a),
-        Verdict::Failed(s) => not_accepted(2, steps::number(s)),
-        Verdict::Refused(why) => not_accepted(3, refusals::number(why) as u64),
+        Verdict::Failed(s) => not_accepted(0, step_number(s)),
+        Verdict::Refused(why) => not_accepted(refusals::number(why) as u32, 0),
     }
 }
 
-// What the subject writer answered.
-pub fn host_written(w: Written) -> HostWritten
-    ensures { λ r. ⌜ hostWrittenAs r ≡ hostWrittenFor (writing.subjectReplyAs w) ⌝ }
+// The answer of the subject writer as the host gets it.
+pub fn host_subject(w: Written) -> HostSubject
+    ensures { λ r. ⌜ hostSubjectAs r ≡ hostSubjectFor (writing.subjectReplyAs w) ⌝ }
 {
     match w {
-        Written::Length(n) => HostWritten {
-            answer: 1,
-            number: n as u64,
+        Written::Length(n) => HostSubject {
+            refusal: 0,
+            length: n as u64,
         },
-        Written::Refused(why) => HostWritten {
-            answer: 2,
-            number: refusals::number(why) as u64,
+        Written::Refused(why) => HostSubject {
+            refusal: refusals::number(why) as u32,
+            length: 0,
         },
     }
 }
 
-// A listing's reply in its three numbers.
-fn listing_numbers(answer: u64, number: u64, line: u64) -> HostListing
-    ensures { λ r. ⌜ hostListingAs r ≡ listingNumbers answer number line ⌝ }
+// The answer for a listing in its three numbers.
+fn text_numbers(refusal: u32, line: u64, length: u64) -> HostText
+    ensures { λ r. ⌜ hostTextAs r ≡ textNumbers refusal line length ⌝ }
 {
-    HostListing {
-        answer,
-        number,
+    HostText {
+        refusal,
         line,
+        length,
     }
 }
 
-// What the writer or the reader of listings answered.
-pub fn host_listing(reply: listing::Reply) -> HostListing
-    ensures { λ r. ⌜ hostListingAs r ≡ hostListingFor (answers.listingReplyAs reply) ⌝ }
+// The answer of the writer or the reader of listings as the host gets it.
+pub fn host_text(reply: listing::Reply) -> HostText
+    ensures { λ r. ⌜ hostTextAs r ≡ hostTextFor (answers.listingReplyAs reply) ⌝ }
 {
     match reply {
-        listing::Reply::Produced(n) => listing_numbers(1, n as u64, 0),
-        listing::Reply::Refused(why) => listing_numbers(2, refusals::number(why) as u64, 0),
-        listing::Reply::BadLine(n) => listing_numbers(2, 15, n as u64),
+        listing::Reply::Produced(n) => text_numbers(0, 0, n as u64),
+        listing::Reply::Refused(why) => text_numbers(refusals::number(why) as u32, 0, 0),
+        listing::Reply::BadLine(n) => text_numbers(15, n as u64, 0),
     }
 }
 
-// A trimming's reply in its three numbers.
-fn trim_numbers(answer: u64, number: u64, hints: u64) -> HostTrimmed
-    ensures { λ r. ⌜ hostTrimmedAs r ≡ trimNumbers answer number hints ⌝ }
+// The answer for a trimming in its four numbers.
+fn trim_numbers(refusal: u32, step: u32, acl: u64, hints: u64) -> HostTrim
+    ensures { λ r. ⌜ hostTrimAs r ≡ trimNumbers refusal step acl hints ⌝ }
 {
-    HostTrimmed {
-        answer,
-        number,
+    HostTrim {
+        refusal,
+        step,
+        acl,
         hints,
     }
 }
 
-// What the trimming tool answered.
-pub fn host_trimmed(reply: TrimReply) -> HostTrimmed
-    ensures { λ r. ⌜ hostTrimmedAs r ≡ hostTrimmedFor (tool.trimReplyAs reply) ⌝ }
+// The answer of the trimming tool as the host gets it.
+pub fn host_trim(reply: TrimReply) -> HostTrim
+    ensures { λ r. ⌜ hostTrimAs r ≡ hostTrimFor (tool.trimReplyAs reply) ⌝ }
 {
     match reply {
-        TrimReply::Trimmed(m, n) => trim_numbers(1, m as u64, n as u64),
-        TrimReply::Failed(s) => trim_numbers(2, steps::number(s), 0),
-        TrimReply::Refused(why) => trim_numbers(3, refusals::number(why) as u64, 0),
+        TrimReply::Trimmed(m, n) => trim_numbers(0, 0, m as u64, n as u64),
+        TrimReply::Failed(s) => trim_numbers(0, step_number(s), 0, 0),
+        TrimReply::Refused(why) => trim_numbers(refusals::number(why) as u32, 0, 0, 0),
     }
 }

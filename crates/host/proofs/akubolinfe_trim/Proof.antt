@@ -1,5 +1,5 @@
 use mathlib.Core.Path.{_∙_, ap}
-use Rattle.surface.specs.Surface.{hostTrimmedFor}
+use Rattle.surface.specs.Surface.{hostTrimFor}
 use borrow.Author.Needs.{needs}
 use Rattle.host.proofs.akubolinfe_trim.Statement.{statement}
 use Rattle.host.proofs.akubolinfe_trim.Tie as tie
@@ -7,8 +7,8 @@ use Rattle.host.proofs.akubolinfe_trim.Tie as tie
 trim-requires : tie.Need-trim-requires
 trim-requires c κs = search needs
 
-host-trimmed-requires : tie.Need-host-trimmed-requires
-host-trimmed-requires c κs = search needs
+host-trim-requires : tie.Need-host-trim-requires
+host-trim-requires c κs = search needs
 
 same-length : tie.Need-same-length
 same-length c = search needs
@@ -17,7 +17,7 @@ same-length-2 : tie.Need-same-length-2
 same-length-2 c = search needs
 
 returns : tie.Need-returns
-returns c = let t = c .before .before .before .before .before .trim in (c .host-trimmed .ensures ∙ ap hostTrimmedFor (t .ensures .0), t .ensures .1)
+returns c = let t = c .before .before .before .before .before .trim in (c .host-trim .ensures ∙ ap hostTrimFor (t .ensures .0), t .ensures .1)
 
 pub akubolinfe-trim-spec : {M : Type 1} → statement M
-akubolinfe-trim-spec = tie.close (tie.spec trim-requires host-trimmed-requires same-length same-length-2 returns)
+akubolinfe-trim-spec = tie.close (tie.spec trim-requires host-trim-requires same-length same-length-2 returns)
