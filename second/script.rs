@@ -169,6 +169,16 @@ mod tests {
                 text: b"group\n".to_vec(),
                 buffer: vec![3; 64],
             },
+            Call::WriteText {
+                kind: 9,
+                file: vec![4; 64],
+                buffer: vec![5; 7],
+            },
+            Call::ReadText {
+                kind: 1,
+                text: b"use Sign time 0\n".to_vec(),
+                buffer: vec![6; 64],
+            },
             Call::FreshCabinet,
             Call::ClearShared { counter: 8 },
             Call::InSlot {
@@ -177,11 +187,12 @@ mod tests {
             },
         ];
         let script: Bytes = calls.iter().flat_map(call_bytes).collect();
+        let kinds = "FLNSWTVUfcn";
         let mut input = &script[..];
         for call in calls {
-            assert_eq!(read_call(&mut input, ALL_KINDS).unwrap(), Next::Call(call));
+            assert_eq!(read_call(&mut input, kinds).unwrap(), Next::Call(call));
         }
-        assert_eq!(read_call(&mut input, ALL_KINDS).unwrap(), Next::End);
+        assert_eq!(read_call(&mut input, kinds).unwrap(), Next::End);
     }
 
     #[test]
@@ -235,7 +246,7 @@ mod tests {
 
     #[test]
     fn every_letter_has_its_call() {
-        for letter in ALL_KINDS.chars() {
+        for letter in ALL_KINDS.chars().chain("VU".chars()) {
             let call = Call::blank(letter as u8).unwrap();
             assert_eq!(call.letter(), letter);
         }

@@ -27,8 +27,8 @@ fn a_long_script_is_whole() {
 #[test]
 fn only_the_letters_asked_for() {
     for kinds in [
-        "F", "L", "C", "R", "N", "X", "D", "S", "W", "T", "f", "l", "c", "r", "n", "x", "B",
-        "flcrnx", "FLCR", "RN",
+        "F", "L", "C", "R", "N", "X", "D", "S", "W", "T", "V", "U", "f", "l", "c", "r", "n", "x",
+        "B", "flcrnx", "FLCR", "RN",
     ] {
         let script = script(5, 60, kinds);
         let mut input = &script[..];
