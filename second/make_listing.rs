@@ -295,11 +295,16 @@ impl Maker {
             return text.push(b'\n');
         }
         let place = self.random.place(text.len());
-        match self.random.below(3) {
+        match self.random.below(4) {
             0 => text[place] ^= 1 << self.random.below(8),
             1 => text[place] = self.random.pick(b"\n\r\t 0\0"),
-            _ => {
+            2 => {
                 text.remove(place);
+            }
+            // A byte before the end of the line.
+            _ => {
+                let end = text[place..].iter().position(|byte| *byte == b'\n');
+                text.insert(place + end.unwrap_or(0), self.random.pick(b"\r\r\t \0"));
             }
         }
     }
