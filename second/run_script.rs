@@ -344,7 +344,7 @@ mod tests {
              5 refuse 9 eeee\n6 length 0 \n7 refuse 10 ee\n",
             hex(text.as_bytes())
         );
-        assert_eq!(answers(&script, "VU"), lines);
+        assert_eq!(answers(&script, ALL_KINDS), lines);
     }
 
     #[test]

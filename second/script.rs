@@ -7,7 +7,7 @@ use crate::call::{Argument, Bytes, Call, FileKind};
 use crate::prepare::FORM_LENGTH;
 
 /// The letters of all calls.
-pub const ALL_KINDS: &str = "FLCRNXDSWTflcrnxBPQM";
+pub const ALL_KINDS: &str = "FLCRNXDSWTVUflcrnxBPQM";
 /// "Bytes are a 4-byte big-endian length and then that many bytes, at most [...] 262,144".
 pub const LONGEST_BYTES: usize = 262_144;
 
@@ -187,12 +187,11 @@ mod tests {
             },
         ];
         let script: Bytes = calls.iter().flat_map(call_bytes).collect();
-        let kinds = "FLNSWTVUfcn";
         let mut input = &script[..];
         for call in calls {
-            assert_eq!(read_call(&mut input, kinds).unwrap(), Next::Call(call));
+            assert_eq!(read_call(&mut input, ALL_KINDS).unwrap(), Next::Call(call));
         }
-        assert_eq!(read_call(&mut input, kinds).unwrap(), Next::End);
+        assert_eq!(read_call(&mut input, ALL_KINDS).unwrap(), Next::End);
     }
 
     #[test]
@@ -246,7 +245,7 @@ mod tests {
 
     #[test]
     fn every_letter_has_its_call() {
-        for letter in ALL_KINDS.chars().chain("VU".chars()) {
+        for letter in ALL_KINDS.chars() {
             let call = Call::blank(letter as u8).unwrap();
             assert_eq!(call.letter(), letter);
         }
