@@ -9,9 +9,11 @@ use crate::ledger::Ledger;
 use crate::listing::write_listing;
 use crate::prepare::{form_bytes, prepare, prepared_run, Form};
 use crate::read_listing::read_listing;
+use crate::read_text::read_text;
 use crate::record::{hex, Refusal};
 use crate::replace::{expand, narrow};
 use crate::subject::write_subject;
+use crate::text::write_text;
 use crate::trim::trim;
 
 #[derive(Clone, Copy, Debug, PartialEq)]
@@ -94,6 +96,8 @@ fn answer_call(ledger: &mut Ledger, call: &mut Call) -> Answer {
         } => length(write_subject(*certificate, *suite, hashes, buffer)),
         Call::WriteListing { acl, buffer } => length(write_listing(acl, buffer)),
         Call::ReadListing { text, buffer } => length(read_listing(text, buffer)),
+        Call::WriteText { kind, file, buffer } => length(write_text(*kind, file, buffer)),
+        Call::ReadText { kind, text, buffer } => length(read_text(*kind, text, buffer)),
         Call::FreshCabinet | Call::ClearShared { .. } | Call::InSlot { .. } => {
             unreachable!("the cabinet's own calls")
         }

@@ -92,36 +92,58 @@ impl Bundle {
     }
 }
 
-/// "Bundle records stand in rising order of kind and number, each pair once, except field 14 (0 to
-/// 32 times, repeats allowed)." "Other than one policy gives 2."
 pub fn read_bundle(file: &[u8]) -> Result<Bundle, Refusal> {
-    let mut facts = [None; 14];
-    let mut listed = Vec::new();
-    let mut signatures = [None; 7];
-    let mut policy = None;
-    let mut before = (0, 0);
+    let mut reader = BundleReader::default();
     for record in records(file) {
+        reader.add(record)?;
+    }
+    reader.end()
+}
+
+/// Takes a bundle's records one by one, whether they come from a file or from a text.
+#[derive(Default)]
+pub struct BundleReader {
+    facts: [Option<Hash>; 14],
+    listed: Vec<Hash>,
+    signatures: [Option<bool>; 7],
+    policy: Option<Policy>,
+    /// Kind and number of the last record.
+    before: (u8, u8),
+}
+
+impl BundleReader {
+    /// "Bundle records stand in rising order of kind and number, each pair once, except field 14 (0
+    /// to 32 times, repeats allowed)."
+    pub fn add(&mut self, record: Record) -> Result<(), Refusal> {
         // A policy has no number of its own: a second one does not rise.
         let place = if record.kind() == 12 {
             (12, 0)
         } else {
             (record.kind(), record.byte(4))
         };
-        malformed_unless(before < place || (before == place && place == (10, LISTED_FIELD)))?;
-        before = place;
+        let again = self.before == place && place == (10, LISTED_FIELD);
+        malformed_unless(self.before < place || again)?;
+        self.before = place;
         match record.kind() {
-            10 => add_fact(&mut facts, &mut listed, record)?,
-            11 => add_signature(&mut signatures, record)?,
-            12 => policy = Some(read_policy(record)?),
-            _ => return Err(Refusal::Malformed),
+            10 => add_fact(&mut self.facts, &mut self.listed, record),
+            11 => add_signature(&mut self.signatures, record),
+            12 => {
+                self.policy = Some(read_policy(record)?);
+                Ok(())
+            }
+            _ => Err(Refusal::Malformed),
         }
     }
-    Ok(Bundle {
-        facts,
-        listed,
-        signatures,
-        policy: policy.ok_or(Refusal::Malformed)?,
-    })
+
+    /// "Other than one policy gives 2."
+    pub fn end(self) -> Result<Bundle, Refusal> {
+        Ok(Bundle {
+            facts: self.facts,
+            listed: self.listed,
+            signatures: self.signatures,
+            policy: self.policy.ok_or(Refusal::Malformed)?,
+        })
+    }
 }
 
 /// "10 fact: byte 4 field 1-14, 8-27 content."

@@ -1,5 +1,7 @@
 //! The calls of a replay script and their arguments, in the order in which they stand there.
 
+use crate::text::TextKind;
+
 pub type Bytes = Vec<u8>;
 
 #[derive(Clone, Debug, PartialEq)]
@@ -44,6 +46,17 @@ pub enum Call {
         buffer: Bytes,
     },
     ReadListing {
+        text: Bytes,
+        buffer: Bytes,
+    },
+    /// The text of a file of that kind, by its number.
+    WriteText {
+        kind: u64,
+        file: Bytes,
+        buffer: Bytes,
+    },
+    ReadText {
+        kind: u64,
         text: Bytes,
         buffer: Bytes,
     },
@@ -109,10 +122,27 @@ pub enum FileKind {
     Row,
     /// Request records.
     Run,
+    /// Request records of a day.
+    Requests,
     /// A prepared form.
     Form,
     /// A buffer as lent.
     Buffer,
+}
+
+impl FileKind {
+    /// What a file holds that is to be written as a text of that kind; nothing known where there is
+    /// no such kind.
+    fn written_as(kind: u64) -> FileKind {
+        match TextKind::of(kind) {
+            Ok(TextKind::Acl) => FileKind::Acl,
+            Ok(TextKind::Request) => FileKind::Request,
+            Ok(TextKind::Requests) => FileKind::Requests,
+            Ok(TextKind::Bundle) => FileKind::Bundle,
+            Ok(TextKind::Hints) => FileKind::Hints,
+            Err(_) => FileKind::Text,
+        }
+    }
 }
 
 /// One argument of a call.
@@ -134,6 +164,8 @@ impl Call {
             Call::Subject { .. } => 'S',
             Call::WriteListing { .. } => 'W',
             Call::ReadListing { .. } => 'T',
+            Call::WriteText { .. } => 'V',
+            Call::ReadText { .. } => 'U',
             Call::FreshCabinet => 'f',
             Call::ClearShared { .. } => 'c',
             Call::InSlot { call, .. } => call.letter().to_ascii_lowercase(),
@@ -184,6 +216,16 @@ impl Call {
                 buffer: none(),
             },
             b'T' => Call::ReadListing {
+                text: none(),
+                buffer: none(),
+            },
+            b'V' => Call::WriteText {
+                kind: 0,
+                file: none(),
+                buffer: none(),
+            },
+            b'U' => Call::ReadText {
+                kind: 0,
                 text: none(),
                 buffer: none(),
             },
@@ -258,6 +300,13 @@ impl Call {
             ],
             Call::WriteListing { acl, buffer } => vec![Bytes(Acl, acl), Bytes(Buffer, buffer)],
             Call::ReadListing { text, buffer } => vec![Bytes(Text, text), Bytes(Buffer, buffer)],
+            Call::WriteText { kind, file, buffer } => {
+                let file_kind = FileKind::written_as(*kind);
+                vec![Number(kind), Bytes(file_kind, file), Bytes(Buffer, buffer)]
+            }
+            Call::ReadText { kind, text, buffer } => {
+                vec![Number(kind), Bytes(Text, text), Bytes(Buffer, buffer)]
+            }
             Call::InSlot { slot, call } => {
                 let mut arguments = vec![Number(slot)];
                 arguments.extend(call.arguments());

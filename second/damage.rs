@@ -4,6 +4,7 @@ use crate::acl::{Limit, MOST_ACL_RECORDS};
 use crate::batch::MOST_BATCH;
 use crate::bundle::MOST_BUNDLE_RECORDS;
 use crate::call::{Argument, Bytes, Call, FileKind};
+use crate::day::MOST_REQUESTS;
 use crate::encode::{self, RecordBytes};
 use crate::maker::{stock, Maker};
 use crate::record::RECORD_LENGTH;
@@ -17,6 +18,7 @@ impl FileKind {
         match self {
             FileKind::Km0 => 1,
             FileKind::Acl | FileKind::Request | FileKind::Hints | FileKind::Run => 8,
+            FileKind::Requests => 8,
             FileKind::NewAcl | FileKind::Bundle => 14,
             FileKind::Hashes | FileKind::Text | FileKind::Buffer => 0,
             FileKind::Row | FileKind::Form => 0,
@@ -246,6 +248,7 @@ impl Maker {
                 FileKind::Request => MOST_REQUEST_RECORDS,
                 FileKind::Hints => MOST_HINTS,
                 FileKind::Run => MOST_BATCH,
+                FileKind::Requests => MOST_REQUESTS,
                 FileKind::Bundle => MOST_BUNDLE_RECORDS,
                 _ => MOST_ACL_RECORDS,
             };

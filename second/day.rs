@@ -10,7 +10,7 @@ use crate::record::{check_length, Refusal, RECORD_LENGTH};
 use crate::request::{read_request, Presented, Request};
 
 /// "0 to 1,000 request records without certificates".
-const MOST_REQUESTS: usize = 1000;
+pub const MOST_REQUESTS: usize = 1000;
 /// "The day program still takes ACL files up to 53,248 bytes".
 const MOST_ACL_RECORDS: usize = 832;
 
@@ -44,7 +44,7 @@ fn lines(km0: &[u8], acl: &[u8], requests: &[u8]) -> Result<String, Refusal> {
 }
 
 /// One record each: "`0 refuse 2` to a request with flag 6".
-fn read_requests(file: &[u8]) -> Result<Vec<Request>, Refusal> {
+pub fn read_requests(file: &[u8]) -> Result<Vec<Request>, Refusal> {
     file.chunks(RECORD_LENGTH)
         .map(|record| Ok(read_request(record, None)?.0))
         .collect()

@@ -15,7 +15,7 @@ impl Maker {
         match kind {
             FileKind::Request => self.edge_request(file),
             FileKind::Hints => self.edge_hints(file),
-            FileKind::Run => self.edge_run(file),
+            FileKind::Run | FileKind::Requests => self.edge_run(file),
             FileKind::Bundle => self.edge_bundle(file),
             _ => *file = self.edge_acl(),
         }

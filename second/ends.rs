@@ -56,7 +56,7 @@ impl Generator {
     /// a stop as well.
     fn unknown_byte(&mut self) -> Bytes {
         let is_unknown = |byte: &u8| !self.kinds.contains(byte);
-        let choices: Vec<u8> = b"\x00\n 1EdGKHUYZs\x80\xffLCRNXDSWTlcrnxBPQM"
+        let choices: Vec<u8> = b"\x00\n 1EdGKHUYZs\x80\xffLCRNXDSWTVlcrnxBPQM"
             .iter()
             .copied()
             .filter(is_unknown)

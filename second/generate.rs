@@ -15,7 +15,7 @@ use crate::request::{EXPAND_ACL, REDUCE_ACL};
 use crate::script::write_call;
 
 /// How often each letter is drawn.
-const WEIGHTS: [(u8, u64); 20] = [
+const WEIGHTS: [(u8, u64); 22] = [
     (b'F', 12),
     (b'L', 60),
     (b'C', 45),
@@ -26,6 +26,8 @@ const WEIGHTS: [(u8, u64); 20] = [
     (b'S', 60),
     (b'W', 60),
     (b'T', 120),
+    (b'V', 90),
+    (b'U', 150),
     (b'f', 6),
     (b'l', 50),
     (b'c', 30),
@@ -217,6 +219,8 @@ impl Generator {
             b'S' => self.maker.subject_call(),
             b'W' => self.maker.write_listing_call(),
             b'T' => self.maker.read_listing_call(),
+            b'V' => self.maker.write_text_call(),
+            b'U' => self.maker.read_text_call(),
             b'B' => self.batch_call(by_host),
             b'P' => self.prepare_call(by_host),
             b'Q' => self.prepared_run_call(by_host),

@@ -35,46 +35,62 @@ pub fn write_listing(acl: &[u8], buffer: &mut [u8]) -> Result<usize, Refusal> {
 /// The listing of an ACL. Nothing is checked here, so that the lines of a malformed one can be
 /// written too.
 pub fn listing(acl: &Acl) -> String {
-    let mut text = String::new();
+    let mut lines = Vec::new();
     for group in &acl.groups {
-        let limits = group.limits.iter().map(limit_words);
-        let actions = group.actions.iter().flat_map(action_lines);
-        for words in std::iter::once(group_words(group))
-            .chain(limits)
-            .chain(actions)
-        {
-            text += &words.join(" ");
-            text.push('\n');
-        }
+        lines.push(group_words(group));
+        lines.extend(group.limits.iter().map(limit_words));
+        lines.extend(group.actions.iter().flat_map(action_lines));
+    }
+    joined(lines)
+}
+
+/// The text of these lines: one space between two words, one byte 10 at the end of each line.
+pub fn joined(lines: Vec<Words>) -> String {
+    let mut text = String::new();
+    for words in lines {
+        text += &words.join(" ");
+        text.push('\n');
     }
     text
 }
 
-type Words = Vec<String>;
+/// The words of a line.
+pub type Words = Vec<String>;
 
-fn word(word: &str) -> String {
+pub fn word(word: &str) -> String {
     word.to_string()
 }
 
-fn add_flag(words: &mut Words, name: &str, set: bool) {
+pub fn add_flag(words: &mut Words, name: &str, set: bool) {
     if set {
         words.push(word(name));
     }
 }
 
-fn add_hash(words: &mut Words, name: &str, hash: &Option<Hash>) {
+pub fn add_hash(words: &mut Words, name: &str, hash: &Hash) {
+    words.extend([word(name), hex(hash)]);
+}
+
+fn add_optional_hash(words: &mut Words, name: &str, hash: &Option<Hash>) {
     if let Some(hash) = hash {
-        words.extend([word(name), hex(hash)]);
+        add_hash(words, name, hash);
     }
 }
 
-fn add_number(words: &mut Words, name: &str, number: u32) {
+pub fn add_number(words: &mut Words, name: &str, number: u64) {
     words.extend([word(name), number.to_string()]);
+}
+
+/// The names of the permissions that the mask holds, in the order of their bits.
+pub fn add_permissions(words: &mut Words, mask: u16) {
+    for (bit, name) in PERMISSIONS.iter().enumerate() {
+        add_flag(words, name, mask >> bit & 1 == 1);
+    }
 }
 
 fn group_words(group: &Group) -> Words {
     let mut words = vec![word("group")];
-    add_hash(&mut words, "certifier", &group.certifier);
+    add_optional_hash(&mut words, "certifier", &group.certifier);
     if let Some(mechanism) = group.mechanism {
         add_number(&mut words, "mechanism", mechanism.into());
     }
@@ -90,7 +106,7 @@ fn limit_words(limit: &Limit) -> Words {
         Sort::UsesPerLoad | Sort::Counter(_) => "uses",
         Sort::SecondsSinceLoad => "seconds",
     };
-    add_number(&mut words, counted, limit.maximum);
+    add_number(&mut words, counted, limit.maximum.into());
     words
 }
 
@@ -106,12 +122,12 @@ fn action_lines(action: &Action) -> Vec<Words> {
     }
 }
 
-fn blobfile_words(file: &BlobFile) -> Words {
+pub fn blobfile_words(file: &BlobFile) -> Words {
     let mut words = vec![word("blobfile")];
     if let Some(devices) = file.devices {
-        add_number(&mut words, "devices", devices);
+        add_number(&mut words, "devices", devices.into());
     }
-    add_hash(&mut words, "template", &file.template);
+    add_optional_hash(&mut words, "template", &file.template);
     words
 }
 
@@ -119,15 +135,13 @@ fn action_words(action: &Action) -> Words {
     match action {
         Action::OpPermissions(bits) => {
             let mut words = vec![word("OpPermissions")];
-            for (bit, name) in PERMISSIONS.iter().enumerate() {
-                add_flag(&mut words, name, bits >> bit & 1 == 1);
-            }
+            add_permissions(&mut words, *bits);
             words
         }
         Action::MakeBlob(blob) => make_blob_words(blob),
         Action::MakeArchiveBlob(blob) => {
             let mut words = vec![word("MakeArchiveBlob")];
-            add_hash(&mut words, "kahash", &blob.kahash);
+            add_optional_hash(&mut words, "kahash", &blob.kahash);
             add_number(&mut words, "mechanism", blob.mechanism.into());
             words
         }
@@ -138,8 +152,8 @@ fn make_blob_words(blob: &MakeBlob) -> Words {
     let mut words = vec![word("MakeBlob")];
     add_flag(&mut words, "AllowKmOnly", blob.allow_km_only);
     add_flag(&mut words, "AllowNonKm0", blob.allow_non_km0);
-    add_hash(&mut words, "kmhash", &blob.kmhash);
-    add_hash(&mut words, "kthash", &blob.kthash);
+    add_optional_hash(&mut words, "kmhash", &blob.kmhash);
+    add_optional_hash(&mut words, "kthash", &blob.kthash);
     if let Some(parameters) = &blob.ktparams {
         words.push(word("ktparams"));
         add_parameters(&mut words, parameters);
@@ -148,12 +162,12 @@ fn make_blob_words(blob: &MakeBlob) -> Words {
     words
 }
 
-fn add_parameters(words: &mut Words, parameters: &TokenParameters) {
+pub fn add_parameters(words: &mut Words, parameters: &TokenParameters) {
     let soft = parameters.flags & ALLOW_SOFT_SLOTS != 0;
     add_flag(words, "AllowSoftSlots", soft);
     add_number(words, "needed", parameters.needed.into());
     add_number(words, "total", parameters.total.into());
-    add_number(words, "seconds", parameters.time_limit);
+    add_number(words, "seconds", parameters.time_limit.into());
 }
 
 #[cfg(test)]

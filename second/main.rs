@@ -41,6 +41,7 @@ mod make_presented;
 mod make_request;
 mod make_run;
 mod make_subject;
+mod make_text;
 mod make_wider;
 mod maker;
 mod prepare;
@@ -48,12 +49,14 @@ mod properties;
 mod random;
 mod read_acl;
 mod read_listing;
+mod read_text;
 mod record;
 mod replace;
 mod request;
 mod run_script;
 mod script;
 mod subject;
+mod text;
 mod trim;
 
 use std::io::{self, BufReader, BufWriter};
@@ -101,9 +104,10 @@ fn run_on_script(words: &[&str]) -> Result<(), String> {
         ["generate", seed, calls, kinds] => ("generate", Some((*seed, *calls)), *kinds),
         _ => return Err(USAGE.to_string()),
     };
-    if kinds.is_empty() || !kinds.chars().all(|letter| ALL_KINDS.contains(letter)) {
+    let is_known = |letter| call::Call::blank(letter).is_some();
+    if kinds.is_empty() || !kinds.bytes().all(is_known) {
         return Err(format!(
-            "KINDS is some of the letters {ALL_KINDS}, not {kinds:?}"
+            "KINDS is letters of calls, such as {ALL_KINDS}, not {kinds:?}"
         ));
     }
     let mut input = BufReader::with_capacity(1 << 16, io::stdin().lock());

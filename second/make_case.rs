@@ -75,7 +75,7 @@ impl Maker {
         }
     }
 
-    fn desk_case(&mut self, approach: u8) -> DeskCase {
+    pub fn desk_case(&mut self, approach: u8) -> DeskCase {
         match self.random.weighted(&[26, 40, 14, 6, 10, 4]) {
             0 => self.passing_case(approach),
             1 => {

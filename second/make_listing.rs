@@ -24,6 +24,14 @@ impl Maker {
     }
 
     pub fn read_listing_call(&mut self) -> Call {
+        let text = self.listing_text();
+        let length = read_listing(&text, &mut vec![0; LONGEST_BYTES]).unwrap_or(100);
+        let buffer = self.buffer_near(length);
+        Call::ReadListing { text, buffer }
+    }
+
+    /// A listing as written, or off by one thing.
+    pub fn listing_text(&mut self) -> Bytes {
         let mut text = match self.random.weighted(&[70, 30]) {
             0 => listing(&self.acl()).into_bytes(),
             // Lines of records that may be malformed, out of place or too many.
@@ -33,9 +41,7 @@ impl Maker {
             self.change_text(&mut text);
         }
         text.truncate(LONGEST_BYTES);
-        let length = read_listing(&text, &mut vec![0; LONGEST_BYTES]).unwrap_or(100);
-        let buffer = self.buffer_near(length);
-        Call::ReadListing { text, buffer }
+        text
     }
 
     /// A lent buffer with old bytes in it: exact, one short, one longer, longer, or empty.
@@ -58,7 +64,7 @@ impl Maker {
     }
 
     /// One thing about the text changed: a line, a word or a byte.
-    fn change_text(&mut self, text: &mut Bytes) {
+    pub fn change_text(&mut self, text: &mut Bytes) {
         match self.random.weighted(&[12, 22, 50, 16]) {
             0 => self.change_end(text),
             1 => self.change_lines(text),
@@ -126,8 +132,8 @@ impl Maker {
         *text = lines.concat();
     }
 
-    fn any_line(&mut self) -> Bytes {
-        let lines: [&[u8]; 11] = [
+    pub fn any_line(&mut self) -> Bytes {
+        let lines: [&[u8]; 20] = [
             b"group\n",
             b"limit uses 5\n",
             b"limit counter 7 uses 4294967295\n",
@@ -139,16 +145,22 @@ impl Maker {
             b"blobfile devices 4294967295\n",
             b"MakeBlob AllowKmOnly blobfile\n",
             b"# group\n",
+            b"use Sign time 0\n",
+            b"blob kmhash 0000000000000000000000000000000000000000 time 7\n",
+            b"recovery kahash 0000000000000000000000000000000000000000 mechanism 1 blobfile time 7\n",
+            b"certificate 0000000000000000000000000000000000000000 mechanism 1\n",
+            b"delegation from 0000000000000000000000000000000000000000 to 0000000000000000000000000000000000000000\n",
+            b"fact modulekey 0000000000000000000000000000000000000000\n",
+            b"signature keygeneration bad\n",
+            b"policy suite 1 approach 2 protection 1\n",
+            b"hint group 0 actions 0 0 0 0 0 0 0 0\n",
         ];
         self.random.pick(&lines).to_vec()
     }
 
     /// One word of one line changed, twice, dropped, swapped with the next, or another put in.
     fn change_words(&mut self, text: &mut Bytes) {
-        let mut lines: Vec<Vec<Bytes>> = text
-            .split(|byte| *byte == b'\n')
-            .map(|line| line.split(|byte| *byte == b' ').map(Bytes::from).collect())
-            .collect();
+        let mut lines = words_of(text);
         let numbers = word_places(&lines, is_number);
         if !numbers.is_empty() && self.random.chance(45) {
             let (line, place) = self.random.pick(&numbers);
@@ -196,6 +208,12 @@ impl Maker {
             "blobfile",
             "devices",
             "template",
+            "token",
+            "time",
+            "signing",
+            "csr",
+            "good",
+            "actions",
             "0",
             "1",
             permission,
@@ -277,18 +295,23 @@ impl Maker {
             return text.push(b'\n');
         }
         let place = self.random.place(text.len());
-        match self.random.below(3) {
+        match self.random.below(4) {
             0 => text[place] ^= 1 << self.random.below(8),
             1 => text[place] = self.random.pick(b"\n\r\t 0\0"),
-            _ => {
+            2 => {
                 text.remove(place);
+            }
+            // A byte before the end of the line.
+            _ => {
+                let end = text[place..].iter().position(|byte| *byte == b'\n');
+                text.insert(place + end.unwrap_or(0), self.random.pick(b"\r\r\t \0"));
             }
         }
     }
 }
 
 /// The places, by line and word, of the words that are such.
-fn word_places(lines: &[Vec<Bytes>], is_such: impl Fn(&[u8]) -> bool) -> Vec<(usize, usize)> {
+pub fn word_places(lines: &[Vec<Bytes>], is_such: impl Fn(&[u8]) -> bool) -> Vec<(usize, usize)> {
     (0..lines.len())
         .flat_map(|line| (0..lines[line].len()).map(move |place| (line, place)))
         .filter(|(line, place)| is_such(&lines[*line][*place]))
@@ -300,8 +323,15 @@ fn is_number(word: &[u8]) -> bool {
     (1..40).contains(&word.len()) && word.iter().all(u8::is_ascii_digit)
 }
 
+/// The words of each line of a text; after a last byte 10 comes a line of one empty word.
+pub fn words_of(text: &[u8]) -> Vec<Vec<Bytes>> {
+    text.split(|byte| *byte == b'\n')
+        .map(|line| line.split(|byte| *byte == b' ').map(Bytes::from).collect())
+        .collect()
+}
+
 /// The text of these lines' words.
-fn joined(lines: &[Vec<Bytes>]) -> Bytes {
+pub fn joined(lines: &[Vec<Bytes>]) -> Bytes {
     let lines: Vec<Bytes> = lines.iter().map(|words| words.join(&b' ')).collect();
     lines.join(&b'\n')
 }

@@ -1,69 +1,56 @@
-//! Reading a listing back: each line is taken word by word into the record it tells of, and the
-//! record is then read like that of a file.
+//! Reading a listing back: the lines of an ACL, and the words of which every text is made.
+
+use std::collections::VecDeque;
 
 use crate::blobfile::BLOBFILE_FLAG;
-use crate::call::Bytes;
 use crate::encode::{put, put_hash, record, set_flag, RecordBytes};
 use crate::listing::PERMISSIONS;
-use crate::read_acl::AclReader;
-use crate::record::{write_front, Hash, Record, Refusal};
+use crate::read_text::file_of;
+use crate::record::{write_front, Hash, Refusal};
+use crate::text::TextKind;
 
 /// Reads a listing: "a line that is not the written form of a record valid there gives a new number
 /// 15 and the first such line's number, from 1 [...]; then a short buffer gives 9."
 pub fn read_listing(text: &[u8], buffer: &mut [u8]) -> Result<usize, Refusal> {
-    write_front(buffer, &acl_of(text)?)
+    write_front(buffer, &file_of(TextKind::Acl, text)?)
 }
 
-/// The file of the ACL that a listing tells of.
-fn acl_of(text: &[u8]) -> Result<Bytes, Refusal> {
-    let mut reader = AclReader::default();
-    let mut file = Bytes::new();
-    let mut next = 1;
-    for (place, line) in text.split_inclusive(|byte| *byte == b'\n').enumerate() {
-        let not_a_line = Refusal::NotALine { line: place + 1 };
-        let record = record_of(line).ok_or(not_a_line)?;
-        reader.add(Record::of(&record)).or(Err(not_a_line))?;
-        file.extend(record);
-        next = place + 2;
-    }
-    reader.end().or(Err(Refusal::NotALine { line: next }))?;
-    Ok(file)
-}
-
-/// The record that a line tells of, whether or not it is a valid one; nothing where the line has
-/// another form.
-fn record_of(line: &[u8]) -> Option<RecordBytes> {
-    // A last line without byte 10 is not a written line.
-    let mut words = Words {
-        rest: line
-            .strip_suffix(b"\n")?
-            .split(|byte| *byte == b' ')
-            .collect(),
-    };
-    let record = match words.next()? {
-        b"group" => group_record(&mut words),
-        b"limit" => limit_record(&mut words),
-        b"OpPermissions" => op_permissions_record(&mut words),
-        b"MakeBlob" => make_blob_record(&mut words),
-        b"MakeArchiveBlob" => make_archive_blob_record(&mut words),
-        b"blobfile" => blobfile_record(&mut words),
+/// The record of an ACL's line, from its first word and the words after it.
+pub fn acl_record(first: &[u8], words: &mut Words) -> Option<RecordBytes> {
+    match first {
+        b"group" => group_record(words),
+        b"limit" => limit_record(words),
+        b"OpPermissions" => op_permissions_record(words),
+        b"MakeBlob" => make_blob_record(words),
+        b"MakeArchiveBlob" => make_archive_blob_record(words),
+        b"blobfile" => blobfile_record(words),
         _ => None,
-    };
-    record.filter(|_| words.rest.is_empty())
+    }
 }
 
 /// The words of a line that have not been taken yet.
-struct Words<'a> {
-    rest: std::collections::VecDeque<&'a [u8]>,
+pub struct Words<'a> {
+    rest: VecDeque<&'a [u8]>,
 }
 
 impl<'a> Words<'a> {
-    fn next(&mut self) -> Option<&'a [u8]> {
+    /// The words of a line without its byte 10.
+    pub fn of(line: &'a [u8]) -> Words<'a> {
+        Words {
+            rest: line.split(|byte| *byte == b' ').collect(),
+        }
+    }
+
+    pub fn is_empty(&self) -> bool {
+        self.rest.is_empty()
+    }
+
+    pub fn next(&mut self) -> Option<&'a [u8]> {
         self.rest.pop_front()
     }
 
     /// Takes that word if it stands next.
-    fn take(&mut self, word: &str) -> bool {
+    pub fn take(&mut self, word: &str) -> bool {
         let stands = self.rest.front() == Some(&word.as_bytes());
         if stands {
             self.rest.pop_front();
@@ -71,29 +58,56 @@ impl<'a> Words<'a> {
         stands
     }
 
+    /// A number, where it fits its field.
+    pub fn number<N: TryFrom<u64>>(&mut self) -> Option<N> {
+        N::try_from(decimal(self.next()?)?).ok()
+    }
+
     /// That word and the number after it.
-    fn named_number(&mut self, word: &str) -> Option<u32> {
+    pub fn named_number<N: TryFrom<u64>>(&mut self, word: &str) -> Option<N> {
         self.take(word).then_some(())?;
-        decimal(self.next()?)
+        self.number()
     }
 
-    fn named_number16(&mut self, word: &str) -> Option<u16> {
-        self.named_number(word)?.try_into().ok()
+    pub fn hash(&mut self) -> Option<Hash> {
+        hash(self.next()?)
     }
 
-    fn named_number8(&mut self, word: &str) -> Option<u8> {
-        self.named_number(word)?.try_into().ok()
+    /// That word and the hash after it.
+    pub fn named_hash(&mut self, word: &str) -> Option<Hash> {
+        self.take(word).then_some(())?;
+        self.hash()
+    }
+
+    /// Names of permissions in the order of their bits, each at most once; their mask.
+    pub fn permissions(&mut self) -> u16 {
+        let mut mask = 0;
+        for (bit, name) in PERMISSIONS.iter().enumerate() {
+            if self.take(name) {
+                mask |= 1 << bit;
+            }
+        }
+        mask
+    }
+
+    /// `[AllowSoftSlots] needed N total N seconds N`, the eight bytes of token parameters.
+    pub fn parameters(&mut self) -> Option<[u8; 8]> {
+        let soft = self.take("AllowSoftSlots");
+        let needed = self.named_number("needed")?;
+        let total = self.named_number("total")?;
+        let [a, b, c, d] = self.named_number::<u32>("seconds")?.to_be_bytes();
+        Some([0, u8::from(soft), needed, total, a, b, c, d])
     }
 }
 
 /// A number "in decimal without leading zeros".
-fn decimal(word: &[u8]) -> Option<u32> {
+fn decimal(word: &[u8]) -> Option<u64> {
     let leading_zero = word.len() > 1 && word[0] == b'0';
     if word.is_empty() || leading_zero {
         return None;
     }
-    word.iter().try_fold(0u32, |number, byte| {
-        let digit = byte.is_ascii_digit().then(|| u32::from(byte - b'0'))?;
+    word.iter().try_fold(0u64, |number, byte| {
+        let digit = byte.is_ascii_digit().then(|| u64::from(byte - b'0'))?;
         number.checked_mul(10)?.checked_add(digit)
     })
 }
@@ -128,29 +142,32 @@ fn optional_hash(
     place: usize,
 ) -> Option<()> {
     if words.take(name) {
-        put_hash(record, flag, place, &hash(words.next()?)?);
+        put_hash(record, flag, place, &words.hash()?);
     }
     Some(())
 }
 
 /// `[NAME]`, for a flag of a record.
-fn optional_flag(words: &mut Words, name: &str, record: &mut RecordBytes, flag: u32) {
+pub fn optional_flag(words: &mut Words, name: &str, record: &mut RecordBytes, flag: u32) {
     if words.take(name) {
         set_flag(record, flag);
     }
+}
+
+/// `mechanism N`, in bytes 24-25 of every record that has one.
+pub fn put_mechanism(words: &mut Words, record: &mut RecordBytes) -> Option<()> {
+    let mechanism: u16 = words.named_number("mechanism")?;
+    put(record, 24, &mechanism.to_be_bytes());
+    Some(())
 }
 
 /// `group [certifier HASH] [mechanism N]`
 fn group_record(words: &mut Words) -> Option<RecordBytes> {
     let mut bytes = record(1);
     optional_hash(words, "certifier", &mut bytes, 0, 4)?;
-    if !words.rest.is_empty() {
+    if !words.is_empty() {
         set_flag(&mut bytes, 1);
-        put(
-            &mut bytes,
-            24,
-            &words.named_number16("mechanism")?.to_be_bytes(),
-        );
+        put_mechanism(words, &mut bytes)?;
     }
     Some(bytes)
 }
@@ -160,24 +177,19 @@ fn limit_record(words: &mut Words) -> Option<RecordBytes> {
     let mut bytes = record(2);
     let (sort, counter, counted) = match *words.rest.front()? {
         b"uses" => (1, 0, "uses"),
-        b"counter" => (2, words.named_number8("counter")?, "uses"),
+        b"counter" => (2, words.named_number("counter")?, "uses"),
         _ => (3, 0, "seconds"),
     };
     put(&mut bytes, 4, &[sort, counter]);
-    put(&mut bytes, 8, &words.named_number(counted)?.to_be_bytes());
+    let maximum: u32 = words.named_number(counted)?;
+    put(&mut bytes, 8, &maximum.to_be_bytes());
     Some(bytes)
 }
 
 /// `OpPermissions [DuplicateHandle] .. [UseAsLoaderKey]`
 fn op_permissions_record(words: &mut Words) -> Option<RecordBytes> {
     let mut bytes = record(3);
-    let mut bits = 0u16;
-    for (bit, name) in PERMISSIONS.iter().enumerate() {
-        if words.take(name) {
-            bits |= 1 << bit;
-        }
-    }
-    put(&mut bytes, 4, &bits.to_be_bytes());
+    put(&mut bytes, 4, &words.permissions().to_be_bytes());
     Some(bytes)
 }
 
@@ -191,15 +203,7 @@ fn make_blob_record(words: &mut Words) -> Option<RecordBytes> {
     optional_hash(words, "kthash", &mut bytes, 3, 24)?;
     if words.take("ktparams") {
         set_flag(&mut bytes, 4);
-        let soft = words.take("AllowSoftSlots");
-        put(&mut bytes, 44, &[0, u8::from(soft)]);
-        put(&mut bytes, 46, &[words.named_number8("needed")?]);
-        put(&mut bytes, 47, &[words.named_number8("total")?]);
-        put(
-            &mut bytes,
-            48,
-            &words.named_number("seconds")?.to_be_bytes(),
-        );
+        put(&mut bytes, 44, &words.parameters()?);
     }
     optional_flag(words, "AllowNullKmToken", &mut bytes, 5);
     optional_flag(words, "blobfile", &mut bytes, BLOBFILE_FLAG);
@@ -210,11 +214,7 @@ fn make_blob_record(words: &mut Words) -> Option<RecordBytes> {
 fn make_archive_blob_record(words: &mut Words) -> Option<RecordBytes> {
     let mut bytes = record(5);
     optional_hash(words, "kahash", &mut bytes, 0, 4)?;
-    put(
-        &mut bytes,
-        24,
-        &words.named_number16("mechanism")?.to_be_bytes(),
-    );
+    put_mechanism(words, &mut bytes)?;
     optional_flag(words, "blobfile", &mut bytes, BLOBFILE_FLAG);
     Some(bytes)
 }
@@ -224,7 +224,8 @@ fn blobfile_record(words: &mut Words) -> Option<RecordBytes> {
     let mut bytes = record(15);
     if words.rest.front() == Some(&b"devices".as_slice()) {
         set_flag(&mut bytes, 0);
-        put(&mut bytes, 4, &words.named_number("devices")?.to_be_bytes());
+        let devices: u32 = words.named_number("devices")?;
+        put(&mut bytes, 4, &devices.to_be_bytes());
     }
     optional_hash(words, "template", &mut bytes, 1, 8)?;
     Some(bytes)
@@ -233,6 +234,7 @@ fn blobfile_record(words: &mut Words) -> Option<RecordBytes> {
 #[cfg(test)]
 mod tests {
     use super::*;
+    use crate::call::Bytes;
     use crate::encode;
     use crate::listing::listing;
     use crate::maker::Maker;

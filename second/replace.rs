@@ -64,12 +64,12 @@ pub fn expand(
     Ok((place, charged))
 }
 
-fn read_hints(file: &[u8]) -> Result<Vec<Hint>, Refusal> {
+pub fn read_hints(file: &[u8]) -> Result<Vec<Hint>, Refusal> {
     records(file).map(read_hint).collect()
 }
 
 /// What a hint names is a matter of refusal 8; only its shape is a matter of 2.
-fn read_hint(record: Record) -> Result<Hint, Refusal> {
+pub fn read_hint(record: Record) -> Result<Hint, Refusal> {
     malformed_unless(record.kind() == 13)?;
     record.check_zeros(0, &[(4, 4), (8, 15)])?;
     let mut hint = Hint {

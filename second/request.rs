@@ -69,27 +69,64 @@ pub fn check_request_length(file: &[u8]) -> Result<(), Refusal> {
     check_length(file, MOST_REQUEST_RECORDS)
 }
 
-/// Reads a request file. A replacement names the one use it takes ("each refusing any other request
-/// with 2"); any other request is out of place at that record, before what is presented is looked
-/// at.
+/// Reads a request file. A replacement names the one use it takes.
 pub fn read_request(file: &[u8], only_use: Option<u8>) -> Result<(Request, Presented), Refusal> {
-    let mut rest = records(file);
-    // "A missing request record [...] gives 2."
-    let first = rest.next().ok_or(Refusal::Malformed)?;
-    let mut request = read_request_record(first)?;
-    if let Some(permission) = only_use {
-        malformed_unless(request.asked == Asked::Use(permission))?;
+    let mut reader = RequestReader::taking(only_use);
+    for record in records(file) {
+        reader.add(record)?;
     }
-    // "Requests of kinds 7 and 8 get flag 6 and a kind 15 record next".
-    if first.flag(BLOBFILE_FLAG) {
-        let next = rest.next().ok_or(Refusal::Malformed)?;
-        request.blobfile = Some(BlobFile::read_asked(next)?);
+    reader.end()
+}
+
+/// Takes a request file's records one by one, whether they come from a file or from a text.
+pub struct RequestReader {
+    only_use: Option<u8>,
+    request: Option<Request>,
+    /// Whether the request's flag 6 says that a kind 15 record comes next.
+    blobfile_due: bool,
+    presented: Presented,
+}
+
+impl RequestReader {
+    pub fn taking(only_use: Option<u8>) -> RequestReader {
+        RequestReader {
+            only_use,
+            request: None,
+            blobfile_due: false,
+            presented: Presented::default(),
+        }
     }
-    let mut presented = Presented::default();
-    for record in rest {
-        presented.add(record)?;
+
+    pub fn add(&mut self, record: Record) -> Result<(), Refusal> {
+        match &mut self.request {
+            None => self.add_request(record),
+            // "Requests of kinds 7 and 8 get flag 6 and a kind 15 record next".
+            Some(request) if self.blobfile_due => {
+                request.blobfile = Some(BlobFile::read_asked(record)?);
+                self.blobfile_due = false;
+                Ok(())
+            }
+            Some(_) => self.presented.add(record),
+        }
     }
-    Ok((request, presented))
+
+    /// A replacement refuses "any other request with 2": it is out of place at that record, before
+    /// what is presented is looked at.
+    fn add_request(&mut self, record: Record) -> Result<(), Refusal> {
+        let request = read_request_record(record)?;
+        if let Some(permission) = self.only_use {
+            malformed_unless(request.asked == Asked::Use(permission))?;
+        }
+        self.blobfile_due = record.flag(BLOBFILE_FLAG);
+        self.request = Some(request);
+        Ok(())
+    }
+
+    /// "A missing request record [...] gives 2", and so does a missing kind 15 record.
+    pub fn end(self) -> Result<(Request, Presented), Refusal> {
+        malformed_unless(!self.blobfile_due)?;
+        Ok((self.request.ok_or(Refusal::Malformed)?, self.presented))
+    }
 }
 
 impl Presented {

@@ -66,7 +66,9 @@ fn answer_line(number: u64, call: &Call, answer: Answer, state: &State) -> Strin
         Call::Desk { .. } | Call::Prepare { .. } => {}
         Call::Subject { buffer, .. }
         | Call::WriteListing { buffer, .. }
-        | Call::ReadListing { buffer, .. } => add_hex(&mut line, buffer),
+        | Call::ReadListing { buffer, .. }
+        | Call::WriteText { buffer, .. }
+        | Call::ReadText { buffer, .. } => add_hex(&mut line, buffer),
         Call::Trim {
             acl_buffer,
             hints_buffer,
@@ -309,6 +311,39 @@ mod tests {
         ];
         let script: Vec<u8> = calls.iter().flat_map(call_bytes).collect();
         let lines = "1 length 6 67726f75700aee\n2 refuse 15 2 eeee\n3 refuse 9 eeee\n4 length 0 \n";
+        assert_eq!(answers(&script, ALL_KINDS), lines);
+    }
+
+    #[test]
+    fn texts_show_the_whole_buffer() {
+        let mut file = vec![0; 64];
+        file[0] = 6;
+        let write = |kind| Call::WriteText {
+            kind,
+            file: file.clone(),
+            buffer: vec![0xee; 27],
+        };
+        let read = |kind, text: &[u8], length| Call::ReadText {
+            kind,
+            text: text.to_vec(),
+            buffer: vec![0xee; length],
+        };
+        let calls = [
+            write(1),
+            write(0),
+            write(5),
+            read(2, b"use Sign time 0\nuse", 2),
+            read(2, b"use Sign time 0\n", 2),
+            read(4, b"", 0),
+            read(5, b"", 1),
+        ];
+        let script: Vec<u8> = calls.iter().flat_map(call_bytes).collect();
+        let (text, old) = ("use DuplicateHandle time 0\n", "ee".repeat(27));
+        let lines = format!(
+            "1 length 27 {}\n2 refuse 2 {old}\n3 refuse 10 {old}\n4 refuse 15 2 eeee\n\
+             5 refuse 9 eeee\n6 length 0 \n7 refuse 10 ee\n",
+            hex(text.as_bytes())
+        );
         assert_eq!(answers(&script, ALL_KINDS), lines);
     }
 

@@ -7,7 +7,7 @@ use crate::call::{Argument, Bytes, Call, FileKind};
 use crate::prepare::FORM_LENGTH;
 
 /// The letters of all calls.
-pub const ALL_KINDS: &str = "FLCRNXDSWTflcrnxBPQM";
+pub const ALL_KINDS: &str = "FLCRNXDSWTVUflcrnxBPQM";
 /// "Bytes are a 4-byte big-endian length and then that many bytes, at most [...] 262,144".
 pub const LONGEST_BYTES: usize = 262_144;
 
@@ -168,6 +168,16 @@ mod tests {
             Call::ReadListing {
                 text: b"group\n".to_vec(),
                 buffer: vec![3; 64],
+            },
+            Call::WriteText {
+                kind: 9,
+                file: vec![4; 64],
+                buffer: vec![5; 7],
+            },
+            Call::ReadText {
+                kind: 1,
+                text: b"use Sign time 0\n".to_vec(),
+                buffer: vec![6; 64],
             },
             Call::FreshCabinet,
             Call::ClearShared { counter: 8 },

@@ -1,5 +1,5 @@
 /* Akubolinfe for C and C++: a permission gate for keys kept in nShield modules (for one key, and for a cabinet of eight), the
- * attestation desk, the trimming tool, the subject writer, and ACLs as text. x86-64 Linux.
+ * attestation desk, the trimming tool, the subject writer, and files as text. x86-64 Linux.
  *
  * Answers
  *   Every answer begins with `refusal`: 0 if the call did what it was asked, else the number of the refusal (AKUBOLINFE_MALFORMED and
@@ -63,14 +63,25 @@ AKUBOLINFE_MUST_USE uint32_t akubolinfe_abi(void);
 #define AKUBOLINFE_COUNTERS 256
 #define AKUBOLINFE_SLOTS 8
 
-/* Greatest lengths in bytes. Longer ACLs, requests, hints and bundles are refused with 1. No subject, no listing, no trimmed ACL and
- * no hints are longer than this, so a buffer of this length is never refused with 9. */
+/* Greatest lengths in bytes. Longer ACLs, requests, hints and bundles are refused with 1. No subject, no listing, no text, no trimmed
+ * ACL and no hints are longer than this, so a buffer of this length is never refused with 9. The text of an ACL is its listing. */
 #define AKUBOLINFE_ACL_BYTES 86016
 #define AKUBOLINFE_REQUEST_BYTES 3200
 #define AKUBOLINFE_HINT_BYTES 4096
 #define AKUBOLINFE_BUNDLE_BYTES 3328
 #define AKUBOLINFE_SUBJECT_BYTES 137
 #define AKUBOLINFE_LISTING_BYTES 164416
+#define AKUBOLINFE_REQUEST_TEXT_BYTES 6890
+#define AKUBOLINFE_REQUESTS_TEXT_BYTES 179000
+#define AKUBOLINFE_BUNDLE_TEXT_BYTES 2718
+#define AKUBOLINFE_HINTS_TEXT_BYTES 3520
+
+/* The kinds of file that have a text. */
+#define AKUBOLINFE_TEXT_ACL 0      /* an ACL; its text is its listing */
+#define AKUBOLINFE_TEXT_REQUEST 1  /* a request with its record of kind 15, its certificates and its delegations */
+#define AKUBOLINFE_TEXT_REQUESTS 2 /* up to 1,000 requests, each of one record, as in a run */
+#define AKUBOLINFE_TEXT_BUNDLE 3   /* a bundle */
+#define AKUBOLINFE_TEXT_HINTS 4    /* the hints of a narrowing */
 
 /* Greatest numbers of a run: its certificates, and its request records, without and with a prepared form. */
 #define AKUBOLINFE_CERTIFICATES 32
@@ -224,7 +235,7 @@ typedef struct {
     uint64_t length;
 } akubolinfe_subject_reply;
 
-/* The answer of the functions for listings: the length of the result; for refusal 15 the number of the first bad line, from 1. */
+/* The answer of the functions for listings and texts: the length of the result; for refusal 15 the number of the first bad line, from 1. */
 typedef struct {
     uint32_t refusal;
     uint64_t line;
@@ -451,6 +462,18 @@ AKUBOLINFE_MUST_USE akubolinfe_text_reply akubolinfe_write_listing(const uint8_t
  * akubolinfe_write_listing writes for its ACL. Refused with 15 and the number of the first bad line, then with 9. */
 AKUBOLINFE_MUST_USE akubolinfe_text_reply akubolinfe_read_listing(const uint8_t *text, size_t text_length, uint8_t *buffer,
                                                                   size_t buffer_length);
+
+/* Writes the text of a file, one line for each record, to the front of the buffer; bytes after it are unchanged. `kind` is
+ * AKUBOLINFE_TEXT_ACL or another of the five kinds. An unknown kind is refused with 10 before anything else is checked. Then refused
+ * with the first fault of the file (1, 2, 3; 12 for an ACL), then with 9. */
+AKUBOLINFE_MUST_USE akubolinfe_text_reply akubolinfe_write_text(uint32_t kind, const uint8_t *file, size_t file_length,
+                                                                uint8_t *buffer, size_t buffer_length);
+
+/* Writes the file of a text to the front of the buffer; bytes after it are unchanged. Every text that is accepted is the one that
+ * akubolinfe_write_text writes for its file. An unknown kind is refused with 10 before anything else is checked. Then refused with 15
+ * and the number of the first bad line, then with 9. */
+AKUBOLINFE_MUST_USE akubolinfe_text_reply akubolinfe_read_text(uint32_t kind, const uint8_t *text, size_t text_length,
+                                                               uint8_t *buffer, size_t buffer_length);
 
 #ifdef __cplusplus
 }

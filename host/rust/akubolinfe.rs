@@ -69,7 +69,17 @@ pub enum Verdict {
     Refused(u32),
 }
 
-/// Why there is no listing, or no ACL of one: the first bad line, from 1; or a refusal with its number.
+/// The kinds of file that have a text; the text of an ACL is its listing.
+#[derive(Clone, Copy, PartialEq, Eq, Debug)]
+pub enum Kind {
+    Acl = 0,
+    Request = 1,
+    Requests = 2,
+    Bundle = 3,
+    Hints = 4,
+}
+
+/// Why there is no listing or text, or no file of one: the first bad line, from 1; or a refusal with its number.
 #[derive(Clone, Copy, PartialEq, Eq, Debug)]
 pub enum NotListed {
     BadLine(u64),
@@ -95,9 +105,13 @@ pub const STEPS: [&str; 21] = [
 /// The `AKUBOLINFE_ABI` that this module was written for.
 pub const ABI: u32 = 1;
 
-/// Greatest lengths in bytes: of a subject, of a listing, of an ACL and of hints.
+/// Greatest lengths in bytes: of a subject, of a listing, of the texts of the other kinds of file, of an ACL and of hints.
 pub const SUBJECT_BYTES: usize = 137;
 pub const LISTING_BYTES: usize = 164_416;
+pub const REQUEST_TEXT_BYTES: usize = 6_890;
+pub const REQUESTS_TEXT_BYTES: usize = 179_000;
+pub const BUNDLE_TEXT_BYTES: usize = 2_718;
+pub const HINTS_TEXT_BYTES: usize = 3_520;
 pub const ACL_BYTES: usize = 86_016;
 pub const HINT_BYTES: usize = 4_096;
 
@@ -177,7 +191,8 @@ struct RawPreparation {
     form: Form,
 }
 
-// Each slice is a pointer and a length: KM0 (k), an ACL (a), a request or requests (r), a new ACL (n), hints (h), certificates (c), a buffer (b).
+// Each slice is a pointer and a length: KM0 (k), an ACL (a), a request or requests (r), a new ACL (n), hints (h), certificates (c), a
+// file of any kind (s), a text (t), a buffer (b).
 extern "C" {
     fn akubolinfe_abi() -> u32;
     fn akubolinfe_fresh() -> Ledger;
@@ -282,6 +297,8 @@ extern "C" {
     fn akubolinfe_subject(c: u64, s: u64, h: *const u8, hn: usize, b: *mut u8, bn: usize) -> RawSubjectReply;
     fn akubolinfe_write_listing(a: *const u8, an: usize, b: *mut u8, bn: usize) -> RawTextReply;
     fn akubolinfe_read_listing(t: *const u8, tn: usize, b: *mut u8, bn: usize) -> RawTextReply;
+    fn akubolinfe_write_text(kind: u32, s: *const u8, sn: usize, b: *mut u8, bn: usize) -> RawTextReply;
+    fn akubolinfe_read_text(kind: u32, t: *const u8, tn: usize, b: *mut u8, bn: usize) -> RawTextReply;
 }
 
 // The pointer of a slice; NULL where it is empty, as C programs pass it.
@@ -549,6 +566,29 @@ pub mod in_place {
                 ledger, ptr(km0), km0.len(), ptr(acl), acl.len(), ptr(req), req.len(), ptr(new), new.len(),
             )
         })
+    }
+}
+
+/// Writes the text of a file to the front of the buffer and returns its length.
+pub fn write_text(kind: Kind, file: &[u8], buffer: &mut [u8]) -> Result<u64, NotListed> {
+    by_number::write_text(kind as u32, file, buffer)
+}
+
+/// Writes the file of a text to the front of the buffer and returns its length.
+pub fn read_text(kind: Kind, text: &[u8], buffer: &mut [u8]) -> Result<u64, NotListed> {
+    by_number::read_text(kind as u32, text, buffer)
+}
+
+/// The functions for texts with the number of a kind, as in the header. An unknown kind is refused with 10 before anything else is checked.
+pub mod by_number {
+    use super::*;
+
+    pub fn write_text(kind: u32, file: &[u8], buffer: &mut [u8]) -> Result<u64, NotListed> {
+        listed(unsafe { akubolinfe_write_text(kind, ptr(file), file.len(), ptr_mut(buffer), buffer.len()) })
+    }
+
+    pub fn read_text(kind: u32, text: &[u8], buffer: &mut [u8]) -> Result<u64, NotListed> {
+        listed(unsafe { akubolinfe_read_text(kind, ptr(text), text.len(), ptr_mut(buffer), buffer.len()) })
     }
 }
 

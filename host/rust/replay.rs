@@ -1,14 +1,14 @@
 // Answers a replay script (docs/REPLAY.md) through the C surface, so that the linked library can be compared with the second
 // program: `second/compare` takes it in the place of the replay program. Every call on a ledger or a cabinet is made in place and by
 // value, and a run on a ledger is made in a slot of a cabinet too; this program ends where two of them differ. With `--cfg ordinary` it
-// answers through the ordinary Rust program of bench/ordinary instead, which has neither cabinet nor listings nor trimming tool nor
+// answers through the ordinary Rust program of bench/ordinary instead, which has neither cabinet nor texts nor trimming tool nor
 // runs.
 #[cfg_attr(ordinary, path = "../../bench/ordinary/mod.rs")]
 mod akubolinfe;
 
 use akubolinfe::{assess, write_subject, Ledger, Reply, Verdict};
 #[cfg(not(ordinary))]
-use akubolinfe::{by_value, in_place, prepare, read_listing, trim, write_listing, Cabinet, Certificate, Form, NotListed, NotTrimmed, Ran, Slot};
+use akubolinfe::{by_number, by_value, in_place, prepare, read_listing, trim, write_listing, Cabinet, Certificate, Form, NotListed, NotTrimmed, Ran, Slot};
 use std::io::{Read, Write};
 
 // The rest of a script.
@@ -85,7 +85,7 @@ fn subject(s: &mut Script) -> Option<String> {
 }
 
 #[cfg(not(ordinary))]
-fn listing(s: &mut Script, made: fn(&[u8], &mut [u8]) -> Result<u64, NotListed>) -> Option<String> {
+fn listing(s: &mut Script, made: impl Fn(&[u8], &mut [u8]) -> Result<u64, NotListed>) -> Option<String> {
     let (given, mut buffer) = (s.run()?, s.run()?);
     let l = made(&given, &mut buffer);
     Some(match l {
@@ -93,6 +93,13 @@ fn listing(s: &mut Script, made: fn(&[u8], &mut [u8]) -> Result<u64, NotListed>)
         Err(NotListed::BadLine(n)) => format!("refuse 15 {n} {}", hex(&buffer)),
         Err(NotListed::Refused(n)) => format!("refuse {n} {}", hex(&buffer)),
     })
+}
+
+// A text of a kind of file; a number of more than 32 bits is no kind's, and passes as the greatest of 32 bits.
+#[cfg(not(ordinary))]
+fn text(s: &mut Script, made: fn(u32, &[u8], &mut [u8]) -> Result<u64, NotListed>) -> Option<String> {
+    let kind = u32::try_from(s.number()?).unwrap_or(u32::MAX);
+    listing(s, |given, buffer| made(kind, given, buffer))
 }
 
 #[cfg(not(ordinary))]
@@ -352,6 +359,10 @@ fn answer(letter: u8, s: &mut Script, state: &mut State) -> Option<String> {
         b'W' => return listing(s, write_listing),
         #[cfg(not(ordinary))]
         b'T' => return listing(s, read_listing),
+        #[cfg(not(ordinary))]
+        b'V' => return text(s, by_number::write_text),
+        #[cfg(not(ordinary))]
+        b'U' => return text(s, by_number::read_text),
         #[cfg(not(ordinary))]
         b'M' => return trimmed(s),
         #[cfg(not(ordinary))]

@@ -27,8 +27,8 @@ fn a_long_script_is_whole() {
 #[test]
 fn only_the_letters_asked_for() {
     for kinds in [
-        "F", "L", "C", "R", "N", "X", "D", "S", "W", "T", "f", "l", "c", "r", "n", "x", "B",
-        "flcrnx", "FLCR", "RN",
+        "F", "L", "C", "R", "N", "X", "D", "S", "W", "T", "V", "U", "f", "l", "c", "r", "n", "x",
+        "B", "flcrnx", "FLCR", "RN",
     ] {
         let script = script(5, 60, kinds);
         let mut input = &script[..];
@@ -108,6 +108,17 @@ fn every_answer_comes_up() {
         "T length",
         "T refuse 9",
         "T refuse 15",
+        "V length",
+        "V refuse 1",
+        "V refuse 2",
+        "V refuse 3",
+        "V refuse 9",
+        "V refuse 10",
+        "V refuse 12",
+        "U length",
+        "U refuse 9",
+        "U refuse 10",
+        "U refuse 15",
         "B length",
         "B refuse 1",
         "B refuse 2",

@@ -1,5 +1,5 @@
-// The C surface of what has no ledger: the desk, the trimming tool, the subject writer and listings as exported functions. A slice is a pointer and a
-// length.
+// The C surface of what has no ledger: the desk, the trimming tool, the subject writer and texts of files as exported functions. A slice is a pointer
+// and a length.
 ghost use mathlib.Core.Path.{_≡_};
 ghost use Rattle.rules.specs.Desk.{desk};
 ghost use Rattle.rules.specs.Subject.{subjectReply, subjectBuffer};
@@ -7,10 +7,15 @@ ghost use Rattle.rules.specs.Trim.{trimReply, trimAclBuffer, trimHintBuffer};
 ghost use Rattle.listings.specs.Listing.{writeListing, readListingInto};
 ghost use Rattle.desk.specs.Replies as replies;
 ghost use Rattle.surface.specs.Surface.{hostVerdictAs, hostVerdictFor, hostSubjectAs, hostSubjectFor, hostTextAs, hostTextFor, hostTrimAs, hostTrimFor};
+ghost use Rattle.listing.specs.Answers.{IsListed};
+ghost use Rattle.host.specs.TextKinds.{textKind, kindAs, writtenFor, readFor};
+use listing::Reply;
+use refusals::Refusal;
 use surface::HostSubject;
 use surface::HostText;
 use surface::HostTrim;
 use surface::HostVerdict;
+use texts::Kind;
 
 // The number of the binary interface, AKUBOLINFE_ABI of the header.
 #[no_mangle]
@@ -73,4 +78,62 @@ pub extern "C" fn akubolinfe_read_listing(text: &[u8], buffer: &mut [u8]) -> Hos
     ensures bytes { λ _. ⌜ now (buffer .exit) ≡ readListingInto (now (text .entry)) (now (buffer .entry)) .buffer ⌝ }
 {
     surface::host_text(listing::read_listing(text, buffer))
+}
+
+// The kind of file that a number names, if it names one.
+pub enum KindOf {
+    Known(Kind),
+    Unknown,
+}
+
+// The kind of file of a number in the header.
+fn kind_of(number: u32) -> KindOf
+    ensures { λ r. ⌜ kindAs r ≡ textKind number ⌝ }
+{
+    match number {
+        0 => KindOf::Known(Kind::Acl),
+        1 => KindOf::Known(Kind::Request),
+        2 => KindOf::Known(Kind::Requests),
+        3 => KindOf::Known(Kind::Bundle),
+        4 => KindOf::Known(Kind::Hints),
+        _ => KindOf::Unknown,
+    }
+}
+
+// A file's text, at the front of the buffer, if its kind is known.
+fn write_known(kind: KindOf, file: &[u8], buffer: &mut [u8]) -> Reply
+    ensures { λ r. ⌜ IsListed (writtenFor (kindAs kind) (now (file .entry)) (now (buffer .entry))) r (now (buffer .exit)) ⌝ }
+{
+    match kind {
+        KindOf::Known(k) => texts::write(k, file, buffer),
+        KindOf::Unknown => Reply::Refused(Refusal::OutOfRange),
+    }
+}
+
+// A text's file, at the front of the buffer, if its kind is known.
+fn read_known(kind: KindOf, text: &[u8], buffer: &mut [u8]) -> Reply
+    ensures { λ r. ⌜ IsListed (readFor (kindAs kind) (now (text .entry)) (now (buffer .entry))) r (now (buffer .exit)) ⌝ }
+{
+    match kind {
+        KindOf::Known(k) => texts::read(k, text, buffer),
+        KindOf::Unknown => Reply::Refused(Refusal::OutOfRange),
+    }
+}
+
+// The text of a file of any kind, at the front of the buffer.
+#[no_mangle]
+pub extern "C" fn akubolinfe_write_text(kind: u32, file: &[u8], buffer: &mut [u8]) -> HostText
+    ensures reply { λ r. ⌜ hostTextAs r ≡ hostTextFor (writtenFor (textKind kind) (now (file .entry)) (now (buffer .entry)) .reply) ⌝ }
+    ensures bytes { λ _. ⌜ now (buffer .exit) ≡ writtenFor (textKind kind) (now (file .entry)) (now (buffer .entry)) .buffer ⌝ }
+{
+    surface::host_text(write_known(kind_of(kind), file, buffer))
+}
+
+// The file of a text of any kind, at the front of the buffer.
+#[no_mangle]
+pub extern "C" fn akubolinfe_read_text(kind: u32, text: &[u8], buffer: &mut [u8]) -> HostText
+    ensures reply { λ r. ⌜ hostTextAs r ≡ hostTextFor (readFor (textKind kind) (now (text .entry)) (now (buffer .entry)) .reply) ⌝ }
+    ensures bytes { λ _. ⌜ now (buffer .exit) ≡ readFor (textKind kind) (now (text .entry)) (now (buffer .entry)) .buffer ⌝ }
+{
+    surface::host_text(read_known(kind_of(kind), text, buffer))
 }
