@@ -15,6 +15,7 @@ sys.path.insert(0, str(Path(__file__).resolve().parent.parent))
 from akubolinfe import Cabinet, Form, Ledger, Reply, Text, attest, prepare, subject, trim  # noqa: E402
 from akubolinfe._library import CertificateStruct, library  # noqa: E402
 from akubolinfe.gate import _answers, _reply  # noqa: E402
+from akubolinfe.text import KINDS  # noqa: E402
 from akubolinfe.words import STEPS  # noqa: E402
 
 LONGEST = 262144
@@ -95,7 +96,7 @@ class Replay:
 
     def answer(self, letter):
         call = {'F': self.fresh, 'L': self.load, 'C': self.clear, 'R': self.ask, 'N': self.ask, 'X': self.ask, 'D': self.desk,
-                'S': self.subject, 'W': self.text, 'T': self.text, 'M': self.trim, 'P': self.prepare, 'B': self.run, 'Q': self.run,
+                'S': self.subject, 'W': self.text, 'T': self.text, 'V': self.any_text, 'U': self.any_text, 'M': self.trim, 'P': self.prepare, 'B': self.run, 'Q': self.run,
                 'f': self.fresh_cabinet, 'l': self.slot, 'c': self.clear_shared, 'r': self.slot, 'n': self.slot, 'x': self.slot}.get(letter)
         if call is None:
             raise Stop
@@ -169,6 +170,16 @@ class Replay:
         self.agree(made.refusal, made.length, buffer, whole)
         if made.refusal == 15:
             assert made.line == whole.line, 'line'
+            return f'refuse 15 {made.line} {digits(buffer)}'
+        return f'{self.length(made)} {digits(buffer)}'
+
+    def any_text(self, letter):
+        kind, given, buffer = self.script.number(), self.script.bytes(), buffer_of(self.script.bytes())
+        way = {'V': 'write', 'U': 'read'}[letter]
+        made = getattr(LIBRARY, way + '_text')(min(kind, 2**32 - 1), *lent(given), *lent_buffer(buffer))
+        if kind < len(KINDS):
+            self.agree(made.refusal, made.length, buffer, getattr(Text(KINDS[kind]), way)(given))
+        if made.refusal == 15:
             return f'refuse 15 {made.line} {digits(buffer)}'
         return f'{self.length(made)} {digits(buffer)}'
 
