@@ -1,4 +1,8 @@
-// The files that a program's arguments name. What cannot be read or written is said in one line on standard error.
+// A program's arguments, and the files that they name. What cannot be read is said in one line on standard error.
+//
+// All but `prefix` only read, or print on standard error, so that they promise nothing.
+ghost use mathlib.Core.Path.{_≡_};
+ghost use lib.ListN.{take};
 use libc::STDERR_FILENO;
 
 // What became of a file: how many bytes of it were read, or that it could not be.
@@ -8,11 +12,39 @@ pub enum Input {
 }
 
 // The first n bytes, or all where there are fewer.
-pub fn prefix(s: &[u8], n: usize) -> &[u8] {
+pub fn prefix(s: &[u8], n: usize) -> &[u8]
+    ensures { λ r. ⌜ now r ≡ take n (now (s .entry)) ⌝ }
+{
     if s.len() < n {
         return s;
     }
     &s[0..n]
+}
+
+// Whether the first argument is `--help`.
+fn asks_for_help() -> bool {
+    let mut word = [0u8; 6];
+    let n = os::arg(1, &mut word);
+    (n == 6)
+        & (word[0] == b'-')
+        & (word[1] == b'-')
+        & (word[2] == b'h')
+        & (word[3] == b'e')
+        & (word[4] == b'l')
+        & (word[5] == b'p')
+}
+
+// Whether the program has `count` arguments, its own name among them, and the first after it does not ask for help. If not, the usage is said.
+pub fn are_given(count: usize, usage: &[u8]) -> bool {
+    let given = os::arg_count();
+    let help = asks_for_help();
+    if (given == count) & !help {
+        return true;
+    }
+    io::write_all(STDERR_FILENO, b"usage: ");
+    io::write_all(STDERR_FILENO, usage);
+    io::write_all(STDERR_FILENO, b"\n");
+    false
 }
 
 // What is read of an open file, up to the buffer's length. A read that fails ends it like the file's end does, so that one more read has to tell them
@@ -45,38 +77,9 @@ pub fn read(i: usize, what: &[u8], buffer: &mut [u8]) -> Input {
     read_open(fd, &path[..n], buffer)
 }
 
-// Bytes into the file that argument i names, in the place of what stands there; whether all were written.
-pub fn overwrite(i: usize, what: &[u8], bytes: &[u8]) -> bool {
-    let mut path = io::buffer();
-    let n = os::arg(i, &mut path);
-    if os::errno() != 0 {
-        os::fail(what);
-        return false;
-    }
-    let fd = os::open_overwrite(&path[..n]);
-    if fd < 0 {
-        os::fail(&path[..n]);
-        return false;
-    }
-    let whole = io::write_all(fd, bytes);
-    if !whole {
-        os::fail(&path[..n]);
-    }
-    libc::close(fd);
-    whole
-}
-
 // Argument i, as it was given, on standard error: what a message begins with.
 pub fn print(i: usize) {
     let mut path = io::buffer();
     let n = os::arg(i, &mut path);
     io::write_all(STDERR_FILENO, &path[..n]);
-}
-
-// Says that the file that argument i names is refused: `FILE: refuse N`.
-pub fn refuse(i: usize, number: u64) {
-    print(i);
-    io::write_all(STDERR_FILENO, b": refuse ");
-    io::print_decimal(STDERR_FILENO, number);
-    io::write_all(STDERR_FILENO, b"\n");
 }

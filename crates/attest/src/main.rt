@@ -1,14 +1,14 @@
-// attest BUNDLE ACL: prints the desk's verdict on two files, one line. Where a file cannot be read, or the arguments are not two, it says so in one line
-// on standard error and prints nothing.
+// attest BUNDLE ACL: prints the desk's verdict on two files, one line. What a failing step or a refusal means is said on standard error. Where a file
+// cannot be read, or the arguments are not two, it says so in one line on standard error and prints nothing.
 use arguments::Input;
-use libc::STDERR_FILENO;
-use libc::STDOUT_FILENO;
 
-// The verdict's line.
+// The verdict's line, and its meaning.
 fn print_verdict(bundle: &[u8], acl: &[u8]) {
     let mut line = [0u8; verdicts::LINE];
-    let n = verdicts::verdict_line(desk::assess(bundle, acl), &mut line);
-    io::write_all(STDOUT_FILENO, arguments::prefix(&line, n));
+    let verdict = desk::assess(bundle, acl);
+    let n = verdicts::verdict_line(verdict, &mut line);
+    printing::print(arguments::prefix(&line, n));
+    messages::explain(verdict, bundle);
 }
 
 // The bundle with the ACL that the second argument names. No file that fits its greatest length fills the buffer, so that a longer one is cut and
@@ -23,11 +23,7 @@ fn judge_acl(bundle: &[u8]) {
 }
 
 fn main() {
-    if os::arg_count() != 3 {
-        io::write_all(
-            STDERR_FILENO,
-            b"attest: two file names are wanted, BUNDLE and ACL\n",
-        );
+    if !arguments::are_given(3, b"attest BUNDLE ACL") {
         return;
     }
     let mut bundle = io::buffer();

@@ -1,10 +1,10 @@
 // The day program: `day KM0 ACL REQUESTS`, three file names. It starts with a fresh ledger loaded at 0 and prints a line for each request record; a bad
-// file or record, or too many records, print `0 refuse N` alone.
+// file or record, or too many records, print `0 refuse N` alone, and standard error says which file it is and what N means.
 use arguments::Input;
 use charging::Reply;
 use files::Checked;
 use gate::Ledger;
-use libc::STDERR_FILENO;
+use refusals::Refusal;
 
 // The ledger that the day starts with.
 fn loaded() -> Ledger {
@@ -34,15 +34,40 @@ fn print_lines(km0: &[u8], acl: &[u8], requests: &[u8]) {
     }
 }
 
+// Whether a check ended with that number.
+fn is_refused(number: u8, checked: Checked) -> bool {
+    match checked {
+        Checked::Refused(why) => refusals::number(why) == number,
+        Checked::Sound => false,
+    }
+}
+
+// Which argument names the file with the first fault: the first that has a fault of that number where the files after it are empty.
+fn faulty(number: u8, km0: &[u8], acl: &[u8]) -> usize {
+    let empty = arguments::prefix(acl, 0);
+    if is_refused(number, daybook::first_fault(km0, empty, empty)) {
+        return 1;
+    }
+    if is_refused(number, daybook::first_fault(km0, acl, empty)) {
+        return 2;
+    }
+    3
+}
+
+// The line of a bad file, and its meaning.
+fn print_fault(why: Refusal, km0: &[u8], acl: &[u8]) {
+    let number = refusals::number(why);
+    printing::print_line(0);
+    printing::print_refusal(number as u64);
+    printing::print(b"\n");
+    messages::refuse(faulty(number, km0, acl), number);
+}
+
 // The lines of three files.
 fn print_day(km0: &[u8], acl: &[u8], requests: &[u8]) {
     let fault = daybook::first_fault(km0, acl, requests);
     match fault {
-        Checked::Refused(why) => {
-            printing::print_line(0);
-            printing::print_refusal(refusals::number(why) as u64);
-            printing::print(b"\n");
-        }
+        Checked::Refused(why) => print_fault(why, km0, acl),
         Checked::Sound => print_lines(km0, acl, requests),
     }
 }
@@ -66,11 +91,7 @@ fn read_all(km0: &mut [u8], acl: &mut [u8], requests: &mut [u8]) {
 }
 
 fn main() {
-    if os::arg_count() != 4 {
-        io::write_all(
-            STDERR_FILENO,
-            b"day: three file names are due: KM0 ACL REQUESTS\n",
-        );
+    if !arguments::are_given(4, b"day KM0 ACL REQUESTS") {
         return;
     }
     let mut km0 = [0u8; sizes::RECORD];

@@ -1,8 +1,6 @@
-// list ACL: prints the listing of an ACL file (docs/LISTING.md). An ACL that is not well formed gives `ACL: refuse N` on standard error, N its refusal's
-// number, and prints nothing.
+// list ACL: prints the listing of an ACL file (docs/LISTING.md). An ACL that is not well formed gives `ACL: refuse N: WORDS` on standard error, and prints
+// nothing.
 use arguments::Input;
-use libc::STDERR_FILENO;
-use libc::STDOUT_FILENO;
 use listing::Reply;
 
 // The listing of an ACL. No listing is longer than the buffer, and no line is bad where none is read.
@@ -10,18 +8,15 @@ fn print_listing(acl: &[u8]) {
     let mut text = [0u8; listing::LONGEST];
     let reply = listing::write_listing(acl, &mut text);
     match reply {
-        Reply::Produced(n) => {
-            io::write_all(STDOUT_FILENO, arguments::prefix(&text, n));
-        }
-        Reply::Refused(why) => arguments::refuse(1, refusals::number(why) as u64),
-        Reply::BadLine(_) => arguments::refuse(1, 15),
+        Reply::Produced(n) => printing::print(arguments::prefix(&text, n)),
+        Reply::Refused(why) => messages::refuse(1, refusals::number(why)),
+        Reply::BadLine(_) => messages::refuse(1, 15),
     }
 }
 
 // No ACL fills the buffer, so that a longer file is cut and still too long.
 fn main() {
-    if os::arg_count() != 2 {
-        io::write_all(STDERR_FILENO, b"list: one file name is due: ACL\n");
+    if !arguments::are_given(2, b"list ACL") {
         return;
     }
     let mut acl = [0u8; (sizes::ACL_RECORDS + 1) * sizes::RECORD];

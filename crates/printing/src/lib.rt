@@ -1,12 +1,24 @@
-// Prints numbers, tables and bytes on standard output, as the programs show them.
+// Prints numbers, tables and bytes on standard output, as the programs show them. Output that is lost is said on standard error.
+//
+// All of these only print, so that they promise nothing.
 use libc::STDOUT_FILENO;
 
+// Says once that output is lost: what is printed from here on goes to /dev/null, where nothing is lost.
+fn check(written: bool) {
+    if written {
+        return;
+    }
+    os::fail(b"standard output");
+    libc::close(STDOUT_FILENO);
+    os::open_overwrite(b"/dev/null");
+}
+
 pub fn print(text: &[u8]) {
-    io::write_all(STDOUT_FILENO, text);
+    check(io::write_all(STDOUT_FILENO, text));
 }
 
 pub fn print_number(n: u64) {
-    io::print_decimal(STDOUT_FILENO, n);
+    check(io::print_decimal(STDOUT_FILENO, n));
 }
 
 // The beginning of a line: its number and a space.
@@ -71,12 +83,12 @@ pub fn print_hex(s: &[u8]) {
 }
 
 fn print_byte(b: u8) {
-    io::print_hex(STDOUT_FILENO, b as u64, 2);
+    check(io::print_hex(STDOUT_FILENO, b as u64, 2));
 }
 
 // A number, sixteen lower-case digits.
 pub fn print_word(n: u64) {
-    io::print_hex(STDOUT_FILENO, n, 16);
+    check(io::print_hex(STDOUT_FILENO, n, 16));
 }
 
 // Numbers, sixteen lower-case digits for each.

@@ -1,7 +1,8 @@
 // trim BUNDLE ACL NEW HINTS, four file names: writes the ACL without what fails at the desk to NEW, and to HINTS the hints by which it narrows the old
 // one. For each record of the old ACL of which something is removed it prints a line `group G action A fails STEP, removed: LINE`, by its old places;
 // LINE is the listing's line (docs/LISTING.md) of a blob action, of the blobfile that goes with it, or of the permissions that are gone. Then comes
-// `trimmed: ACL M bytes, hints N bytes`. Where a file is refused, or a step before the ACL fails, the desk's line is printed alone and no file is written.
+// `trimmed: ACL M bytes, hints N bytes`. Where a file is refused, or a step before the ACL fails, the desk's line is printed alone, standard error says what
+// it means, and no file is written. Unless both files are written whole, those that exist are unchanged.
 ghost use mathlib.Core.Path.{_≡_};
 ghost use Prim.Native.Nat.{_-_, _≤_};
 ghost use lib.ListN.{length};
@@ -17,16 +18,17 @@ use steps::Failure;
 use steps::Step;
 use trimming::TrimReply;
 
-// The desk's line.
-fn print_verdict(v: Verdict) {
+// The desk's line, and its meaning.
+fn print_verdict(v: Verdict, bundle: &[u8]) {
     let mut line = [0u8; verdicts::LINE];
     let n = verdicts::verdict_line(v, &mut line);
     print(arguments::prefix(&line, n));
+    messages::explain(v, bundle);
 }
 
-// .. for files that are refused.
-fn print_refusal(why: Refusal) {
-    print_verdict(Verdict::Refused(why));
+// The desk's line for files that are refused, and its meaning.
+fn print_refusal(why: Refusal, bundle: &[u8]) {
+    print_verdict(Verdict::Refused(why), bundle);
 }
 
 // What a line begins with: an action's old place, and the step that it fails.
@@ -153,15 +155,59 @@ fn print_trimmed(bundle: &[u8], acl: &[u8], new: usize, hints: usize) {
     print(b" bytes\n");
 }
 
+// Whether the hints are prepared, and HINTS is none of the other three files.
+fn prepare_hints(hints: &[u8]) -> bool {
+    if !saving::prepare(4, b"HINTS", hints) {
+        return false;
+    }
+    if saving::is_same(4, 1) {
+        return false;
+    }
+    if saving::is_same(4, 2) {
+        return false;
+    }
+    !saving::is_same(4, 3)
+}
+
+// Whether the new ACL is prepared, and NEW is neither file that was read.
+fn prepare_new(new: &[u8]) -> bool {
+    if !saving::prepare(3, b"NEW", new) {
+        return false;
+    }
+    if saving::is_same(3, 1) {
+        return false;
+    }
+    !saving::is_same(3, 2)
+}
+
+// Whether both files have their names: HINTS first, so that no NEW is ever without its hints.
+fn put_both() -> bool {
+    if !saving::put(4) {
+        saving::discard(3);
+        return false;
+    }
+    if !saving::put(3) {
+        arguments::print(4);
+        io::write_all(STDERR_FILENO, b": has the new hints; ");
+        arguments::print(3);
+        io::write_all(STDERR_FILENO, b": is unchanged\n");
+        return false;
+    }
+    true
+}
+
 // Writes both files, then says what was removed.
 fn write_both(bundle: &[u8], acl: &[u8], new: &[u8], hints: &[u8]) {
-    if !arguments::overwrite(3, b"NEW", new) {
+    if !prepare_hints(hints) {
         return;
     }
-    if !arguments::overwrite(4, b"HINTS", hints) {
+    if !prepare_new(new) {
+        saving::discard(4);
         return;
     }
-    print_trimmed(bundle, acl, new.len(), hints.len());
+    if put_both() {
+        print_trimmed(bundle, acl, new.len(), hints.len());
+    }
 }
 
 // The tool on two files. The buffers have room for any results.
@@ -176,8 +222,8 @@ fn trim_files(bundle: &[u8], acl: &[u8]) {
             arguments::prefix(&new, m),
             arguments::prefix(&hints, n),
         ),
-        TrimReply::Failed(s) => print_verdict(Verdict::Failed(s)),
-        TrimReply::Refused(why) => print_refusal(why),
+        TrimReply::Failed(s) => print_verdict(Verdict::Failed(s), bundle),
+        TrimReply::Refused(why) => print_refusal(why, bundle),
     }
 }
 
@@ -193,11 +239,7 @@ fn trim_acl(bundle: &[u8]) {
 }
 
 fn main() {
-    if os::arg_count() != 5 {
-        io::write_all(
-            STDERR_FILENO,
-            b"trim: four file names are wanted, BUNDLE, ACL, NEW and HINTS\n",
-        );
+    if !arguments::are_given(5, b"trim BUNDLE ACL NEW HINTS") {
         return;
     }
     let mut bundle = io::buffer();
