@@ -34,6 +34,13 @@ fn asks_for_help() -> bool {
         & (word[5] == b'p')
 }
 
+// Says how the program is used.
+pub fn print_usage(usage: &[u8]) {
+    io::write_all(STDERR_FILENO, b"usage: ");
+    io::write_all(STDERR_FILENO, usage);
+    io::write_all(STDERR_FILENO, b"\n");
+}
+
 // Whether the program has `count` arguments, its own name among them, and the first after it does not ask for help. If not, the usage is said.
 pub fn are_given(count: usize, usage: &[u8]) -> bool {
     let given = os::arg_count();
@@ -41,9 +48,7 @@ pub fn are_given(count: usize, usage: &[u8]) -> bool {
     if (given == count) & !help {
         return true;
     }
-    io::write_all(STDERR_FILENO, b"usage: ");
-    io::write_all(STDERR_FILENO, usage);
-    io::write_all(STDERR_FILENO, b"\n");
+    print_usage(usage);
     false
 }
 

@@ -1,28 +1,36 @@
-// list ACL: prints the listing of an ACL file (docs/LISTING.md). An ACL that is not well formed gives `ACL: refuse N: WORDS` on standard error, and prints
+// list [KIND] FILE: prints the text of a file (docs/LISTING.md). A file that is not valid gives `FILE: refuse N: WORDS` on standard error, and prints
 // nothing.
 use arguments::Input;
+use kinds::Given;
 use listing::Reply;
+use texts::Kind;
 
-// The listing of an ACL. No listing is longer than the buffer, and no line is bad where none is read.
-fn print_listing(acl: &[u8]) {
-    let mut text = [0u8; listing::LONGEST];
-    let reply = listing::write_listing(acl, &mut text);
+// The text of the file that argument i names. No text is longer than the buffer, and no line is bad where none is read.
+fn print_text(kind: Kind, i: usize, file: &[u8]) {
+    let mut text = [0u8; kinds::LONGEST];
+    let reply = texts::write(kind, file, &mut text);
     match reply {
         Reply::Produced(n) => printing::print(arguments::prefix(&text, n)),
-        Reply::Refused(why) => messages::refuse(1, refusals::number(why)),
-        Reply::BadLine(_) => messages::refuse(1, 15),
+        Reply::Refused(why) => messages::refuse(i, refusals::number(why)),
+        Reply::BadLine(_) => messages::refuse(i, 15),
     }
 }
 
-// No ACL fills the buffer, so that a longer file is cut and still too long.
-fn main() {
-    if !arguments::are_given(2, b"list ACL") {
-        return;
-    }
-    let mut acl = [0u8; (sizes::ACL_RECORDS + 1) * sizes::RECORD];
-    let input = arguments::read(1, b"ACL", &mut acl);
+// No file fills the buffer, so that a longer one is cut and still too long.
+fn list(kind: Kind, i: usize) {
+    let mut file = [0u8; (sizes::ACL_RECORDS + 1) * sizes::RECORD];
+    let input = arguments::read(i, b"FILE", &mut file);
     let Input::Read(n) = input else {
         return;
     };
-    print_listing(arguments::prefix(&acl, n));
+    print_text(kind, i, arguments::prefix(&file, n));
+}
+
+fn main() {
+    let given = kinds::read_arguments(2, 3, b"list [KIND] FILE");
+    match given {
+        Given::Acl => list(Kind::Acl, 1),
+        Given::Other(kind) => list(kind, 2),
+        Given::Wrong => {}
+    }
 }

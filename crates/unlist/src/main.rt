@@ -1,39 +1,47 @@
-// unlist TEXT FILE: reads a listing (docs/LISTING.md) and writes its ACL to a file. A line that is not one of a listing gives
-// `TEXT:LINE: refuse 15: WORDS` on standard error. Unless the whole ACL is written, a file that exists is unchanged.
+// unlist [KIND] TEXT FILE: reads a text (docs/LISTING.md) and writes its file. A line that is not the written form of a record that is valid there gives
+// `TEXT:LINE: refuse 15: WORDS` on standard error. Unless the whole file is written, one that exists is unchanged.
 use arguments::Input;
+use kinds::Given;
 use listing::Reply;
+use texts::Kind;
 
-// Writes the ACL to FILE, unless that is the text itself.
-fn save(acl: &[u8]) {
-    if !saving::prepare(2, b"FILE", acl) {
+// Writes the bytes to the file that argument j names, unless argument i, the text, names it too.
+fn save(i: usize, j: usize, bytes: &[u8]) {
+    if !saving::prepare(j, b"FILE", bytes) {
         return;
     }
-    if saving::is_same(2, 1) {
+    if saving::is_same(j, i) {
         return;
     }
-    saving::put(2);
+    saving::put(j);
 }
 
-// The ACL of a text. No ACL is longer than the buffer.
-fn write_acl(text: &[u8]) {
-    let mut acl = [0u8; sizes::ACL_RECORDS * sizes::RECORD];
-    let reply = listing::read_listing(text, &mut acl);
+// The file of a text. No file is longer than the buffer.
+fn write_file(kind: Kind, i: usize, j: usize, text: &[u8]) {
+    let mut file = [0u8; sizes::ACL_RECORDS * sizes::RECORD];
+    let reply = texts::read(kind, text, &mut file);
     match reply {
-        Reply::Produced(n) => save(arguments::prefix(&acl, n)),
-        Reply::Refused(why) => messages::refuse(1, refusals::number(why)),
-        Reply::BadLine(n) => messages::refuse_line(1, n as u64, 15),
+        Reply::Produced(n) => save(i, j, arguments::prefix(&file, n)),
+        Reply::Refused(why) => messages::refuse(i, refusals::number(why)),
+        Reply::BadLine(n) => messages::refuse_line(i, n as u64, 15),
     }
 }
 
-// No listing fills the buffer. So a text that does, of which only the beginning is read, has its first bad line there.
-fn main() {
-    if !arguments::are_given(3, b"unlist TEXT FILE") {
-        return;
-    }
-    let mut text = [0u8; listing::LONGEST + 1];
-    let input = arguments::read(1, b"TEXT", &mut text);
+// No text fills the buffer. So one that does, of which only the beginning is read, has its first bad line there.
+fn unlist(kind: Kind, i: usize, j: usize) {
+    let mut text = [0u8; kinds::LONGEST + 1];
+    let input = arguments::read(i, b"TEXT", &mut text);
     let Input::Read(n) = input else {
         return;
     };
-    write_acl(arguments::prefix(&text, n));
+    write_file(kind, i, j, arguments::prefix(&text, n));
+}
+
+fn main() {
+    let given = kinds::read_arguments(3, 4, b"unlist [KIND] TEXT FILE");
+    match given {
+        Given::Acl => unlist(Kind::Acl, 1, 2),
+        Given::Other(kind) => unlist(kind, 2, 3),
+        Given::Wrong => {}
+    }
 }
