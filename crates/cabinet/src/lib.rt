@@ -84,7 +84,7 @@ fn request_in<'a>(
     gate::request_reply(counts, counters, loaded, last, km0, acl, req)
 }
 
-// .. to a narrowing.
+// The reply to a narrowing, if the slot exists; else 13.
 fn narrow_in<'a>(
     there: bool,
     counts: &'a [u32; Ledger::GROUPS],
@@ -105,7 +105,7 @@ fn narrow_in<'a>(
     gate::narrow_reply(counts, counters, loaded, last, km0, acl, req, new, hints)
 }
 
-// .. to an expansion.
+// The reply to an expansion, if the slot exists; else 13.
 fn expand_in<'a>(
     there: bool,
     counts: &'a [u32; Ledger::GROUPS],

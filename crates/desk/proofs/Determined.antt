@@ -51,7 +51,7 @@ verdictBack (accepting n) = Accepted (record { approach = n .approach; protectio
 verdictBack (failing s) = Failed (stepBack s)
 verdictBack (refusing n) = Refused (refusalBack n)
 
--- .. it is what was read
+-- the verdict of a verdict's numbers is that verdict
 pub step-back : (s : Step) → stepBack (stepAs s) ≡ s
 step-back WV1 = refl
 step-back MSCV1 = refl

@@ -154,7 +154,7 @@ module _ (b : List Bytes) (gs : List Group) (g : Graded) (e : g ≡ aclGraded b 
   full-from : (o : Option Step) → o ≡ orNext (beforeAcl b) (orNext (g .failure) (gradeFailure b (g .protection))) → o ≡ fullFailure b gs
   full-from o q = q ∙ rw (failure-is, protection-is) (full-is b gs)
 
-  -- .. where no step before the ACL fails
+  -- the case that no step before the ACL fails
   pub full-passed : beforeAcl b ≡ none → (o : Option Step) → o ≡ orNext (g .failure) (gradeFailure b (g .protection)) → o ≡ fullFailure b gs
   full-passed n o q = full-from o (q ∙ sym (ap (λ (x : Option Step). orNext x (orNext (g .failure) (gradeFailure b (g .protection)))) n))
 

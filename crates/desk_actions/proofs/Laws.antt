@@ -49,7 +49,7 @@ pub below-next : (p : ℕ → Bool) (b : ℕ) (t r : Bool) → t ≡ p b → r �
 unfolding allBelow
 below-next p b t r is h = rw (add-one, is, h)
 
--- .. and from b on none is set: what is left of the bits is zero.
+-- From b on no bit is set: the rest of the number is zero.
 module _ (policy : Policy) (bits left b : ℕ) (is : left ≡ bits / 2 ^ b) where
   pub left-below : bits < 65536 → b ≤ 16 → 0 < left → b < 16
   left-below h l z = pick (decided (eqb b 16))

@@ -33,7 +33,7 @@ entered i r = eqb (entryOf (kind r) (byte 4 r)) i
 unfoldable pub noted : List ℕ → ℕ → ℕ → List ℕ
 noted places i end = if eqb (getD places i 0) 0 then set places i end else places
 
--- .. those of all records, of which the first begins at a byte
+-- the offsets of all records, of which the first begins at a byte
 unfoldable pub notedFrom : List ℕ → ℕ → List Bytes → List ℕ
 notedFrom places at [] = places
 notedFrom places at (r ∷ rs) = notedFrom (noted places (entryOf (kind r) (byte 4 r)) (at + recordBytes)) (at + recordBytes) rs

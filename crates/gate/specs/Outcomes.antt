@@ -52,7 +52,7 @@ outcomeWith a counts counters loaded last time =
       ledger = record { counts = counts; counters = counters; loaded = loaded; last = lastAfter a last time };
     }
 
--- .. of a narrowing: each new group takes its source's charged count
+-- the counts after a narrowing: each new group takes its source's charged count
 abbrev pub narrowedCounts : List Hint → rulesGate.Answer → List ℕ → List ℕ
 narrowedCounts hs a counts = countsAfter (carriedOf hs) a (countsCharged a counts)
 

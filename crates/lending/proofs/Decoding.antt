@@ -29,7 +29,7 @@ hash-done hash bytes i inv l h k = let e : i ≡ 20 = omega arith in sym (take-a
 pub given-here : (s hash : Bytes) (n : ℕ) → hash ≡ take hashBytes s → n ≡ number 20 2 s → certificateAs (record { hash = hash; mechanism = n }) ≡ givenAt s 0
 given-here s hash n d e = rw (d, e)
 
--- .. of what is lent: the one at its place
+-- the certificate of the lent row at an index
 given-front : (s : Bytes) (at : ℕ) → givenAt (lentRest s at) 0 ≡ givenAt s at
 given-front s at =
     ap (λ (x : Bytes). givenAt x 0) (lent-rest s at)

@@ -23,6 +23,6 @@ firstGiven s (suc n) = firstGiven s n ++ (givenAt s (n * givenBytes) ∷ [])
 abbrev pub rowGiven : Bytes → List Certificate
 rowGiven s = firstGiven s (length s / givenBytes)
 
--- .. those of them that are lent
+-- the certificates that are lent
 abbrev pub lentOf : Bytes → List Certificate
 lentOf s = take (certificatesMax + 1) (rowGiven s)

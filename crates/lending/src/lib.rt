@@ -99,7 +99,7 @@ fn run_lent(
     runs::run(ledger, km0, acl, &row[..n], requests, answers)
 }
 
-// .. on a prepared ACL.
+// The same on a prepared ACL.
 fn prepared_run_lent(
     ledger: Ledger,
     km0: &[u8],
@@ -130,7 +130,7 @@ pub fn run(
     run_lent(ledger, km0, acl, decoded(row), lent(row), requests, answers)
 }
 
-// .. on a prepared ACL.
+// The same on a prepared ACL.
 pub fn prepared_run(
     ledger: Ledger,
     km0: &[u8],

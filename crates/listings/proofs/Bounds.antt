@@ -49,7 +49,7 @@ three-kinds r e = pick (eqb (kind r) 6) refl (eqb (kind r) 7) refl (eqb (kind r)
     pick false p false q true s = inr (inr (eqb-true (kind r) 8 s))
     pick false p false q false s = absurd (false≢true (rw (p, q, s) at e))
 
--- .. and what follows it a certificate or a delegation, for which there is room
+-- what follows it is a certificate or a delegation that is not one too many
 pub record Presented (c : PresentedCounts) (r : Bytes) : Type 0 where
   pub which : ((kind r ≡ 9) × (certificateLaidOut r ≡ true) × (c .certificates < certificatesMax)) ⊎ ((kind r ≡ 14) × (delegationLaidOut r ≡ true) × (c .delegations < delegationsMax))
 
@@ -173,7 +173,7 @@ in-order last o e = pick (ltb last o) refl
         let f : (eqb last listedOrder && eqb o listedOrder) ≡ true = rw p at e in
         inr (eqb-true last listedOrder (and-left (eqb last listedOrder) (eqb o listedOrder) f), eqb-true o listedOrder (and-right (eqb last listedOrder) (eqb o listedOrder) f))
 
--- .. weighed by their order: the places from `low` on that come after the last record
+-- bundle records weighed by their order: what may still come after the last record
 module _ (w : ℕ → ℕ) where
   abbrev rangeRoom : ℕ → ℕ → ℕ → ℕ
   rangeRoom last low zero = 0

@@ -48,7 +48,7 @@ unfolding flatten linesOf
 lines-of-flat [] h = refl
 lines-of-flat (l ∷ ls) h = line-first l (flatten ls) (h .0) ∙ ap (λ (x : List Bytes). l ∷ x) (lines-of-flat ls (h .1))
 
--- .. and a text is made of its lines.
+-- A text is made of its lines.
 pub flat-lines : (t : Bytes) → flatten (linesOf t) ≡ t
 unfolding flatten linesOf
 flat-lines [] = refl
@@ -182,7 +182,7 @@ plain-name [] n e = refl
 plain-name (x ∷ xs) zero e = and-left (plain (spaced x)) (all (λ y. plain (spaced y)) xs) e
 plain-name (x ∷ xs) (suc n) e = plain-name xs n (and-right (plain (spaced x)) (all (λ y. plain (spaced y)) xs) e)
 
--- .. several numbers
+-- several numbers
 plain-both : (xs ys : Bytes) → plain xs ≡ true → plain ys ≡ true → plain (xs ++ ys) ≡ true
 unfolding all
 plain-both [] ys p q = q

@@ -52,7 +52,7 @@ alone-text : (v : Bytes) (ws : List Word) → wordsText (alone v ∷ ws) ≡ spa
 unfolding ascii
 alone-text v ws = text-with (alone v) ws refl
 
--- .. a hash
+-- the same for a hash
 module _ (h : Bytes) (ws : List Word) (l : length h ≡ hashBytes) where
   pub hash-alone : Every Octet h → hashHere (wordsText (alone (hex h) ∷ ws)) ≡ h
   unfolding hashHere
@@ -88,7 +88,7 @@ bytes-back (n ∷ ns) t h b =
     let p = drop-at (space ∷ decimal n) rest (1 + length (decimal n)) (omega arith) in
     rw (a, d, one-byte n o, p, bytes-back ns t (h .1) b)
 
--- .. after a word
+-- the same after a word
 pub after-numbers : (name : String) (ns : Bytes) (ws : List Word) → afterWord name (wordsText (withNumbers true name ns ∷ ws)) ≡ numbersText ns ++ wordsText ws
 unfolding afterWord hasWord
 after-numbers name ns ws =

@@ -43,7 +43,7 @@ total-room k w room spent s (r ∷ rs) e =
     let i = total-room k w room spent (k .after s r) rs (orNext-next (k .fault s r) later e) in
     omega arith
 
--- .. each record weighing 1
+-- the same with a weight of 1 for each record
 pub total-count : (rs : List Bytes) → total (λ r. 1) rs ≡ length rs
 unfolding total
 total-count [] = refl

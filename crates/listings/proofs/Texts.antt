@@ -248,7 +248,7 @@ request-bound file o e =
     let w = total-room requestKind (requestWeight requestLineMax fileLineMax certificateLineMax delegationLineMax) (requestRoom requestLineMax fileLineMax certificateLineMax delegationLineMax) (request-spent requestLineMax fileLineMax certificateLineMax delegationLineMax) requestDue (records file) (t .1) in
     omega arith
 
--- .. of requests that stand alone, and of hints
+-- the bounds of single requests, and of hints
 each-bound : (good : Bytes → Bool) (most m : ℕ) → ((r : Bytes) → IsRecord r → good r ≡ true → length (recordLine r) ≤ m) → (file : Bytes) → Every Octet file → kindFault (eachKind good most) file ≡ none → length (textBy recordLine file) ≤ most * m
 each-bound good most m long file o e =
     let t = text-bound (eachKind good most) (λ r. m) (λ n r h p. long r h (fault-passed (good r) (ltb n most) p .0)) file o e in
@@ -276,7 +276,7 @@ requests-bound = each-bound standsAlone dayRecords aloneLineMax alone-length
 pub hints-bound : (file : Bytes) → Every Octet file → kindFault hintsKind file ≡ none → length (textBy recordLine file) ≤ hintsTextMax
 hints-bound = each-bound hintRecord hintRecords hintLineMax hinted-length
 
--- .. of a bundle: the longest line of each place
+-- the bound of a bundle: the longest line of each field
 abbrev orderLength : ℕ → ℕ
 orderLength o =
     if ltb o 2816 then 46 + length (spaced (nameAt (o - 2561) fieldNames))

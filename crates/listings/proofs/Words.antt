@@ -42,7 +42,7 @@ pub text-without : (w : Word) (ws : List Word) → w .given ≡ false → wordsT
 unfolding wordsText wordText
 text-without w ws e = rw e
 
--- .. so with no digit
+-- so with no digit
 pub no-digit : (t : Bytes) → Begins t → between 48 57 (getD t 0 0) ≡ false
 no-digit t e = let l = leb-true (getD t 0 0) space e in rw (lt-leb 48 (getD t 0 0) (omega arith))
 
@@ -111,7 +111,7 @@ module _ (name : String) (ws : List Word) (e : clear name ws ≡ true) where
       (ap (drop (length (spaced name))) (text-with (bare true name) ws refl) ∙ drop-append-seam (spaced name) (wordsText ws))
   after-bare false = rw (has-bare false)
 
-  -- .. its value, and what follows that
+  -- its value, and what follows it
   value-at : (v : Bytes) → drop (length (spaced name) + 1) ((spaced name ++ (space ∷ v)) ++ wordsText ws) ≡ v ++ wordsText ws
   value-at v =
       ap (drop (length (spaced name) + 1)) (ap (λ (x : Bytes). x ++ wordsText ws) (sym (append-assoc (spaced name) (space ∷ []) v)) ∙ append-assoc (spaced name ++ (space ∷ [])) v (wordsText ws))

@@ -17,7 +17,7 @@ stands [] t = leb (getD t 0 0) space
 stands (x ∷ w) [] = false
 stands (x ∷ w) (y ∷ t) = eqb x y && stands w t
 
--- .. after a space
+-- a text begins with a space and this word
 unfoldable pub hasWord : String → Bytes → Bool
 hasWord name t = stands (spaced name) t
 
@@ -60,7 +60,7 @@ decimalFrom n (c ∷ t) = decimalFrom (n * 10 + (c - 48)) t
 abbrev pub numberUpTo : ℕ → String → Bytes → ℕ
 numberUpTo d name t = if hasWord name t then decimalFrom 0 (digitsOf (take d (drop (length (spaced name) + 1) t))) else 0
 
--- .. of four bytes
+-- the number after a word, of at most ten digits
 unfoldable pub numberAfter : String → Bytes → ℕ
 numberAfter name t = numberUpTo digitsMax name t
 
@@ -99,7 +99,7 @@ groupFrom t =
 abbrev pub sortOf : Bool → Bool → ℕ
 sortOf named timed = if named then 2 else if timed then 3 else 1
 
--- .. the counter, the maximum
+-- a limit's counter and maximum
 unfoldable pub limitFrom : Bytes → Bytes
 limitFrom t =
     let u = afterNumber "counter" t in
@@ -117,7 +117,7 @@ unfoldable pub namesFrom : List String → Bytes → List Bool
 namesFrom [] t = []
 namesFrom (name ∷ names) t = hasWord name t ∷ namesFrom names (afterWord name t)
 
--- .. the sixteen bits
+-- the sixteen permission bits
 unfoldable pub permissionsFrom : Bytes → Bytes
 permissionsFrom t = flatten (headed 3 [] ∷ bytesOf 2 (ofBits (namesFrom permissionNames t)) ∷ replicate 58 0 ∷ [])
 

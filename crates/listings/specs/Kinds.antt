@@ -30,7 +30,7 @@ pub record FileKind (S : Type 0) : Type 0 where
 abbrev pub faultFrom : {S : Type 0} → FileKind S → S → List Bytes → Option ℕ
 faultFrom k s rs = scan (k .fault) (k .after) (k .end) s rs
 
--- .. from the first
+-- the first fault of a file's records, from the first
 abbrev pub recordsFault : {S : Type 0} → FileKind S → List Bytes → Option ℕ
 recordsFault k rs = faultFrom k (k .start) rs
 

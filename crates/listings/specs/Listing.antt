@@ -73,7 +73,7 @@ pub data ListingReading : Type 0 where
   readAs : Bytes → ListingReading
   badLine : ℕ → ListingReading
 
--- .. by the first bad line
+-- the result of reading a text, by the first bad line
 abbrev pub readingOf : Bytes → Option ℕ → ListingReading
 readingOf bytes none = readAs bytes
 readingOf bytes (some n) = badLine n
@@ -138,7 +138,7 @@ pub record IsRecord (r : Bytes) : Type 0 where
 abbrev pub goingOn : {S : Type 0} → FileKind S → S → List Bytes → Option ℕ
 goingOn k s rs = scan (k .fault) (k .after) (λ t. none) s rs
 
--- .. from the first
+-- the first fault of records as far as they go, from the first
 abbrev pub soFar : {S : Type 0} → FileKind S → List Bytes → Option ℕ
 soFar k rs = goingOn k (k .start) rs
 
@@ -162,26 +162,26 @@ pub record FirstBad {S : Type 0} (k : FileKind S) (text : Bytes) (n : ℕ) : Typ
 abbrev pub isWritten : Bytes → Bool
 isWritten = asWritten aclKind
 
--- .. a good line at a place of the ACL,
+-- A good line in a state of the ACL reader.
 abbrev pub goodLine : AclPlace → Bytes → Bool
 goodLine = goodIn aclKind
 
--- .. the first bad line,
+-- The first bad line of a listing.
 abbrev pub listingFault : Bytes → Option ℕ
 listingFault = textFault aclKind
 
--- .. the bytes that the lines tell,
+-- The bytes that the lines of a listing say.
 abbrev pub listedBytes : Bytes → Bytes
 listedBytes = bytesBy decoded
 
--- .. a text as an ACL,
+-- A listing as an ACL.
 abbrev pub readListing : Bytes → ListingReading
 readListing = readText aclKind
 
--- .. and the two entry points: an ACL's listing into a lent buffer,
+-- The two entry points: writes an ACL's listing into a lent buffer,
 abbrev pub writeListing : Bytes → Bytes → Listed
 writeListing = writeText aclKind
 
--- .. and a listing's ACL into a lent buffer.
+-- and a listing's ACL into a lent buffer.
 abbrev pub readListingInto : Bytes → Bytes → Listed
 readListingInto = readTextInto aclKind

@@ -65,7 +65,7 @@ fieldNames =
 abbrev pub factWords : Bytes → List Word
 factWords r = bare true (nameAt (byte 4 r - 1) fieldNames) ∷ alone (hex (part 8 hashBytes r)) ∷ []
 
--- .. of the signatures, from 1
+-- the names of the signatures, from 1
 abbrev pub signatureNames : List String
 signatureNames =
     "warrant" ∷ "modulestate" ∷ "CertKMaKMCbKNSO" ∷ "CertKMaKMCaKFIPSbKNSO" ∷ "CertKREaKRAbKNSO" ∷ "keygeneration" ∷ []

@@ -174,7 +174,7 @@ pub fn refuse(i: usize, number: u8) {
     print_refusal(number);
 }
 
-// .. because of one of its lines: `FILE:LINE: refuse N: WORDS`.
+// Prints that a file is refused because of one of its lines: `FILE:LINE: refuse N: WORDS`.
 pub fn refuse_line(i: usize, line: u64, number: u8) {
     arguments::print(i);
     io::write_all(STDERR_FILENO, b":");

@@ -112,7 +112,7 @@ fn policy_bits(rec: &[u8], at: usize, line: &mut [u8]) -> usize
     text::word_if(fields::bit_of(2, bits), b" csr", encryption, line)
 }
 
-// .. its lowest protection, and the newline
+// Appends a policy's lowest protection, and the newline.
 fn end_policy(rec: &[u8], at: usize, line: &mut [u8]) -> usize
     requires { ⌜ (length (now rec) ≡ recordBytes) × (at + 23 ≤ length (now line)) ⌝ }
     ensures { λ r. ⌜ Held 23 (protectionText (now (rec .entry))) at (now (line .entry)) (now (line .exit)) r ⌝ }
@@ -146,7 +146,7 @@ fn two_numbers(rec: &[u8], from: usize, at: usize, line: &mut [u8]) -> usize
     text::number_if(true, b" ", two, first, line)
 }
 
-// .. four
+// Appends four of a hint's action numbers.
 fn four_numbers(rec: &[u8], from: usize, at: usize, line: &mut [u8]) -> usize
     requires { ⌜ (from + 4 ≤ length (now rec)) × (at + 44 ≤ length (now line)) ⌝ }
     ensures { λ r. ⌜ Held 44 (numbersText (part from 4 (now (rec .entry)))) at (now (line .entry)) (now (line .exit)) r ⌝ }

@@ -208,7 +208,7 @@ outcome-put line c d u old mid new n far e r w en f z =
     let g = rw (s, w .1) at f in
     put-on (g .written) z
 
--- .. a signature
+-- a signature's words
 pub signature-put : (line : Bytes) (from at : ℕ) (d : Cursor) (old b1 b2 new : Bytes) (far e1 r : ℕ)
     → Field 4 (11 ∷ 0 ∷ bytesOf 2 0) at old b1 e1
     → Advanced line (pastName (wordsOf signatureRow) (drop from line)) 0 0 far record { at = from; end = e1; flags = 0 } d

@@ -35,7 +35,7 @@ abbrev pub bitsSet : Bytes → ℕ
 bitsSet t =
     1 * one (hasWord "signing" t) + (2 * one (hasWord "encryption" (encryptionPlace t)) + 4 * one (hasWord "csr" (csrPlace t)))
 
--- .. and all that follows a policy's approach
+-- all that follows a policy's approach
 unfoldable pub policyEnd : Bytes → Bytes
 policyEnd t = bytesOf 1 (bitsSet t) ++ (bytesOf 1 (numberAfter "protection" (bitsPlace t)) ++ replicate 56 0)
 
@@ -43,10 +43,10 @@ policyEnd t = bytesOf 1 (bitsSet t) ++ (bytesOf 1 (numberAfter "protection" (bit
 unfoldable pub outcomeBytes : Bytes → Bytes
 outcomeBytes t = bytesOf 1 (one (hasWord "good" t)) ++ replicate 58 0
 
--- .. a hint's group
+-- a hint's group
 unfoldable pub actionBytes : Bytes → Bytes
 actionBytes t = replicate 3 0 ++ (bytesHere 8 (afterWord "actions" t) ++ replicate 48 0)
 
--- .. a delegation's hashes
+-- a delegation's hashes
 unfoldable pub bitsBytes : Bytes → Bytes
 bitsBytes t = bytesOf 2 (ofBits (namesFrom permissionNames t)) ++ replicate 18 0

@@ -30,7 +30,7 @@ fn ended(mut s: State) -> State {
     s
 }
 
-// .. that cannot be read on.
+// Prints that the script cannot be read any further.
 fn stopped(k: u64, s: State) -> State {
     printing::print_line(k);
     printing::print(b"stop\n");

@@ -173,7 +173,7 @@ other-record n m r e d = pick (eqb (kind r) 9) refl
     pick true k = eqb-true m 0 (and-right (certificateRecord r) (eqb m 0) (unless-passed _ malformed (fault-none-every _ (rw k at e) .0)))
     pick false k = absurd (not-both (eqb (kind r) 14) (and-left (eqb (kind r) 14) (delegationLaidOut r) (unless-passed _ malformed (fault-none-every _ (rw k at e) .0))) d)
 
--- .. so that all delegations come after it
+-- all delegations come after it
 delegations-after : (n m : ℕ) (xs : List Bytes) (r : Bytes) (ys : List Bytes)
     → scan presentedRecordFault afterPresented presentedEnd (record { certificates = n; delegations = m }) (xs ++ r ∷ ys) ≡ none → eqb (kind r) 14 ≡ false
     → (m ≡ 0) × (delegationsOf (xs ++ r ∷ ys) ≡ delegationsOf ys)
@@ -198,7 +198,7 @@ delegations-after n m (x ∷ xs) r ys e d =
         (i .0, rw t (i .1))
     pick false k f g = absurd (let z = g (rw k at rest) in omega arith)
 
--- .. also where a record of kind 15 comes first
+-- the same where a record of kind 15 comes first
 delegations-follow : (q : Bytes) (xs : List Bytes) (r : Bytes) (ys : List Bytes) → followingFault q (xs ++ r ∷ ys) ≡ none → eqb (kind r) 14 ≡ false → delegationsOf (xs ++ r ∷ ys) ≡ delegationsOf ys
 unfolding followingFault presentedFault fileNext fileRequestRecord delegationsOf
 delegations-follow q xs r ys e d = pick (flag 6 q) xs refl e

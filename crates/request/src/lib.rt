@@ -28,7 +28,7 @@ pub fn request_record(rec: &[u8]) -> bool
     false
 }
 
-// .. one by itself, which announces no record of kind 15.
+// Whether a record is a well-formed request that announces no record of kind 15.
 pub fn stands_alone(rec: &[u8]) -> bool
     requires { ⌜ length (now rec) ≡ recordBytes ⌝ }
     ensures { λ r. ⌜ r ≡ standsAlone (now (rec .entry)) ⌝ }

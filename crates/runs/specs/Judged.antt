@@ -55,7 +55,7 @@ unfoldable pub runSeen : Ledger → Bytes → Bytes → Seen → Bytes → Bytes
 runSeen l km0 acl seen requests buffer =
     rules.runEnd l requests buffer (seenFault runRecords km0 acl (seen .count) (seen .named) requests (length buffer)) (askedBySets km0 acl seen l requests)
 
--- .. on a prepared ACL: "14" after the others
+-- a run on a prepared ACL: "14" after the others
 unfoldable pub preparedSeen : Ledger → Bytes → Bytes → Seen → Form → Bytes → Bytes → rules.RunOutcome
 preparedSeen l km0 acl seen form requests buffer =
     rules.runEnd l requests buffer

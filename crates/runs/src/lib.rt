@@ -204,7 +204,7 @@ pub fn run_judged(
     }
 }
 
-// .. on a prepared ACL.
+// The same on a prepared ACL.
 pub fn prepared_judged(
     ledger: Ledger,
     km0: &[u8],

@@ -110,7 +110,7 @@ fn run_judged(
     put_back(cabinet, slot, o)
 }
 
-// .. on a prepared ACL.
+// A run on a prepared ACL in a slot.
 fn prepared_judged(
     cabinet: Cabinet,
     slot: usize,

@@ -33,7 +33,7 @@ pub struct HostReply {
     pub group: u32,
 }
 
-// .. with the ledger after the call.
+// A reply, with the ledger after the call.
 #[repr(C)]
 pub struct HostOutcome {
     pub refusal: u32,
@@ -41,7 +41,7 @@ pub struct HostOutcome {
     pub ledger: Ledger,
 }
 
-// .. with the cabinet after the call.
+// A reply, with the cabinet after the call.
 #[repr(C)]
 pub struct HostCabinetOutcome {
     pub refusal: u32,

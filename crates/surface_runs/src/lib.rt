@@ -29,7 +29,7 @@ pub struct HostRun {
     pub ledger: Ledger,
 }
 
-// .. and the cabinet after it.
+// A run's reply, and the cabinet after it.
 #[repr(C)]
 pub struct HostCabinetRun {
     pub refusal: u32,

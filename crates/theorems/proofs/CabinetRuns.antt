@@ -111,7 +111,7 @@ pub slot-run-others : (c : Cabinet) (slot : ℕ) (km0 acl : Bytes) (row : List C
 unfolding cabinetRun
 slot-run-others c slot km0 acl row requests buffer other e = others-in c slot other buffer (run (ledgerAt c slot) km0 acl row requests buffer) e
 
--- .. on a prepared ACL
+-- the same on a prepared ACL
 pub slot-prepared-13 : (c : Cabinet) (slot : ℕ) (km0 acl : Bytes) (row : List Certificate) (requests buffer : Bytes) (f : Form) → slotsMax ≤ slot → cabinetPreparedRun c slot km0 acl row f requests buffer ≡ record { reply = refusedWhole noSlot; cabinet = c; buffer = buffer }
 unfolding cabinetPreparedRun
 slot-prepared-13 c slot km0 acl row requests buffer f h = rw (le-ltb slot slotsMax h)

@@ -64,7 +64,7 @@ cabinet-bounded c x h =
         → Every Held (gateOutcome l x .ledger .counts) × Every Held (gateOutcome l x .ledger .counters)
     bounded l x p q = let r = call-bounded (record { ledger = l; acl = lentIn x }) (gateCall x) (record { groups = p; named = q }) in (r .groups, r .named)
 
--- .. over every sequence of calls
+-- the same over every sequence of calls
 pub cabinet-sized-all : (c : Cabinet) (xs : List CabinetCall) → CabinetSized c → CabinetSized (cabinetAfterAll c xs)
 unfolding cabinetAfterAll
 cabinet-sized-all c [] h = h

@@ -86,12 +86,12 @@ pub cabinet-witness : (desk bundle shared ≡ accepted (approach2 grade))
 unfolding outcome after byOfficer cabinetOutcome callsTo turns countersNamed countersIn computing
 cabinet-witness = (refl, refl, refl, refl, refl, refl, refl)
 
--- .. and so slot 0 answers the same in both runs ..
+-- So slot 0 answers the same in both runs.
 pub witness-isolated : map (λ t. t .answer) (turns 0 freshCabinet oneRun) ≡ map (λ t. t .answer) (turns 0 elsewhere otherRun)
 witness-isolated =
     isolation 0 freshCabinet elsewhere oneRun otherRun refl refl refl (cabinet-witness .3) (cabinet-witness .4 ∙ sym (cabinet-witness .5)) .0
 
--- .. and demand 3 covers what it is permitted.
+-- Demand 3 covers what it is permitted.
 pub witness-slot-covered : Every (PermitAllowed (records bundle) grade) (turns 0 freshCabinet oneRun)
 unfolding outcome after byOfficer cabinetOutcome callsTo turns countersNamed countersIn computing
 witness-slot-covered =

@@ -159,7 +159,7 @@ certified-is q g = pick (g .certifier) refl
         of-words (inl x) = absurd (never (cc))
         of-words (inr x) = rw (x .1) (vouched-is q (x .0) (g .mechanism) .1 (x .2))
 
--- .. and not certified exactly when it names a certifier for which neither is there.
+-- A group is not certified exactly when it names a certifier for which there is neither.
 pub uncertified-is : (q : Request) (g : Group) → (certified q g ≡ false) ↔ Uncertified q g
 uncertified-is q g = (λ e. to-words e (g .certifier) refl, of-words)
   where

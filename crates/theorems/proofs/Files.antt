@@ -38,7 +38,7 @@ not-taken : (b x y : Bool) → b ≡ false → (if b then x else y) ≡ true →
 not-taken true x y d e = absurd (false≢true (sym d))
 not-taken false x y d e = e
 
--- .. and elsewhere it does not
+-- where no record of kind 15 must come, none comes
 undue-absent : (s : AclPlace) (rs : List Bytes) → s .fileDue ≡ false → read s rs ≡ none → fileRuleNext rs ≡ none
 unfolding scan recordFaultUnder inPlaceUnder placedUnder actionLaidOut fileRuleNext
 undue-absent s [] d e = refl
@@ -78,6 +78,6 @@ file-follows acl sound before r after parted action a =
     let w = due-comes (actionAdded (rest-read acl sound before r after parted action .0) r) after a (rest-read acl sound before r after parted action .1) in
     (w .0, w .1, w .2, w .3, ap fileRuleNext (w .2) ∙ file-says (w .0) (w .1) (w .3))
 
--- .. where it does not, it has no blobfile.
+-- An action without such a record has no blobfile.
 pub file-absent : (acl : Bytes) (sound : aclFault (records acl) ≡ none) (before : List Bytes) (r : Bytes) (after : List Bytes) (parted : records acl ≡ before ++ (r ∷ after)) (action : IsBlobAction r) → announcesFile r ≡ false → fileRuleNext after ≡ none
 file-absent acl sound before r after parted action a = undue-absent (actionAdded (rest-read acl sound before r after parted action .0) r) after a (rest-read acl sound before r after parted action .1)

@@ -28,7 +28,7 @@ record Taken (slot : ℕ) (s : Slot) (t : Turn) : Type 0 where
   answered : t .answer ≡ (if ltb slot slotsMax then gateOutcome (ledgerWith s (t .counters)) (t .call) .answer else refuse noSlot none)
   left : t .slot ≡ (if ltb slot slotsMax then countsAndTimes (gateOutcome (ledgerWith s (t .counters)) (t .call) .ledger) else s)
 
--- .. one after the other
+-- several calls, one after the other
 abbrev Follows : ℕ → Slot → List Turn → Type 0
 Follows slot s [] = Unit {0}
 Follows slot s (t ∷ ts) = Taken slot s t × Follows slot (t .slot) ts

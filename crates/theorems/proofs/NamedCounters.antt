@@ -38,7 +38,7 @@ module _ (a b : List ℕ) where
   agree-right [] ns h = h
   agree-right (m ∷ ms) ns h = agree-right ms ns (h .1)
 
-  -- .. by their lists of readings
+  -- the same by their lists of readings
   readings-agree : (ns : List ℕ) → map (λ n. getD a n 0) ns ≡ map (λ n. getD b n 0) ns → Agree a b ns
   readings-agree [] e = tt
   readings-agree (n ∷ ns) e = (cc, readings-agree ns (cc))

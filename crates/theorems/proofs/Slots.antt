@@ -68,7 +68,7 @@ in-slot c x k e = pick x (cabinetOutcome c x) (lands c x) e
     pick x r (to-none j d b z) e = let q : k ≡ j = cc in rw (q, le-ltb j slotsMax b)
     pick x r (to-all n) e = absurd (never (cc))
 
--- .. to one of the eight
+-- a call to one of the eight
 pub inside : (c : Cabinet) (x : CabinetCall) (k : ℕ) → slotIn x ≡ some k → k < slotsMax → cabinetOutcome c x ≡ asGate c k (gateOutcome (ledgerAt c k) x)
 inside c x k e h = in-slot c x k e ∙ rw (lt-ltb k slotsMax h)
 
@@ -98,7 +98,7 @@ clears-everywhere c counter k = pick (ltb counter countersMax) refl
     pick true e = rw e (refl, refl)
     pick false e = rw e (refl, refl)
 
--- .. and leaves the slots
+-- a clear leaves the slots
 pub clear-slots : (c : Cabinet) (counter : ℕ) → cabinetAfter c (clearingAll counter) .slots ≡ c .slots
 clear-slots c counter = ap (λ (r : CabinetOutcome). r .cabinet .slots) (clear-table c counter)
 
@@ -156,7 +156,7 @@ cabinet-number c x n near e = pick x (cabinetOutcome c x) (lands c x) e
         (rw (d, p), rw (p, q))
     pick x r (to-all m) e = clear-number (ledgerAt c 0) m n near e
 
--- .. and 13 is given exactly for a slot over 7.
+-- 13 is given exactly for a slot over 7.
 pub thirteen : (c : Cabinet) (x : CabinetCall) (k : ℕ) → slotIn x ≡ some k → (cabinetOutcome c x .answer ≡ refuse noSlot none) ↔ (slotsMax ≤ k)
 thirteen c x k e = (λ d. pick x (cabinetOutcome c x) (lands c x) e d, λ h. ap (λ (r : CabinetOutcome). r .answer) (no-such-slot c x k e h))
   where

@@ -57,7 +57,7 @@ module _ (km0 acl : Bytes) (row : List Certificate) where
             ∙ ap (λ (b : Bytes). bytesOfAnswer (o .answer) ++ b) (i .1),
       )
 
-  -- .. of a run by its fault, with the answers over the buffer
+  -- a run by its fault, with the answers over the buffer
   ended : (l : Ledger) (requests buffer : Bytes) (f : Option ℕ)
       → let o = runEnd l requests buffer f (askedInOrder (askGate km0 acl row) l (records requests)) in
       let cs = askedUnless f (requestsOf km0 row requests) in

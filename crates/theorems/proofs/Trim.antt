@@ -52,7 +52,7 @@ kept-no-wider : (b : List Bytes) (checked : Bool) (o n : Action) → KeptAs b ch
 kept-no-wider b checked o n (inl e) = rw e (action-self o)
 kept-no-wider b checked o n (inr h) = loses-no-wider b o n (h .1)
 
--- .. the actions of a group
+-- the actions of a group
 module _ (b : List Bytes) (checked : Bool) (old : List Action) (pad : ℕ) where
   actions-narrow : (place : ℕ) (xs ns : List Action) (ps : List ℕ) → StandsAt old place xs → ActionsTrimmed b checked place xs ns ps → actionsNoWider ns (ps ++ replicate pad 0) old ≡ true
   unfolding actionsNoWider
@@ -63,7 +63,7 @@ module _ (b : List Bytes) (checked : Bool) (old : List Action) (pad : ℕ) where
       (actions-narrow (place + 1) os ms qs (rw add-one (stands-next old place a os f)) t)
   actions-narrow place xs ns ps f (removing {a = a} {os = os} c k s t) = actions-narrow (place + 1) os ns ps (rw add-one (stands-next old place a os f)) t
 
--- .. a group
+-- a group
 group-narrow : (b : List Bytes) (place : ℕ) (o n : Group) (h : Hint) → GroupTrimmed b place o n h → groupNarrows n (h .actions) o ≡ true
 group-narrow b place o n h t =
     let x : kept (n .certifier) (o .certifier) ≡ true = rw (t .certifier) (kept-self (o .certifier)) in
@@ -74,7 +74,7 @@ group-narrow b place o n h t =
     (actions-narrow b (not (bothSame (field 4 b) (o .certifier))) (o .actions) (actionsMax - length (t .places)) 0 (o .actions) (n .actions) (t .places) (λ j x e. rw zero-add e) (t .actions)) in
     search conj
 
--- .. all of them
+-- all groups
 module _ (b : List Bytes) (old : List Group) where
   groups-narrow : (place : ℕ) (gs ns : List Group) (hs : List Hint) → StandsAt old place gs → GroupsTrimmed b place gs ns hs → narrowsFrom old place ns hs ≡ true
   unfolding narrowsFrom
@@ -121,7 +121,7 @@ pub trimmed-read : (b : List Bytes) (acl : Bytes) (fit : fits aclRecords acl ≡
 unfolding fileFault firstFault
 trimmed-read b acl fit sound = rw (trimmed-fits b acl fit sound, trimmed-sound b acl fit sound)
 
--- .. and so are its hints.
+-- So are its hints.
 pub hints-fit : (b : List Bytes) (acl : Bytes) (fit : fits aclRecords acl ≡ true) (sound : aclFault (records acl) ≡ none) → fits hintRecords (trimHints b acl) ≡ true
 unfolding trimHints aclFaultUnder
 hints-fit b acl fit sound =
@@ -193,7 +193,7 @@ gate-accepts b acl fit sound l km0 req k g p = rw (narrow-comes l km0 acl req (t
     p′ : Permitted (narrowFiles km0 acl req (trimmedAcl b acl) (trimHints b acl)) l km0 (aclOf acl) (requestOf req) k g
     p′ = record { files = files; inTime = p .inTime; lowestGroup = p .lowestGroup }
 
--- .. short: whatever narrowing of the old ACL the gate takes with this request, it takes this one, by the same group
+-- In short: whatever narrowing of the old ACL the gate takes with this request, it takes this one, by the same group
 pub gate-takes : (b : List Bytes) (acl : Bytes) (fit : fits aclRecords acl ≡ true) (sound : aclFault (records acl) ≡ none) (l : Ledger) (km0 req new hints : Bytes) (k : ℕ) → narrow l km0 acl req new hints .answer ≡ permit k
     → narrow l km0 acl req (trimmedAcl b acl) (trimHints b acl) .answer ≡ permit k
 gate-takes b acl fit sound l km0 req new hints k e =

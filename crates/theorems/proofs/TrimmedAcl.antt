@@ -108,7 +108,7 @@ module _ (kept : Bool) (s t : AclPlace) (h : Behind kept s t) (r : Bytes) (e : a
         rw (k, p, q, u, f) (record { groups = h .groups; isOpen = h .isOpen; limits = h .limits; actions = omega arith; due = and-true (announcesFile r) }),
       )
 
-  -- .. one whose record goes
+  -- an action whose record is dropped
   gone-sound : eqb (kind r) 1 ≡ false → eqb (kind r) 2 ≡ false → eqb (kind r) 15 ≡ false → Behind false (afterRecord s r) t
   unfolding afterRecord
   gone-sound p q u =
@@ -132,7 +132,7 @@ file-sound s t h r e p q u =
     unkeyed true k = rw k
     unkeyed false k = refl
 
--- .. and one that goes with it
+-- a record of kind 15 that is dropped with its action
 file-gone : (s t : AclPlace) → Behind false s t → (r : Bytes) → eqb (kind r) 1 ≡ false → eqb (kind r) 2 ≡ false → eqb (kind r) 15 ≡ true → Behind false (afterRecord s r) t
 unfolding afterRecord
 file-gone s t h r p q u =
@@ -186,7 +186,7 @@ more-actions : (s : AclPlace) (r : Bytes) → eqb (kind r) 1 ≡ false → eqb (
 unfolding afterRecord
 more-actions s r p q u = rw (p, q, u) (omega arith)
 
--- .. nor after a record of kind 15
+-- nor after a record of kind 15
 still-actions : (s : AclPlace) (r : Bytes) → eqb (kind r) 1 ≡ false → eqb (kind r) 2 ≡ false → eqb (kind r) 15 ≡ true → 0 < s .actions → 0 < afterRecord s r .actions
 unfolding afterRecord
 still-actions s r p q u h = rw (p, q, u) h

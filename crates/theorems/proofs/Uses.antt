@@ -292,7 +292,7 @@ module _ (first : List Group) where
           go _ (charged-follows first a (s .ledger) (aclOf (s .acl)) os k (o .0) g (o .1) (q .time) f (omega arith) (o .2) (o .4) (o .5)),
         )
 
-    -- .. with the group counts that the call leaves
+    -- the account with the group counts that the call leaves
     put-way : (c : Call) (k : ℕ) (g : Group) (counts : List ℕ) → Way (s .acl) (charge (s .ledger) k g (requestAsked c .time) .counts) c counts → Permits s c k g counts → isExpansion c ≡ false
         → Goes c (permitted k (recounted (charge (s .ledger) k g (requestAsked c .time)) counts))
         → PutDownTo first a (km0Given c) (requestAsked c) next
@@ -351,7 +351,7 @@ narrowing-never-buys-uses ledger time acl calls d =
               (k, g, upTo-at 0 (length (aclOf acl)) k (there-below (aclOf acl) k g e) ∙ ap some (omega arith), e, covers-self g, omega arith);
         }
 
--- .. and so of any requests, clears, reloads and narrowings
+-- So it is for any requests, clears, reloads and narrowings.
 pub no-expansion : (s : State) (calls : List Call) → Every (λ c. isExpansion c ≡ false) calls → EveryPermit (λ s c. isExpansion c ≡ false) s calls
 no-expansion s [] h = tt
 no-expansion s (c ∷ cs) h = (λ k e. h .0, no-expansion (after s c) cs (h .1))

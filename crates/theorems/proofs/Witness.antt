@@ -86,7 +86,7 @@ pub witness : (desk bundle useful ≡ accepted (approach2 grade))
 unfolding outcome after byOfficer computing
 witness = (refl, refl, refl, refl, refl, refl, refl)
 
--- .. and so demand 3 covers what they are permitted.
+-- So demand 3 covers what they are permitted.
 pub witness-covered : EveryPermit (λ s c. Allowed (records bundle) grade (wantedIn c)) start calls
 unfolding byOfficer computing
 witness-covered =
@@ -113,7 +113,7 @@ reached-witness =
       few = omega arith;
     }) .0
 
--- .. and the same computed: the certificates that are built, the request's bytes, the gate's answer to them, and the blob's protection.
+-- The same computed: the certificates that are built, the request's bytes, the gate's answer to them, and the blob's protection.
 abbrev pub keptBlob : WorkingBlob
 keptBlob = record { key = hash 6; token = some (record { hash = hash 20; parameters = record { flags = 0; needed = 1; total = 2; timeLimit = 0 } }) }
 
@@ -193,7 +193,7 @@ narrowed-witness = (
   (0, _, refl, refl, (0, _, refl, refl, (0, _, refl, refl, (0, _, refl, refl, tt)))),
 )
 
--- .. and with a named counter, a clear, a blob that is stored and a use by a chain of delegations. Group 0 may be used twice by counter 3; the narrowing,
+-- A sequence with a named counter, a clear, a blob that is stored and a use by a chain of delegations. Group 0 may be used twice by counter 3; the narrowing,
 -- which is the second use, takes one device from it. The stored blob after that is refused until the counter is cleared.
 abbrev pub counted : Bytes → Bytes → Bytes
 counted action devices = openGroup ++ rec (2 ∷ 0 ∷ 0 ∷ 0 ∷ 2 ∷ 3 ∷ 0 ∷ 0 ∷ 0 ∷ 0 ∷ 0 ∷ 2 ∷ []) ++ action ++ storedArchive ++ devices

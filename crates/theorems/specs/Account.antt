@@ -21,7 +21,7 @@ requestAsked (clearing counter) = requestOf []
 requestAsked (narrowing km0 req new hints) = requestOf req
 requestAsked (expanding km0 req new) = requestOf req
 
--- .. the KM0 that it is given
+-- the KM0 that a call is given
 abbrev pub km0Given : Call → Bytes
 km0Given (requesting km0 req) = km0
 km0Given (loading time) = []

@@ -25,7 +25,7 @@ cabinetAfterStep c (callingCabinet x) = cabinetAfter c x
 cabinetAfterStep c (runningAt slot km0 acl row requests buffer) = cabinetRun c slot km0 acl row requests buffer .cabinet
 cabinetAfterStep c (runningPreparedAt slot km0 acl row f requests buffer) = cabinetPreparedRun c slot km0 acl row f requests buffer .cabinet
 
--- .. after several, the first of them first
+-- the cabinet after several steps, the first of them first
 unfoldable pub cabinetAfterSteps : Cabinet → List CabinetStep → Cabinet
 cabinetAfterSteps c [] = c
 cabinetAfterSteps c (x ∷ xs) = cabinetAfterSteps (cabinetAfterStep c x) xs
@@ -34,12 +34,12 @@ cabinetAfterSteps c (x ∷ xs) = cabinetAfterSteps (cabinetAfterStep c x) xs
 abbrev pub cabinetRequestsOf : ℕ → Bytes → Bytes → List Certificate → Bytes → List CabinetCall
 cabinetRequestsOf slot km0 acl row requests = map (λ r. requestingAt slot km0 acl (withRow r row)) (records requests)
 
--- .. unless it is refused as a whole
+-- the calls of a run, none if it is refused as a whole
 abbrev pub cabinetAskedUnless : Option ℕ → List CabinetCall → List CabinetCall
 cabinetAskedUnless none xs = xs
 cabinetAskedUnless (some n) xs = []
 
--- .. or there is no such slot
+-- none either if there is no such slot
 abbrev pub askedInSlot : ℕ → Option ℕ → List CabinetCall → List CabinetCall
 askedInSlot slot fault xs = if ltb slot slotsMax then cabinetAskedUnless fault xs else []
 
@@ -51,7 +51,7 @@ cabinetCallsBy (runningAt slot km0 acl row requests buffer) =
 cabinetCallsBy (runningPreparedAt slot km0 acl row f requests buffer) =
     askedInSlot slot (preparedFault km0 acl row f requests buffer) (cabinetRequestsOf slot km0 acl row requests)
 
--- .. that several come to; a cabinet call has the ACL that it is lent, so that this is read off the steps alone
+-- the calls that several steps make; a cabinet call has the ACL that it is lent, so that this depends on the steps alone
 unfoldable pub cabinetCallsIn : List CabinetStep → List CabinetCall
 cabinetCallsIn [] = []
 cabinetCallsIn (x ∷ xs) = cabinetCallsBy x ++ cabinetCallsIn xs

@@ -81,7 +81,7 @@ chargedAt c x = chargedIn (aclOf (lentIn x)) (cabinetOutcome c x .answer)
 abbrev pub cabinetCounted : ℕ → Cabinet → CabinetCall → ℕ → ℕ
 cabinetCounted counter c x n = if clears counter (gateCall x) then 0 else if namedBy counter (chargedAt c x) then n + 1 else n
 
--- .. over a sequence
+-- the tally over a sequence of calls
 unfoldable pub cabinetTally : ℕ → Cabinet → ℕ → List CabinetCall → ℕ
 cabinetTally counter c n [] = n
 cabinetTally counter c n (x ∷ xs) = cabinetTally counter (cabinetAfter c x) (cabinetCounted counter c x n) xs
@@ -119,7 +119,7 @@ unfoldable pub countersNamed : List Limit → List ℕ
 countersNamed [] = []
 countersNamed (m ∷ ms) = if eqb (m .sort) 2 then m .counter ∷ countersNamed ms else countersNamed ms
 
--- .. that the groups of an ACL name
+-- the counters that the groups of an ACL name
 unfoldable pub countersIn : List Group → List ℕ
 countersIn [] = []
 countersIn (g ∷ gs) = countersNamed (g .limits) ++ countersIn gs

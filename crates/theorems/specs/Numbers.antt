@@ -28,7 +28,7 @@ fileNumbers = 1 ∷ 2 ∷ 3 ∷ 12 ∷ []
 abbrev pub requestNumbers : List ℕ
 requestNumbers = 1 ∷ 2 ∷ 3 ∷ 4 ∷ 5 ∷ 6 ∷ 7 ∷ 12 ∷ []
 
--- .. of a narrowing
+-- the numbers of a narrowing: 8 besides
 abbrev pub narrowNumbers : List ℕ
 narrowNumbers = 1 ∷ 2 ∷ 3 ∷ 4 ∷ 5 ∷ 6 ∷ 7 ∷ 8 ∷ 12 ∷ []
 
@@ -50,7 +50,7 @@ subjectReplies certificate =
 abbrev pub runNumbers : List ℕ
 runNumbers = 1 ∷ 2 ∷ 3 ∷ 12 ∷ 9 ∷ []
 
--- .. and 14
+-- the numbers of a run on a prepared ACL: 14 besides
 abbrev pub preparedNumbers : List ℕ
 preparedNumbers = 1 ∷ 2 ∷ 3 ∷ 12 ∷ 9 ∷ 14 ∷ []
 
@@ -62,11 +62,11 @@ gateNumbers (clearingAll counter) = outOfRange ∷ []
 gateNumbers (narrowingAt slot km0 acl req new hints) = narrowNumbers
 gateNumbers (expandingAt slot km0 acl req new) = requestNumbers
 
--- .. and those that the cabinet gives: 13 besides, where the call has a slot
+-- the numbers that the cabinet gives: 13 besides, if the call has a slot
 abbrev pub slotNumbers : Option ℕ → List ℕ → List ℕ
 slotNumbers none ns = ns
 slotNumbers (some slot) ns = noSlot ∷ ns
 
--- .. of a call of the cabinet
+-- the numbers of a call of the cabinet
 abbrev pub cabinetNumbers : CabinetCall → List ℕ
 cabinetNumbers x = slotNumbers (slotIn x) (gateNumbers x)

@@ -41,7 +41,7 @@ pub record Grants (l : Ledger) (km0 : Bytes) (gs : List Group) (q : Request) (pl
   pub certifying : Certified q g
   pub left : unspent l place q g ≡ true
 
--- .. at some place
+-- some group grants the request
 abbrev pub SomeGroup : Ledger → Bytes → List Group → Request → Type 0
 SomeGroup l km0 gs q = (place : ℕ) × (g : Group) × Grants l km0 gs q place g
 

@@ -49,7 +49,7 @@ PresentsSame q r = PresentsMore q r × PresentsMore r q
 abbrev pub NotTo : Bytes → Delegation → Type 0
 NotTo k d = d .to ≡ k → ⊥
 
--- .. from a key on
+-- a chain from a key on that comes back to no key
 abbrev pub Straight : Bytes → List Delegation → Type 0
 Straight k [] = Unit {0}
 Straight k (d ∷ links) = Every (NotTo k) (d ∷ links) × Straight (d .to) links

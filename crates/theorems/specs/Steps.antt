@@ -23,7 +23,7 @@ afterStep s (running km0 row requests buffer) = record { ledger = run (s .ledger
 afterStep s (runningPrepared km0 row f requests buffer) =
     record { ledger = preparedRun (s .ledger) km0 (s .acl) row f requests buffer .ledger; acl = s .acl }
 
--- .. after several, the first of them first
+-- the state after several steps, the first of them first
 unfoldable pub afterSteps : State → List HostStep → State
 afterSteps s [] = s
 afterSteps s (x ∷ xs) = afterSteps (afterStep s x) xs
@@ -32,7 +32,7 @@ afterSteps s (x ∷ xs) = afterSteps (afterStep s x) xs
 abbrev pub requestsOf : Bytes → List Certificate → Bytes → List Call
 requestsOf km0 row requests = map (λ r. requesting km0 (withRow r row)) (records requests)
 
--- .. unless it is refused as a whole, "before any request is judged"
+-- the calls of a run, none if it is refused as a whole, "before any request is judged"
 abbrev pub askedUnless : Option ℕ → List Call → List Call
 askedUnless none cs = cs
 askedUnless (some n) cs = []
@@ -44,7 +44,7 @@ callsBy s (running km0 row requests buffer) = askedUnless (runFault runRecords k
 callsBy s (runningPrepared km0 row f requests buffer) =
     askedUnless (preparedFault km0 (s .acl) row f requests buffer) (requestsOf km0 row requests)
 
--- .. that several come to
+-- the calls that several steps make
 unfoldable pub callsIn : State → List HostStep → List Call
 callsIn s [] = []
 callsIn s (x ∷ xs) = callsBy s x ++ callsIn (afterStep s x) xs

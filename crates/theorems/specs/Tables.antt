@@ -13,7 +13,7 @@ use Rattle.rules.specs.Sizes.{countersMax, fullCount, groupsMax, slotsMax}
 abbrev pub Held : ℕ → Type 0
 Held n = n ≤ fullCount
 
--- .. each of a ledger
+-- every count and counter of a ledger has 32 bits
 pub record Bounded (l : Ledger) : Type 0 where
   pub groups : Every Held (l .counts)
   pub named : Every Held (l .counters)
