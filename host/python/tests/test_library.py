@@ -117,8 +117,9 @@ class HeaderTest(unittest.TestCase):
             parameters = [' '.join(part.split()) for part in taken.split(',') if part.strip() != 'void']
             found[name] = (self.size(result), [8 if '*' in part else self.size(part.split()[-2]) for part in parameters])
         declared = {name: (ctypes.sizeof(result), [ctypes.sizeof(kind) for kind in taken]) for name, result, taken in _library._functions()}
-        optional = set(_library._OPTIONAL)
-        self.assertEqual({name: found[name] for name in found if name not in optional}, declared)
+        # Those on tables save a copy that costs less than a call from Python; the package has no use for them.
+        others = set(_library._OPTIONAL) | {name for name in found if name.endswith('_on_tables')}
+        self.assertEqual({name: found[name] for name in found if name not in others}, declared)
 
     def test_numbers(self):
         for name in ('ABI', 'RECORD', 'HASH', 'GROUPS', 'COUNTERS', 'SLOTS', 'ACL_BYTES', 'HINT_BYTES', 'SUBJECT_BYTES', 'CERTIFICATES',
