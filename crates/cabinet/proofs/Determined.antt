@@ -2,8 +2,8 @@
 -- counters.
 use mathlib.Core.Path.{_≡_, refl, sym, _∙_, ap, ap₂}
 use mathlib.Core.List.{List, [], _∷_, map}
-use Rattle.charging.specs.declared.Reply.{Reply}
-use Rattle.charging.proofs.Determined.{replyBack, reply-back}
+use Rattle.gate_charge.specs.declared.Reply.{Reply}
+use Rattle.gate_charge.proofs.Determined.{replyBack, reply-back}
 use Rattle.rules.specs.Cabinet as rules
 use Rattle.cabinet.specs.declared.Slot.{Slot}
 use Rattle.cabinet.specs.declared.Cabinet.{Cabinet}

@@ -9,7 +9,7 @@ use Rattle.rules.specs.Basics.{if_then_else_}
 use Rattle.rules.specs.Ledger.{Ledger}
 use Rattle.rules.specs.Gate.{Outcome, refused}
 use Rattle.rules.specs.Cabinet as rules
-use Rattle.charging.specs.Charges.{answerAs}
+use Rattle.gate_charge.specs.Charges.{answerAs}
 use Rattle.cabinet.specs.declared.Slot.{Slot}
 use Rattle.cabinet.specs.declared.Cabinet.{Cabinet}
 use Rattle.cabinet.specs.declared.CabinetOutcome.{CabinetOutcome}

@@ -7,16 +7,16 @@ ghost use lib.Dec.{ltb};
 ghost use Rattle.rules.specs.Sizes.{groupsMax, slotsMax};
 ghost use Rattle.rules.specs.Gate.{request, narrow, expand};
 ghost use Rattle.rules.specs.Cabinet.{freshCabinet, asGate, cabinetRefused, cabinetLoad, cabinetClear, cabinetRequest, cabinetNarrow, cabinetExpand};
-ghost use Rattle.judging.specs.Standings.{ledgerOfTables};
-ghost use Rattle.charging.specs.Charges.{answerAs, CountersRoom, countersCharged, countsCharged};
-ghost use Rattle.carrying.specs.Carried.{countsAfter, noCounts};
+ghost use Rattle.gate_decision.specs.Standings.{ledgerOfTables};
+ghost use Rattle.gate_charge.specs.Charges.{answerAs, CountersRoom, countersCharged, countsCharged};
+ghost use Rattle.gate_counts.specs.Carried.{countsAfter, noCounts};
 ghost use Rattle.gate.specs.Outcomes.{narrowedCounts, Settles};
 ghost use Rattle.rules.specs.Acl.{aclOf};
 ghost use Rattle.rules.specs.Request.{requestOf, hintsOf};
 ghost use Rattle.refusals.specs.Refusals.{refusalNumber};
 ghost use Rattle.cabinet.specs.Kept.{slotPlace, ifThere, cabinetAs, cabinetOutcomeAs};
-use charging::Reply;
 use gate::Ledger;
+use gate_charge::Reply;
 use refusals::Refusal;
 
 // What a slot has of a ledger: group counts, the load time and the last time.
@@ -127,7 +127,7 @@ fn expand_in<'a>(
 
 impl Cabinet {
     // Slots of a cabinet.
-    pub const SLOTS: usize = sizes::SLOTS;
+    pub const SLOTS: usize = record_sizes::SLOTS;
 
     // The fresh cabinet: all zero.
     pub fn fresh() -> Self
@@ -168,7 +168,7 @@ impl Cabinet {
         requires { ⌜ (at < slotsMax) × CountersRoom (self .counters) (aclOf (now acl)) (answerAs reply) ⌝ }
         ensures { λ r. ⌜ cabinetOutcomeAs r ≡ asGate (cabinetAs self) at (record { answer = answerAs reply; ledger = ledgerOfTables counts (countersCharged (aclOf (now (acl .entry))) (answerAs reply) (self .counters)) loaded after }) ⌝ }
     {
-        charging::charge_counters(&mut self.counters, reply, acl);
+        gate_charge::charge_counters(&mut self.counters, reply, acl);
         let s = Slot {
             counts,
             loaded,
@@ -225,8 +225,8 @@ impl Cabinet {
         let loaded = s.loaded;
         let last = s.last;
         let reply = request_in(there, &counts, &self.counters, loaded, last, km0, acl, req);
-        charging::charge_count(&mut counts, reply);
-        let after = charging::last_after(reply, last, request::time(req));
+        gate_charge::charge_count(&mut counts, reply);
+        let after = gate_charge::last_after(reply, last, request_reader::time(req));
         self.hand_back(at, counts, loaded, after, reply, acl)
     }
 
@@ -260,9 +260,9 @@ impl Cabinet {
             new,
             hints,
         );
-        charging::charge_count(&mut counts, reply);
-        carrying::carry_counts(&mut counts, reply, hints);
-        let after = charging::last_after(reply, last, request::time(req));
+        gate_charge::charge_count(&mut counts, reply);
+        gate_counts::carry_counts(&mut counts, reply, hints);
+        let after = gate_charge::last_after(reply, last, request_reader::time(req));
         self.hand_back(at, counts, loaded, after, reply, acl)
     }
 
@@ -294,8 +294,8 @@ impl Cabinet {
             req,
             new,
         );
-        carrying::zero_counts(&mut counts, reply);
-        let after = charging::last_after(reply, last, request::time(req));
+        gate_counts::zero_counts(&mut counts, reply);
+        let after = gate_charge::last_after(reply, last, request_reader::time(req));
         self.hand_back(at, counts, loaded, after, reply, acl)
     }
 }

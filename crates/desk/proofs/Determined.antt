@@ -5,9 +5,9 @@ use lib.Dec.{eqb}
 use Rattle.rules.specs.Basics.{if_then_else_}
 use Rattle.rules.specs.Desk as rules
 use Rattle.refusals.proofs.Determined.{refusalBack, refusal-back}
-use Rattle.steps.specs.declared.Step.{Step}
-use Rattle.steps.specs.declared.Step.the-variants.{WV1, MSCV1, MSCV2, MSCV3, MSCV4, MSCV5, WBCV1, WBCV2, WBCV3, KGCV1, KGCV2, ACLV3, WB1, WB2, WB3, WB6, RB1, RB2, RB3, KV3, CSRL1}
-use Rattle.steps.specs.Steps.{stepAs}
+use Rattle.desk_steps.specs.declared.Step.{Step}
+use Rattle.desk_steps.specs.declared.Step.the-variants.{WV1, MSCV1, MSCV2, MSCV3, MSCV4, MSCV5, WBCV1, WBCV2, WBCV3, KGCV1, KGCV2, ACLV3, WB1, WB2, WB3, WB6, RB1, RB2, RB3, KV3, CSRL1}
+use Rattle.desk_steps.specs.Steps.{stepAs}
 use Rattle.desk.specs.declared.Protection.{Protection}
 use Rattle.desk.specs.declared.Protection.the-variants.{NotJudged, Module, Softcard, Cardset, NotKept}
 use Rattle.desk.specs.declared.Verdict.{Verdict}

@@ -16,17 +16,17 @@ use Rattle.rules.specs.Acl.{Action, permissions, makeBlob, makeArchive, Group, 
 use Rattle.rules.specs.Bundle.{Policy, policyOf, bundleFault}
 use Rattle.rules.proofs.Laws.{never}
 use Rattle.rules.specs.Desk.{Step, KV3, Acceptance, approach1, approach2, actionProtection, softParameters, smallest, officersGroup, keyProtection, recoverableKey, beforeAcl, aclFailure, fullFailure, basicFailure, gradeOf, acceptedUnless, attested, deskFault, desk}
-use Rattle.facts.specs.Places.{entries, placesOf}
-use Rattle.steps.specs.declared.Failure.{Failure}
-use Rattle.steps.specs.declared.Failure.the-variants.{Nothing, At}
-use Rattle.steps.specs.declared.Step as codeStep
-use Rattle.steps.specs.Steps.{stepAs, failureAs, csrFailure}
+use Rattle.bundle_facts.specs.Places.{entries, placesOf}
+use Rattle.desk_steps.specs.declared.Failure.{Failure}
+use Rattle.desk_steps.specs.declared.Failure.the-variants.{Nothing, At}
+use Rattle.desk_steps.specs.declared.Step as codeStep
+use Rattle.desk_steps.specs.Steps.{stepAs, failureAs, csrFailure}
 use Rattle.suites.specs.Calls.{Calls, SuiteAnswer, calls, refuses, calledFor}
 use Rattle.suites.proofs.Laws.{suiteIn, suite-found, suite-measured}
 use Rattle.desk.specs.Replies as replies
 use Rattle.desk.specs.Replies.{DeskReply, protectionNumber, acceptanceAs, acceptanceFor, verdictAs, verdictFor, verdictFrom, suiteFault, placesRead, gradeFailure}
-use Rattle.grading.specs.Grades.{Graded, aclGraded}
-use Rattle.grading.proofs.Laws.{protection-most}
+use Rattle.desk_grading.specs.Grades.{Graded, aclGraded}
+use Rattle.desk_grading.proofs.Laws.{protection-most}
 use Rattle.desk.specs.declared.Protection.{Protection}
 use Rattle.desk.specs.declared.Acceptance as code
 

@@ -13,10 +13,10 @@ use Rattle.rules.specs.Suites.{isSuite}
 use Rattle.rules.specs.Bundle.{policyOf}
 use Rattle.rules.specs.Desk as rules
 use Rattle.refusals.specs.Refusals.{refusalNumber}
-use Rattle.facts.specs.Places.{entries, placesOf}
-use Rattle.steps.specs.declared.Failure.{Failure}
-use Rattle.steps.specs.declared.Failure.the-variants.{Nothing, At}
-use Rattle.steps.specs.Steps.{stepAs}
+use Rattle.bundle_facts.specs.Places.{entries, placesOf}
+use Rattle.desk_steps.specs.declared.Failure.{Failure}
+use Rattle.desk_steps.specs.declared.Failure.the-variants.{Nothing, At}
+use Rattle.desk_steps.specs.Steps.{stepAs}
 use Rattle.desk.specs.declared.Protection.{Protection}
 use Rattle.desk.specs.declared.Protection.the-variants.{NotJudged, Module, Softcard, Cardset, NotKept}
 use Rattle.desk.specs.declared.Acceptance.{Acceptance}

@@ -8,16 +8,16 @@ ghost use Rattle.rules.specs.Acl.{aclOf};
 ghost use Rattle.rules.specs.Bundle.{policyOf};
 ghost use Rattle.rules.specs.Desk.{beforeAcl, fullFailure, basicFailure, gradeOf, approach1, approach2, acceptedUnless, deskFault, attested, desk};
 ghost use Rattle.files.specs.Faults.{faultAs};
-ghost use Rattle.facts.specs.Found.{policyAs};
-ghost use Rattle.facts.specs.Places.{entries, Found};
-ghost use Rattle.steps.specs.Steps.{failureAs};
+ghost use Rattle.bundle_facts.specs.Found.{policyAs};
+ghost use Rattle.bundle_facts.specs.Places.{entries, Found};
+ghost use Rattle.desk_steps.specs.Steps.{failureAs};
 ghost use Rattle.desk.specs.Replies.{protectionNumber, verdictAs, verdictFor, verdictFrom, suiteFault, placesRead, gradeFailure};
-use facts::Policy;
+use bundle_facts::Policy;
+use desk_grading::Grade;
+use desk_steps::Failure;
+use desk_steps::Step;
 use files::Checked;
-use grading::Grade;
 use refusals::Refusal;
-use steps::Failure;
-use steps::Step;
 use suites::Lookup;
 
 // How well a key is protected: the weakest way in which its ACL lets it be kept. Approach 1 judges none.
@@ -74,11 +74,11 @@ fn protection_of(n: u8) -> Protection
 }
 
 // Whether the policy names a suite.
-fn suite_known(places: &[usize; facts::ENTRIES], bundle: &[u8]) -> Checked
+fn suite_known(places: &[usize; bundle_facts::ENTRIES], bundle: &[u8]) -> Checked
     requires { ⌜ Found (now bundle) (now places) ⌝ }
     ensures { λ r. ⌜ faultAs r ≡ suiteFault (records (now (bundle .entry))) ⌝ }
 {
-    let policy = facts::policy_of(places, bundle);
+    let policy = bundle_facts::policy_of(places, bundle);
     let found = suites::suite_of(policy.suite as u64);
     match found {
         Lookup::Refused(r) => Checked::Refused(r),
@@ -88,24 +88,25 @@ fn suite_known(places: &[usize; facts::ENTRIES], bundle: &[u8]) -> Checked
 
 // The first fault of the two files: the length of either, the bundle's records, the ACL's, the suite. Where both lengths fit, the bundle's records were
 // found, whatever they are; else the table is as it was.
-pub fn read_both(places: &mut [usize; facts::ENTRIES], bundle: &[u8], acl: &[u8]) -> Checked
+pub fn read_both(places: &mut [usize; bundle_facts::ENTRIES], bundle: &[u8], acl: &[u8]) -> Checked
     requires { ⌜ now places ≡ replicate entries 0 ⌝ }
     ensures { λ r. ⌜ (faultAs r ≡ deskFault (now (bundle .entry)) (now (acl .entry))) × (faultAs r ≡ none → Found (now (bundle .entry)) (now (places .exit))) × (now (places .exit) ≡ placesRead (now (bundle .entry)) (now (acl .entry))) ⌝ }
 {
-    if !(files::whole(sizes::BUNDLE_RECORDS, bundle) & files::whole(sizes::ACL_RECORDS, acl)) {
+    if !(files::whole(record_sizes::BUNDLE_RECORDS, bundle)
+        & files::whole(record_sizes::ACL_RECORDS, acl)) {
         return Checked::Refused(Refusal::BadLength);
     }
-    facts::find_places(places, bundle);
+    bundle_facts::find_places(places, bundle);
     files::first_fault(
-        bundle::bundle_records(bundle),
-        files::first_fault(acl::acl_records(acl), suite_known(places, bundle)),
+        bundle_reader::bundle_records(bundle),
+        files::first_fault(acl_reader::acl_records(acl), suite_known(places, bundle)),
     )
 }
 
 // The steps after the ACL: the protection is at least the policy's, and the CSR is for the key.
 fn grade_steps(
     policy: Policy,
-    places: &[usize; facts::ENTRIES],
+    places: &[usize; bundle_facts::ENTRIES],
     bundle: &[u8],
     protection: u8,
 ) -> Failure
@@ -115,13 +116,13 @@ fn grade_steps(
     if protection < policy.lowest {
         return Failure::At(Step::KV3);
     }
-    steps::csr_step(policy, places, bundle)
+    desk_steps::csr_step(policy, places, bundle)
 }
 
 // Approach 2 from the ACL on: the first failing step, for an ACL that comes to that grade.
 fn acl_steps(
     policy: Policy,
-    places: &[usize; facts::ENTRIES],
+    places: &[usize; bundle_facts::ENTRIES],
     bundle: &[u8],
     grade: Grade,
 ) -> Failure
@@ -129,7 +130,7 @@ fn acl_steps(
     ensures { λ r. ⌜ failureAs r ≡ orNext (failureAs (grade .failure)) (gradeFailure (records (now (bundle .entry))) (grade .protection)) ⌝ }
 {
     let of_acl = grade.failure;
-    steps::first_of(
+    desk_steps::first_of(
         of_acl,
         grade_steps(policy, places, bundle, grade.protection),
     )
@@ -146,11 +147,16 @@ fn unless_failed(f: Failure, a: Acceptance) -> Verdict
 }
 
 // Approach 2, for a bundle of which no step before the ACL fails.
-fn judge_acl(policy: Policy, places: &[usize; facts::ENTRIES], bundle: &[u8], acl: &[u8]) -> Verdict
+fn judge_acl(
+    policy: Policy,
+    places: &[usize; bundle_facts::ENTRIES],
+    bundle: &[u8],
+    acl: &[u8],
+) -> Verdict
     requires { ⌜ (policyAs policy ≡ policyOf (records (now bundle))) × Found (now bundle) (now places) × (beforeAcl (records (now bundle)) ≡ none) ⌝ }
     ensures { λ r. ⌜ verdictAs r ≡ verdictFor (acceptedUnless (fullFailure (records (now (bundle .entry))) (aclOf (now (acl .entry)))) (approach2 (gradeOf (records (now (bundle .entry))) (aclOf (now (acl .entry)))))) ⌝ }
 {
-    let grade = grading::acl_grade(policy, places, bundle, acl);
+    let grade = desk_grading::acl_grade(policy, places, bundle, acl);
     let failure = acl_steps(policy, places, bundle, grade);
     let acceptance = Acceptance {
         approach: 2,
@@ -163,14 +169,14 @@ fn judge_acl(policy: Policy, places: &[usize; facts::ENTRIES], bundle: &[u8], ac
 // Approach 2. The policy is the bundle's, and not looked for again. The ACL is graded only if no step before it fails.
 fn judge_policy(
     policy: Policy,
-    places: &[usize; facts::ENTRIES],
+    places: &[usize; bundle_facts::ENTRIES],
     bundle: &[u8],
     acl: &[u8],
 ) -> Verdict
     requires { ⌜ (policyAs policy ≡ policyOf (records (now bundle))) × Found (now bundle) (now places) ⌝ }
     ensures { λ r. ⌜ verdictAs r ≡ verdictFor (acceptedUnless (fullFailure (records (now (bundle .entry))) (aclOf (now (acl .entry)))) (approach2 (gradeOf (records (now (bundle .entry))) (aclOf (now (acl .entry)))))) ⌝ }
 {
-    let early = steps::bundle_steps(places, bundle);
+    let early = desk_steps::bundle_steps(places, bundle);
     match early {
         Failure::At(s) => Verdict::Failed(s),
         Failure::Nothing => judge_acl(policy, places, bundle, acl),
@@ -178,7 +184,11 @@ fn judge_policy(
 }
 
 // Approach 1.
-fn judge_generation(policy: Policy, places: &[usize; facts::ENTRIES], bundle: &[u8]) -> Verdict
+fn judge_generation(
+    policy: Policy,
+    places: &[usize; bundle_facts::ENTRIES],
+    bundle: &[u8],
+) -> Verdict
     requires { ⌜ (policyAs policy ≡ policyOf (records (now bundle))) × Found (now bundle) (now places) ⌝ }
     ensures { λ r. ⌜ verdictAs r ≡ verdictFor (acceptedUnless (basicFailure (records (now (bundle .entry)))) approach1) ⌝ }
 {
@@ -187,15 +197,15 @@ fn judge_generation(policy: Policy, places: &[usize; facts::ENTRIES], bundle: &[
         protection: Protection::NotJudged,
         recoverable: false,
     };
-    unless_failed(steps::basic_steps(policy, places, bundle), acceptance)
+    unless_failed(desk_steps::basic_steps(policy, places, bundle), acceptance)
 }
 
 // The steps of the approach that the policy names, for files that were read.
-fn judge_read(places: &[usize; facts::ENTRIES], bundle: &[u8], acl: &[u8]) -> Verdict
+fn judge_read(places: &[usize; bundle_facts::ENTRIES], bundle: &[u8], acl: &[u8]) -> Verdict
     requires { ⌜ Found (now bundle) (now places) ⌝ }
     ensures { λ r. ⌜ verdictAs r ≡ verdictFor (attested (records (now (bundle .entry))) (aclOf (now (acl .entry)))) ⌝ }
 {
-    let policy = facts::policy_of(places, bundle);
+    let policy = bundle_facts::policy_of(places, bundle);
     if policy.approach == 2 {
         return judge_policy(policy, places, bundle, acl);
     }
@@ -206,7 +216,7 @@ fn judge_read(places: &[usize; facts::ENTRIES], bundle: &[u8], acl: &[u8]) -> Ve
 pub fn assess(bundle: &[u8], acl: &[u8]) -> Verdict
     ensures { λ r. ⌜ verdictAs r ≡ verdictFor (desk (now (bundle .entry)) (now (acl .entry))) ⌝ }
 {
-    let mut places = [0usize; facts::ENTRIES];
+    let mut places = [0usize; bundle_facts::ENTRIES];
     let checked = read_both(&mut places, bundle, acl);
     match checked {
         Checked::Sound => judge_read(&places, bundle, acl),

@@ -18,8 +18,8 @@ use Rattle.rules.specs.Bundle.{Policy}
 use Rattle.rules.specs.Suites.{suiteMechanism}
 use Rattle.rules.specs.Desk.{Step, Class, classOf, policyAdmits, ACLV3, WB1, WB2, WB3, WB6, permissionsFailure, blobFailure, isMechanism, softParameters}
 use Rattle.rules.proofs.Laws.{allBelow-at, allBelow-all, not-both, decided}
-use Rattle.evidence.specs.Given.{given}
-use Rattle.evidence.proofs.Laws.{given-some}
+use Rattle.desk_evidence.specs.Given.{given}
+use Rattle.desk_evidence.proofs.Laws.{given-some}
 use Rattle.suites.specs.Calls.{Calls, SuiteAnswer, calls, refuses, calledFor}
 use Rattle.suites.proofs.Laws.{suite-found}
 use Rattle.desk_actions.specs.Classes.{admittedBit}

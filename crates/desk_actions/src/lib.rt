@@ -9,13 +9,13 @@ ghost use Rattle.rules.specs.Basics.{allBelow, bothSame, part, number, flag, op
 ghost use Rattle.rules.specs.Acl.{blobRuleOf, archiveRuleOf, FileRule, makeBlob, actionOf};
 ghost use Rattle.rules.specs.Suites.{suiteMechanism};
 ghost use Rattle.rules.specs.Desk.{classOf, policyAdmits, permissionsFailure, blobFailure, isMechanism, archiveFailure, failureUnder, actionProtection};
-ghost use Rattle.facts.specs.Found.{policyAs};
-ghost use Rattle.evidence.specs.Given.{given};
-ghost use Rattle.steps.specs.Steps.{failureAs};
+ghost use Rattle.bundle_facts.specs.Found.{policyAs};
+ghost use Rattle.desk_evidence.specs.Given.{given};
+ghost use Rattle.desk_steps.specs.Steps.{failureAs};
 ghost use Rattle.desk_actions.specs.Classes.{classAs, admittedBit};
-use facts::Policy;
-use steps::Failure;
-use steps::Step;
+use bundle_facts::Policy;
+use desk_steps::Failure;
+use desk_steps::Step;
 use suites::Lookup;
 
 // The numbers of the protections, the smallest the weakest.
@@ -81,7 +81,7 @@ pub fn bit_admitted(policy: Policy, bits: u16, b: u16) -> bool
     requires { ⌜ b < 16 ⌝ }
     ensures { λ r. ⌜ r ≡ admittedBit (policyAs policy) bits b ⌝ }
 {
-    if !fields::bit_of(b, bits) {
+    if !record_fields::bit_of(b, bits) {
         return true;
     }
     class_admitted(policy, class_of(b))
@@ -108,10 +108,10 @@ pub fn names_key(key: &[u8], f: u16, off: usize, rec: &[u8]) -> bool
     requires { ⌜ (f < 16) × (length (now rec) ≡ recordBytes) × (off + hashBytes ≤ recordBytes) ⌝ }
     ensures { λ r. ⌜ r ≡ bothSame (given (now (key .entry))) (optional (flag f (now (rec .entry))) (part off hashBytes (now (rec .entry)))) ⌝ }
 {
-    if !fields::flag_of(f, rec) {
+    if !record_fields::flag_of(f, rec) {
         return false;
     }
-    evidence::both_same(key, &rec[off..off + sizes::HASH])
+    desk_evidence::both_same(key, &rec[off..off + record_sizes::HASH])
 }
 
 // OpPermissions: no permission that is forbidden, or that the policy lacks.
@@ -119,7 +119,7 @@ pub fn permission_step(policy: Policy, rec: &[u8]) -> Failure
     requires { ⌜ length (now rec) ≡ recordBytes ⌝ }
     ensures { λ r. ⌜ failureAs r ≡ permissionsFailure (policyAs policy) (number 4 2 (now (rec .entry))) ⌝ }
 {
-    if !bits_admitted(policy, fields::be16(rec, 4)) {
+    if !bits_admitted(policy, record_fields::be16(rec, 4)) {
         return Failure::At(Step::ACLV3);
     }
     Failure::Nothing
@@ -138,16 +138,16 @@ pub fn blob_steps(hkm: &[u8], rec: &[u8]) -> Failure
     requires { ⌜ length (now rec) ≡ recordBytes ⌝ }
     ensures { λ r. ⌜ failureAs r ≡ blobFailure (given (now (hkm .entry))) (blobRuleOf (now (rec .entry))) ⌝ }
 {
-    if !(fields::flag_of(0, rec) | fields::flag_of(3, rec)) {
+    if !(record_fields::flag_of(0, rec) | record_fields::flag_of(3, rec)) {
         return Failure::At(Step::WB1);
     }
     if !under_module_key(hkm, rec) {
         return Failure::At(Step::WB2);
     }
-    if fields::flag_of(5, rec) {
+    if record_fields::flag_of(5, rec) {
         return Failure::At(Step::WB3);
     }
-    if !(!fields::flag_of(3, rec) | fields::flag_of(4, rec)) {
+    if !(!record_fields::flag_of(3, rec) | record_fields::flag_of(4, rec)) {
         return Failure::At(Step::WB6);
     }
     Failure::Nothing
@@ -161,7 +161,7 @@ fn called_for(policy: Policy, rec: &[u8]) -> bool
     let due = suites::suite_of(policy.suite as u64);
     match due {
         Lookup::Refused(_) => false,
-        Lookup::Known(s) => s.mechanism == fields::be16(rec, 24),
+        Lookup::Known(s) => s.mechanism == record_fields::be16(rec, 24),
     }
 }
 
@@ -178,7 +178,7 @@ pub fn archive_steps(policy: Policy, hkre: &[u8], rec: &[u8]) -> Failure
     requires { ⌜ length (now rec) ≡ recordBytes ⌝ }
     ensures { λ r. ⌜ failureAs r ≡ archiveFailure (policyAs policy) (given (now (hkre .entry))) (archiveRuleOf (now (rec .entry))) ⌝ }
 {
-    if !evidence::is_there(hkre) {
+    if !desk_evidence::is_there(hkre) {
         return Failure::At(Step::RB1);
     }
     if !under_recovery_key(hkre, rec) {
@@ -210,10 +210,10 @@ pub fn blob_protection(rec: &[u8]) -> u8
     requires { ⌜ length (now rec) ≡ recordBytes ⌝ }
     ensures { λ r. ⌜ r ≡ actionProtection (makeBlob (blobRuleOf (now (rec .entry))) none) ⌝ }
 {
-    if fields::flag_of(0, rec) {
+    if record_fields::flag_of(0, rec) {
         return BY_MODULE;
     }
-    if fields::flag_of(4, rec) & fields::bit_of(0, fields::be16(rec, 44)) {
+    if record_fields::flag_of(4, rec) & record_fields::bit_of(0, record_fields::be16(rec, 44)) {
         return BY_SOFTCARD;
     }
     BY_CARDSET

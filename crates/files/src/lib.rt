@@ -26,5 +26,5 @@ pub fn whole(most: usize, s: &[u8]) -> bool
     requires { ⌜ most ≤ 65535 ⌝ }
     ensures { λ r. ⌜ r ≡ fits most (now (s .entry)) ⌝ }
 {
-    (s.len() % sizes::RECORD == 0) & (s.len() <= most * sizes::RECORD)
+    (s.len() % record_sizes::RECORD == 0) & (s.len() <= most * record_sizes::RECORD)
 }

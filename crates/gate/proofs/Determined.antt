@@ -3,9 +3,9 @@ use mathlib.Core.Path.{_≡_, sym, _∙_, ap}
 use Rattle.rules.specs.Ledger as rules
 use Rattle.rules.specs.Gate as rulesGate
 use Rattle.gate.specs.declared.Ledger.{Ledger}
-use Rattle.charging.specs.declared.Reply.{Reply}
+use Rattle.gate_charge.specs.declared.Reply.{Reply}
 use Rattle.gate.specs.declared.Outcome.{Outcome}
-use Rattle.charging.proofs.Determined.{replyBack, reply-back}
+use Rattle.gate_charge.proofs.Determined.{replyBack, reply-back}
 use Rattle.gate.specs.Outcomes.{ledgerAs, outcomeAs}
 
 abbrev pub ledgerBack : rules.Ledger → Ledger

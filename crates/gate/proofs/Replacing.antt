@@ -13,17 +13,17 @@ use Rattle.rules.specs.Request.{Request, requestOf, Hint, hintsOf}
 use Rattle.rules.specs.Ledger.{Ledger, charge, recounted, carried}
 use Rattle.rules.specs.Narrow.{narrows}
 use Rattle.rules.specs.Gate.{Answer, done, permit, refuse, Outcome, Judgement, granted, denied, judge, settle, refused, permitted, narrowed, expanded, narrowFiles, narrow, expandFiles, expand}
-use Rattle.request.specs.Parts.{Sound}
+use Rattle.request_reader.specs.Parts.{Sound}
 use Rattle.refusals.specs.declared.Refusal.{Refusal}
 use Rattle.refusals.specs.Refusals.{refusalNumber}
 use Rattle.files.specs.declared.Checked.{Checked}
 use Rattle.files.specs.declared.Checked.the-variants as checked
 use Rattle.files.specs.Faults.{faultAs}
-use Rattle.judging.specs.declared.Judged.{Judged}
-use Rattle.judging.specs.Standings.{judgedFor}
-use Rattle.charging.specs.Charges.{decided, countersCharged, countsCharged, lastAfter}
-use Rattle.carrying.specs.Carried.{carriedOf, noCounts, countsAfter}
-use Rattle.carrying.proofs.Laws.{carried-is}
+use Rattle.gate_decision.specs.declared.Judged.{Judged}
+use Rattle.gate_decision.specs.Standings.{judgedFor}
+use Rattle.gate_charge.specs.Charges.{decided, countersCharged, countsCharged, lastAfter}
+use Rattle.gate_counts.specs.Carried.{carriedOf, noCounts, countsAfter}
+use Rattle.gate_counts.proofs.Laws.{carried-is}
 use Rattle.gate_files.proofs.Passed.{narrow-sound, expand-sound, no-fault, a-fault}
 use Rattle.gate.specs.Outcomes.{permittedIf, outcomeWith, narrowedCounts, Settles}
 use Rattle.gate.proofs.Settling.{settled-by, refused-by, not-refused, settles-refused, settles-judged, settles-outcome}

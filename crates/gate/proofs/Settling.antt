@@ -11,19 +11,19 @@ use Rattle.rules.specs.Request.{Request, requestOf}
 use Rattle.rules.specs.Ledger.{Ledger, charge}
 use Rattle.rules.specs.Gate.{Answer, done, permit, refuse, Outcome, Denial, early, unadmitted, uncertified, exhausted, Judgement, granted, denied, judge, refusedNear, refused, settle, outcomeUnless, requestFiles, request}
 use Rattle.rules.proofs.Laws.{never}
-use Rattle.groups.specs.Parts.{firstLimits}
+use Rattle.acl_groups.specs.Parts.{firstLimits}
 use Rattle.refusals.specs.declared.Denial as code
 use Rattle.refusals.specs.declared.Refusal.{Refusal}
 use Rattle.refusals.specs.Refusals.{refusalNumber, denialNumber, denialGroup}
 use Rattle.files.specs.declared.Checked.{Checked}
 use Rattle.files.specs.declared.Checked.the-variants as checked
 use Rattle.files.specs.Faults.{faultAs}
-use Rattle.request.specs.Parts.{Sound}
-use Rattle.judging.specs.declared.Judged.{Judged}
-use Rattle.judging.specs.declared.Judged.the-variants.{Granted, Denied}
-use Rattle.judging.specs.Standings.{denialFor, judgedFor}
-use Rattle.charging.specs.Charges.{permitIf, decided, countersCharged, countsCharged, lastAfter}
-use Rattle.charging.proofs.Granting.{granted-limits, counters-room, count-room-for}
+use Rattle.request_reader.specs.Parts.{Sound}
+use Rattle.gate_decision.specs.declared.Judged.{Judged}
+use Rattle.gate_decision.specs.declared.Judged.the-variants.{Granted, Denied}
+use Rattle.gate_decision.specs.Standings.{denialFor, judgedFor}
+use Rattle.gate_charge.specs.Charges.{permitIf, decided, countersCharged, countsCharged, lastAfter}
+use Rattle.gate_charge.proofs.Granting.{granted-limits, counters-room, count-room-for}
 use Rattle.gate_files.proofs.Passed.{files-sound, no-fault, a-fault}
 use Rattle.gate.specs.Outcomes.{chargedWith, chargedBy, permittedIf, outcomeWith, Settles}
 

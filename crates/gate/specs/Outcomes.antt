@@ -10,11 +10,11 @@ use Rattle.rules.specs.Acl.{Limit, Group}
 use Rattle.rules.specs.Request.{Hint}
 use Rattle.rules.specs.Ledger as rules
 use Rattle.rules.specs.Gate as rulesGate
-use Rattle.groups.specs.Parts.{firstLimits}
+use Rattle.acl_groups.specs.Parts.{firstLimits}
 use Rattle.gate.specs.declared.Ledger.{Ledger}
 use Rattle.gate.specs.declared.Outcome.{Outcome}
-use Rattle.charging.specs.Charges.{answerAs, CountersRoom, CountRoom, countersCharged, countsCharged, lastAfter}
-use Rattle.carrying.specs.Carried.{carriedOf, countsAfter}
+use Rattle.gate_charge.specs.Charges.{answerAs, CountersRoom, CountRoom, countersCharged, countsCharged, lastAfter}
+use Rattle.gate_counts.specs.Carried.{carriedOf, countsAfter}
 
 -- the ledger
 abbrev pub ledgerAs : Ledger → rules.Ledger

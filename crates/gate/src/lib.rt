@@ -5,12 +5,12 @@ ghost use Rattle.rules.specs.Request.{requestOf, hintsOf};
 ghost use Rattle.rules.specs.Ledger.{freshLedger};
 ghost use Rattle.rules.specs.Gate.{load, clear, request, refused, narrow, expand};
 ghost use Rattle.refusals.specs.Refusals.{refusalNumber};
-ghost use Rattle.judging.specs.Standings.{ledgerOfTables};
-ghost use Rattle.charging.specs.Charges.{answerAs, CountersRoom, CountRoom, countsCharged};
-ghost use Rattle.carrying.specs.Carried.{noCounts, countsAfter};
+ghost use Rattle.gate_decision.specs.Standings.{ledgerOfTables};
+ghost use Rattle.gate_charge.specs.Charges.{answerAs, CountersRoom, CountRoom, countsCharged};
+ghost use Rattle.gate_counts.specs.Carried.{noCounts, countsAfter};
 ghost use Rattle.gate.specs.Outcomes.{ledgerAs, outcomeAs, chargedBy, narrowedCounts, Settles};
-use charging::Reply;
 use files::Checked;
+use gate_charge::Reply;
 use refusals::Refusal;
 
 // What was used: a count for each group, the named counters, the load time and the last time, in seconds. It is laid out as C lays it out, so that a
@@ -31,11 +31,11 @@ pub struct Outcome {
 
 impl Ledger {
     // Record length and table sizes.
-    pub const RECORD: usize = sizes::RECORD;
+    pub const RECORD: usize = record_sizes::RECORD;
 
-    pub const GROUPS: usize = sizes::GROUPS;
+    pub const GROUPS: usize = record_sizes::GROUPS;
 
-    pub const COUNTERS: usize = sizes::COUNTERS;
+    pub const COUNTERS: usize = record_sizes::COUNTERS;
 
     // The fresh ledger: all zero.
     pub fn fresh() -> Self
@@ -88,7 +88,7 @@ impl Ledger {
 }
 
 // The reply to a request for a use or a blob, from tables lent for reading. It charges nothing: a permit still has to be charged by the caller, who has the
-// tables and the last time. It is public only because `cabinet` and `in_place` charge tables of their own; a host calls an entry point, which does both.
+// tables and the last time. It is public only because `cabinet` and `gate_in_place` charge tables of their own; a host calls an entry point, which does both.
 pub fn request_reply<'a>(
     counts: &'a [u32; Ledger::GROUPS],
     counters: &'a [u32; Ledger::COUNTERS],
@@ -103,8 +103,8 @@ pub fn request_reply<'a>(
     let fault = gate_files::request_files(km0, acl, req);
     match fault {
         Checked::Refused(r) => Reply::Refuse(r),
-        Checked::Sound => charging::decide(
-            judging::judge_request(counts, counters, loaded, last, km0, acl, req),
+        Checked::Sound => gate_charge::decide(
+            gate_decision::judge_request(counts, counters, loaded, last, km0, acl, req),
             true,
         ),
     }
@@ -118,10 +118,10 @@ impl Ledger {
         requires { ⌜ CountersRoom (self .counters) (aclOf (now acl)) (answerAs reply) × CountRoom (self .counts) (answerAs reply) ⌝ }
         ensures { λ r. ⌜ outcomeAs r ≡ chargedBy (ledgerAs self) (aclOf (now (acl .entry))) time (answerAs reply) ⌝ }
     {
-        charging::charge_counters(&mut self.counters, reply, acl);
-        charging::charge_count(&mut self.counts, reply);
+        gate_charge::charge_counters(&mut self.counters, reply, acl);
+        gate_charge::charge_count(&mut self.counts, reply);
         let last = self.last;
-        self.last = charging::last_after(reply, last, time);
+        self.last = gate_charge::last_after(reply, last, time);
         Outcome {
             ledger: self,
             reply,
@@ -135,11 +135,11 @@ impl Ledger {
         let loaded = self.loaded;
         let last = self.last;
         let reply = request_reply(&self.counts, &self.counters, loaded, last, km0, acl, req);
-        self.charge(reply, acl, request::time(req))
+        self.charge(reply, acl, request_reader::time(req))
     }
 }
 
-// The reply to a narrowing, from tables lent for reading. It charges nothing, and is public only for `cabinet` and `in_place`, which charge a permit
+// The reply to a narrowing, from tables lent for reading. It charges nothing, and is public only for `cabinet` and `gate_in_place`, which charge a permit
 // and carry the group counts over themselves.
 pub fn narrow_reply<'a>(
     counts: &'a [u32; Ledger::GROUPS],
@@ -157,14 +157,14 @@ pub fn narrow_reply<'a>(
     let fault = gate_files::narrow_files(km0, acl, req, new, hints);
     match fault {
         Checked::Refused(r) => Reply::Refuse(r),
-        Checked::Sound => charging::decide(
-            judging::judge_request(counts, counters, loaded, last, km0, acl, req),
-            narrowing::shows_narrowing(acl, new, hints),
+        Checked::Sound => gate_charge::decide(
+            gate_decision::judge_request(counts, counters, loaded, last, km0, acl, req),
+            gate_narrowing::shows_narrowing(acl, new, hints),
         ),
     }
 }
 
-// The reply to an expansion, from tables lent for reading. It charges nothing, and is public only for `cabinet` and `in_place`, which charge a permit
+// The reply to an expansion, from tables lent for reading. It charges nothing, and is public only for `cabinet` and `gate_in_place`, which charge a permit
 // and zero the group counts themselves.
 pub fn expand_reply<'a>(
     counts: &'a [u32; Ledger::GROUPS],
@@ -181,8 +181,8 @@ pub fn expand_reply<'a>(
     let fault = gate_files::expand_files(km0, acl, req, new);
     match fault {
         Checked::Refused(r) => Reply::Refuse(r),
-        Checked::Sound => charging::decide(
-            judging::judge_request(counts, counters, loaded, last, km0, acl, req),
+        Checked::Sound => gate_charge::decide(
+            gate_decision::judge_request(counts, counters, loaded, last, km0, acl, req),
             true,
         ),
     }
@@ -207,10 +207,10 @@ impl Ledger {
             new,
             hints,
         );
-        charging::charge_counters(&mut self.counters, reply, acl);
-        charging::charge_count(&mut self.counts, reply);
-        carrying::carry_counts(&mut self.counts, reply, hints);
-        self.last = charging::last_after(reply, last, request::time(req));
+        gate_charge::charge_counters(&mut self.counters, reply, acl);
+        gate_charge::charge_count(&mut self.counts, reply);
+        gate_counts::carry_counts(&mut self.counts, reply, hints);
+        self.last = gate_charge::last_after(reply, last, request_reader::time(req));
         Outcome {
             ledger: self,
             reply,
@@ -233,9 +233,9 @@ impl Ledger {
             req,
             new,
         );
-        charging::charge_counters(&mut self.counters, reply, acl);
-        carrying::zero_counts(&mut self.counts, reply);
-        self.last = charging::last_after(reply, last, request::time(req));
+        gate_charge::charge_counters(&mut self.counters, reply, acl);
+        gate_counts::zero_counts(&mut self.counts, reply);
+        self.last = gate_charge::last_after(reply, last, request_reader::time(req));
         Outcome {
             ledger: self,
             reply,

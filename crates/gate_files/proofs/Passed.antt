@@ -22,8 +22,8 @@ use Rattle.refusals.specs.Refusals.{refusalNumber}
 use Rattle.files.specs.declared.Checked.{Checked}
 use Rattle.files.specs.declared.Checked.the-variants as checked
 use Rattle.files.specs.Faults.{faultAs}
-use Rattle.request.specs.Following.{followingFault}
-use Rattle.request.specs.Parts.{Sound}
+use Rattle.request_reader.specs.Following.{followingFault}
+use Rattle.request_reader.specs.Parts.{Sound}
 
 -- A request file without fault has a record, and those that follow have no fault.
 request-begun : (test : Bytes → Bool) (s : Bytes) → requestFault test (records s) ≡ none → 64 ≤ length s

@@ -5,9 +5,9 @@ ghost use Prim.Native.Nat.{_<_, _≤_};
 ghost use lib.ListN.{length};
 use cabinet::Cabinet;
 use gate::Ledger;
-use script::Call;
-use script::Next;
-use script::prefix;
+use replay_script::Call;
+use replay_script::Next;
+use replay_script::prefix;
 
 // What is carried from call to call, and whether the run goes on.
 struct State {
@@ -32,8 +32,8 @@ fn ended(mut s: State) -> State {
 
 // Prints that the script cannot be read any further.
 fn stopped(k: u64, s: State) -> State {
-    printing::print_line(k);
-    printing::print(b"stop\n");
+    cli_printing::print_line(k);
+    cli_printing::print(b"stop\n");
     ended(s)
 }
 
@@ -50,23 +50,23 @@ fn called(
 ) -> State {
     let letter = call.letter;
     let first = call.first;
-    if gate_calls::is_ledgers(letter) {
+    if replay_gate::is_ledgers(letter) {
         let before = s.ledger;
-        s.ledger = gate_calls::ledger_call(k, before, letter, first, a, b, c, d, e);
+        s.ledger = replay_gate::ledger_call(k, before, letter, first, a, b, c, d, e);
         return s;
     }
-    if gate_calls::is_cabinets(letter) {
+    if replay_gate::is_cabinets(letter) {
         let before = s.cabinet;
         let second = call.second;
-        s.cabinet = gate_calls::cabinet_call(k, before, letter, first, second, a, b, c, d, e);
+        s.cabinet = replay_gate::cabinet_call(k, before, letter, first, second, a, b, c, d, e);
         return s;
     }
     if letter == b'D' {
-        file_calls::desk_call(k, a, b);
+        replay_files::desk_call(k, a, b);
         return s;
     }
     if letter == b'P' {
-        run_calls::prepare_call(k, a);
+        replay_runs::prepare_call(k, a);
         return s;
     }
     stopped(k, s)
@@ -87,8 +87,8 @@ fn ran(
     requires { ⌜ length (now form) ≡ 144 ⌝ }
 {
     let before = s.ledger;
-    let m = script::within(e, call.e);
-    s.ledger = run_calls::run_call(
+    let m = replay_script::within(e, call.e);
+    s.ledger = replay_runs::run_call(
         k,
         before,
         call.letter,
@@ -117,20 +117,20 @@ fn answered(
     requires { ⌜ length (now form) ≡ 144 ⌝ }
 {
     let letter = call.letter;
-    if script::is_run(letter) {
+    if replay_script::is_run(letter) {
         return ran(k, s, call, form, a, b, c, d, e);
     }
     let given = prefix(a, call.a);
-    let m = script::within(b, call.b);
-    let n = script::within(c, call.c);
-    let o = script::within(d, call.d);
-    let p = script::within(e, call.e);
+    let m = replay_script::within(b, call.b);
+    let n = replay_script::within(c, call.c);
+    let o = replay_script::within(d, call.d);
+    let p = replay_script::within(e, call.e);
     if (letter == b'S') | (letter == b'W') | (letter == b'T') {
-        file_calls::buffer_call(k, letter, call.first, call.second, given, &mut b[0..m]);
+        replay_files::buffer_call(k, letter, call.first, call.second, given, &mut b[0..m]);
         return s;
     }
     if letter == b'M' {
-        file_calls::trim_call(k, given, &b[0..m], &mut c[0..n], &mut d[0..o]);
+        replay_files::trim_call(k, given, &b[0..m], &mut c[0..n], &mut d[0..o]);
         return s;
     }
     called(k, s, call, given, &b[0..m], &c[0..n], &d[0..o], &e[0..p])
@@ -167,8 +167,8 @@ fn next_turn(
     d: &mut [u8],
     e: &mut [u8],
 ) -> State {
-    let mut form = [0u8; script::FORM];
-    let next = script::read_call(a, b, c, d, e, &mut form);
+    let mut form = [0u8; replay_script::FORM];
+    let next = replay_script::read_call(a, b, c, d, e, &mut form);
     turn(k, s, next, a, b, c, d, e, &form)
 }
 
@@ -194,10 +194,10 @@ fn run(a: &mut [u8], b: &mut [u8], c: &mut [u8], d: &mut [u8], e: &mut [u8]) {
 }
 
 fn main() {
-    let mut a = [0u8; script::MOST];
-    let mut b = [0u8; script::MOST];
-    let mut c = [0u8; script::MOST];
-    let mut d = [0u8; script::MOST];
-    let mut e = [0u8; script::MOST];
+    let mut a = [0u8; replay_script::MOST];
+    let mut b = [0u8; replay_script::MOST];
+    let mut c = [0u8; replay_script::MOST];
+    let mut d = [0u8; replay_script::MOST];
+    let mut e = [0u8; replay_script::MOST];
     run(&mut a, &mut b, &mut c, &mut d, &mut e);
 }

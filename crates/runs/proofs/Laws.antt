@@ -17,14 +17,14 @@ use Rattle.rules.specs.Ledger.{Ledger}
 use Rattle.rules.specs.Runs.{requestsIn, runLengthsFit, RunOutcome, ran, runEnd, askedInOrder}
 use Rattle.rules.specs.Prepared.{Form, formOf, sameForm}
 use Rattle.rules.proofs.Laws.{and-left, and-right, unless-passed, fault-none-every, chunks-length}
-use Rattle.asking.specs.Written.{Running, overAt, writing}
-use Rattle.asking.proofs.Loop.{writing-is}
+use Rattle.run_requests.specs.Written.{Running, overAt, writing}
+use Rattle.run_requests.proofs.Loop.{writing-is}
 use Rattle.rules.proofs.AclSizes.{acl-fits}
 use Rattle.rules.proofs.Forms.{same-form}
-use Rattle.prepared.specs.Places.{Inside, Bodies}
-use Rattle.judging.specs.Standings.{ledgerOfTables}
-use Rattle.choosing.specs.Deciding.{Ready, askSets}
-use Rattle.row.specs.declared.Seen.{Seen}
+use Rattle.run_form.specs.Places.{Inside, Bodies}
+use Rattle.gate_decision.specs.Standings.{ledgerOfTables}
+use Rattle.run_decision.specs.Deciding.{Ready, askSets}
+use Rattle.run_certificates.specs.declared.Seen.{Seen}
 use Rattle.runs.specs.Judged.{runRefused, seenFault, Known, askedBySets, runSeen, preparedSeen}
 
 -- the number of records of a file

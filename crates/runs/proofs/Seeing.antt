@@ -21,12 +21,12 @@ use Rattle.rules.specs.Prepared.{Form, preparedFault, preparedRun}
 use Rattle.rules.proofs.Laws.{fault-none-every}
 use Rattle.rules.proofs.Rows.{records-sized}
 use Rattle.rules.proofs.Sets.{set-alike}
-use Rattle.choosing.proofs.GroupSets.{sets-judge}
+use Rattle.run_decision.proofs.GroupSets.{sets-judge}
 use Rattle.rules.proofs.Asking.{Sound, ask-gate, run-sound, asked-alike}
 use Rattle.rules.proofs.AclSizes.{acl-fits}
-use Rattle.row.specs.declared.Seen.{Seen}
-use Rattle.row.specs.Rows.{certifiedIn, certifiedSet, readableOf, Saw}
-use Rattle.choosing.specs.Deciding.{admittingSet, setJudge, askSets}
+use Rattle.run_certificates.specs.declared.Seen.{Seen}
+use Rattle.run_certificates.specs.Rows.{certifiedIn, certifiedSet, readableOf, Saw}
+use Rattle.run_decision.specs.Deciding.{admittingSet, setJudge, askSets}
 use Rattle.runs.specs.Judged.{seenFault, runSeen, preparedSeen}
 
 -- ---- certified by the row, with no delegations

@@ -16,8 +16,8 @@ use Rattle.rules.specs.Runs as rules
 use Rattle.rules.specs.Prepared.{Form, formOf, sameForm}
 use Rattle.refusals.specs.Refusals.{refusalNumber}
 use Rattle.gate.specs.Outcomes.{ledgerAs}
-use Rattle.choosing.specs.Deciding.{askSets}
-use Rattle.row.specs.declared.Seen.{Seen}
+use Rattle.run_decision.specs.Deciding.{askSets}
+use Rattle.run_certificates.specs.declared.Seen.{Seen}
 use Rattle.runs.specs.declared.RunReply.{RunReply}
 use Rattle.runs.specs.declared.RunReply.the-variants.{Ran, Refused}
 use Rattle.runs.specs.declared.RunOutcome.{RunOutcome}

@@ -14,17 +14,17 @@ ghost use Rattle.rules.specs.Prepared.{preparedRun};
 ghost use Rattle.refusals.specs.Refusals.{refusalNumber};
 ghost use Rattle.files.specs.Faults.{faultAs};
 ghost use Rattle.gate.specs.Outcomes.{ledgerAs};
-ghost use Rattle.prepared.specs.Forms.{formAs};
-ghost use Rattle.choosing.specs.Deciding.{askSets};
-ghost use Rattle.row.specs.Rows.{rowAs};
+ghost use Rattle.run_form.specs.Forms.{formAs};
+ghost use Rattle.run_decision.specs.Deciding.{askSets};
+ghost use Rattle.run_certificates.specs.Rows.{rowAs};
 ghost use Rattle.runs.specs.Judged.{runOutcomeAs, runRefused, seenFault, Known, runSeen, preparedSeen};
-use choosing::Sets;
 use files::Checked;
 use gate::Ledger;
-use prepared::Prepared;
 use refusals::Refusal;
-use row::Certificate;
-use row::Seen;
+use run_certificates::Certificate;
+use run_certificates::Seen;
+use run_decision::Sets;
+use run_form::Prepared;
 
 // What a run replies: the number of its requests, or a refusal of it as a whole.
 pub enum RunReply {
@@ -63,12 +63,12 @@ fn run_known(
     ensures { λ r. ⌜ runOutcomeAs r (now (answers .exit)) ≡ runEnd (ledgerAs ledger) (now (requests .entry)) (now (answers .entry)) none (askedInOrder (askSets (now (km0 .entry)) (aclOf (now (acl .entry))) certified) (ledgerAs ledger) (records (now (requests .entry)))) ⌝ }
 {
     let mut bodies = [0usize; Ledger::GROUPS];
-    prepared::fill_bodies(&mut bodies, acl);
+    run_form::fill_bodies(&mut bodies, acl);
     let mut counts = ledger.counts;
     let uses = form.uses;
     let loaded = ledger.loaded;
     let before = ledger.last;
-    ledger.last = asking::run_records(
+    ledger.last = run_requests::run_records(
         &mut counts,
         &mut ledger.counters,
         loaded,
@@ -94,15 +94,15 @@ fn lengths_fit(most: usize, km0: &[u8], acl: &[u8], requests: &[u8]) -> bool
     ensures { λ r. ⌜ r ≡ runLengthsFit most (now (km0 .entry)) (now (acl .entry)) (now (requests .entry)) ⌝ }
 {
     files::whole(most, requests)
-        & files::whole(sizes::ACL_RECORDS, acl)
-        & (km0.len() == sizes::HASH)
+        & files::whole(record_sizes::ACL_RECORDS, acl)
+        & (km0.len() == record_sizes::HASH)
 }
 
 // Whether the answers have room.
 fn answers_fit(requests: &[u8], room: usize) -> Checked
     ensures { λ r. ⌜ faultAs r ≡ unless (leb (requestsIn (now (requests .entry)) * answerBytes) room) shortBuffer ⌝ }
 {
-    if requests.len() / Ledger::RECORD * sizes::ANSWER <= room {
+    if requests.len() / Ledger::RECORD * record_sizes::ANSWER <= room {
         return Checked::Sound;
     }
     Checked::Refused(Refusal::ShortBuffer)
@@ -124,13 +124,13 @@ fn seen_fault(
     if !lengths_fit(most, km0, acl, requests) {
         return Checked::Refused(Refusal::BadLength);
     }
-    if sizes::CERTIFICATES < count {
+    if record_sizes::CERTIFICATES < count {
         return Checked::Refused(Refusal::TooMany);
     }
     if !named {
         return Checked::Refused(Refusal::Malformed);
     }
-    files::first_fault(acl::acl_records(acl), answers_fit(requests, room))
+    files::first_fault(acl_reader::acl_records(acl), answers_fit(requests, room))
 }
 
 // A refusal of a run as a whole: the ledger stands.
@@ -155,7 +155,7 @@ fn run_made(
     requires { ⌜ seenFault runRecords (now km0) (now acl) (seen .count) (seen .named) (now requests) (length (now answers)) ≡ none ⌝ }
     ensures { λ r. ⌜ runOutcomeAs r (now (answers .exit)) ≡ runSeen (ledgerAs ledger) (now (km0 .entry)) (now (acl .entry)) seen (now (requests .entry)) (now (answers .entry)) ⌝ }
 {
-    let form = prepared::form_of(acl);
+    let form = run_form::form_of(acl);
     run_known(ledger, km0, acl, seen.certified, form, requests, answers)
 }
 
@@ -172,7 +172,7 @@ fn run_passed(
     requires { ⌜ seenFault preparedRecords (now km0) (now acl) (seen .count) (seen .named) (now requests) (length (now answers)) ≡ none ⌝ }
     ensures { λ r. ⌜ runOutcomeAs r (now (answers .exit)) ≡ preparedSeen (ledgerAs ledger) (now (km0 .entry)) (now (acl .entry)) seen (formAs form) (now (requests .entry)) (now (answers .entry)) ⌝ }
 {
-    if !prepared::same_form(form, prepared::form_of(acl)) {
+    if !run_form::same_form(form, run_form::form_of(acl)) {
         return refused(ledger, Refusal::OtherForm);
     }
     run_known(ledger, km0, acl, seen.certified, form, requests, answers)
@@ -190,7 +190,7 @@ pub fn run_judged(
     ensures { λ r. ⌜ runOutcomeAs r (now (answers .exit)) ≡ runSeen (ledgerAs ledger) (now (km0 .entry)) (now (acl .entry)) seen (now (requests .entry)) (now (answers .entry)) ⌝ }
 {
     let fault = seen_fault(
-        sizes::RUN_RECORDS,
+        record_sizes::RUN_RECORDS,
         km0,
         acl,
         seen.count,
@@ -217,7 +217,7 @@ pub fn prepared_judged(
     ensures { λ r. ⌜ runOutcomeAs r (now (answers .exit)) ≡ preparedSeen (ledgerAs ledger) (now (km0 .entry)) (now (acl .entry)) seen (formAs form) (now (requests .entry)) (now (answers .entry)) ⌝ }
 {
     let fault = seen_fault(
-        sizes::PREPARED_RECORDS,
+        record_sizes::PREPARED_RECORDS,
         km0,
         acl,
         seen.count,
@@ -243,7 +243,14 @@ pub fn run(
 ) -> RunOutcome
     ensures { λ r. ⌜ runOutcomeAs r (now (answers .exit)) ≡ run (ledgerAs ledger) (now (km0 .entry)) (now (acl .entry)) (rowAs (now (row .entry))) (now (requests .entry)) (now (answers .entry)) ⌝ }
 {
-    run_judged(ledger, km0, acl, row::read_row(acl, row), requests, answers)
+    run_judged(
+        ledger,
+        km0,
+        acl,
+        run_certificates::read_row(acl, row),
+        requests,
+        answers,
+    )
 }
 
 // A run on a prepared ACL: the form besides.
@@ -262,7 +269,7 @@ pub fn prepared_run(
         ledger,
         km0,
         acl,
-        row::read_row(acl, row),
+        run_certificates::read_row(acl, row),
         form,
         requests,
         answers,

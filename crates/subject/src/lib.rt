@@ -67,10 +67,10 @@ fn write_hashes(hashes: &[u8], buffer: &mut [u8])
     let mut at = 0;
     while at < hashes.len() {
         copy(
-            &hashes[at..at + sizes::HASH],
-            &mut buffer[at..at + sizes::HASH],
+            &hashes[at..at + record_sizes::HASH],
+            &mut buffer[at..at + record_sizes::HASH],
         );
-        at += sizes::HASH;
+        at += record_sizes::HASH;
     }
 }
 
@@ -129,9 +129,9 @@ fn hashes_length(certificate: u64) -> usize
     ensures { λ r. ⌜ r ≡ hashesBytes certificate ⌝ }
 {
     if certificate == 4 {
-        return 4 * sizes::HASH;
+        return 4 * record_sizes::HASH;
     }
-    3 * sizes::HASH
+    3 * record_sizes::HASH
 }
 
 // The total length of the subject of certificate 3, 4 or 5 under a suite, whose lengths are those of its header texts with the hashes.

@@ -9,9 +9,9 @@ use Rattle.rules.specs.Sizes.{Capacity, today}
 use Rattle.rules.specs.Basics.{Bytes, present, same, scan}
 use Rattle.rules.specs.Acl.{AclPlace, recordFaultUnder}
 use Rattle.rules.proofs.Laws.{never, and-left, and-right, unless-passed, orNext-first, orNext-next}
-use Rattle.listings.specs.Words.{lineOf}
-use Rattle.listings.specs.Decoding.{decoded}
-use Rattle.listings.specs.Listing.{linesOf, TextPlace, textStart, asWritten, goodIn, faultAtLine, pastLine, textEnd, textFault, bytesBy, readAs, readingOf, readText, readListing}
+use Rattle.text_rules.specs.Words.{lineOf}
+use Rattle.text_rules.specs.Decoding.{decoded}
+use Rattle.text_rules.specs.Listing.{linesOf, TextPlace, textStart, asWritten, goodIn, faultAtLine, pastLine, textEnd, textFault, bytesBy, readAs, readingOf, readText, readListing}
 use Rattle.theorems.specs.Capacity.{base, NoSmaller, aclKindUnder, readListingUnder}
 use Rattle.theorems.proofs.Larger.{record-more, base-smaller}
 

@@ -1,5 +1,5 @@
 -- Every theorem that documents 01 and 02 demand, once, in the papers' order: the paper's sentence, the statement in full, and where it is proved. The words of the
--- statements are in specs/ here and in crates/rules/specs/ and crates/listings/specs/. docs/PROMISES.md says each in plain English.
+-- statements are in specs/ here and in crates/rules/specs/ and crates/text_rules/specs/. docs/PROMISES.md says each in plain English.
 use Prim.Native.Nat.{_+_, _<_, _^_, _≤_, ℕ}
 use mathlib.Core.Bool.{Bool, _||_, false, true}
 use mathlib.Core.List.{List, [], _++_, _∷_, map}
@@ -31,9 +31,9 @@ use Rattle.rules.specs.Subject.{subject, subjectBuffer, subjectReply, unwritten
 use Rattle.rules.specs.Suites.{isSuite, suiteMechanism}
 use Rattle.rules.specs.Trim.{roomy, trimAclBuffer, trimFault, trimHintBuffer, trimHints, trimReply, trimmed, trimmedAcl, unread, untrimmed}
 use Rattle.rules.specs.Written.{Octets}
-use Rattle.listings.specs.Listing.{FirstBad, Octet, readAs, badLine, delivered, isRefusal, produced, readListing, readListingInto, writeListing}
-use Rattle.listings.specs.Kinds.{aclKind}
-use Rattle.listings.specs.Words.{listingMax, listingOf}
+use Rattle.text_rules.specs.Listing.{FirstBad, Octet, readAs, badLine, delivered, isRefusal, produced, readListing, readListingInto, writeListing}
+use Rattle.text_rules.specs.Kinds.{aclKind}
+use Rattle.text_rules.specs.Words.{listingMax, listingOf}
 use Rattle.theorems.proofs.CabinetWitness.{elsewhere, oneRun, otherRun, shared}
 use Rattle.theorems.proofs.Files.{IsBlobAction}
 use Rattle.theorems.proofs.Witness.{calls, exporting, grade, kept, keptBlob, keptRequest, loaded, narrowed, officers, presenting, soft, start, stocked, storing, three, useful}
@@ -72,9 +72,9 @@ use Rattle.theorems.proofs.Bounds as Bounds
 use Rattle.theorems.proofs.Monotone as Monotone
 use Rattle.theorems.proofs.Accepted as Accepted
 use Rattle.theorems.proofs.Subjects as Subjects
-use Rattle.listings.proofs.Acl as Listings
-use Rattle.listings.proofs.Entries as Entries
-use Rattle.listings.proofs.Lengths as Lengths
+use Rattle.text_rules.proofs.Acl as Listings
+use Rattle.text_rules.proofs.Entries as Entries
+use Rattle.text_rules.proofs.Lengths as Lengths
 use Rattle.theorems.proofs.Keyed as Keyed
 use Rattle.theorems.proofs.Uncertified as Uncertified
 use Rattle.theorems.proofs.Loops as Loops
@@ -439,7 +439,7 @@ read-refused = Entries.read-refused aclKind
 pub listing-bound : (file : Bytes) → Every Octet file → aclFileFault file ≡ none → length (listingOf file) ≤ listingMax
 listing-bound = Lengths.listing-bound
 
--- Request c: "What that test says is proved unchanged, and no public promise changes." It is the contract of `fields::all_zero`.
+-- Request c: "What that test says is proved unchanged, and no public promise changes." It is the contract of `record_fields::all_zero`.
 
 -- Request d: "Refusal 6 shall carry the lowest group that admits; refusal 7 the lowest that admits and is certified." It is in `RefusedExactly`, above.
 

@@ -1,6 +1,6 @@
 -- The gate and the reader of listings over the sizes of the tables: document 02, request g, "Facts about the tables should be stated over their sizes, once.
 -- Files accepted before must be read unchanged." The reader of ACLs (crates/rules/specs/Acl.antt) is defined over the sizes; the definitions here are those of
--- crates/rules/specs/Gate.antt and of crates/listings/specs/Listing.antt with the sizes as a parameter, and at today's sizes they are the same. The theorems
+-- crates/rules/specs/Gate.antt and of crates/text_rules/specs/Listing.antt with the sizes as a parameter, and at today's sizes they are the same. The theorems
 -- are in proofs/Larger.antt, proofs/CarriedOver.antt and proofs/OldListings.antt.
 use Prim.Native.Nat.{ℕ, _-_, _≤_, _<_}
 use mathlib.Core.Path.{_≡_}
@@ -17,10 +17,10 @@ use Rattle.rules.specs.Request.{Hint, requestOf, requestLaidOut, requestFault, 
 use Rattle.rules.specs.Ledger.{Ledger, cleared, recounted}
 use Rattle.rules.specs.Narrow.{narrows}
 use Rattle.rules.specs.Gate.{Answer, Outcome, judge, refused, permitted, finished, outcomeUnless, settle}
-use Rattle.listings.specs.Words.{lineOf}
-use Rattle.listings.specs.Decoding.{decoded}
-use Rattle.listings.specs.Kinds.{FileKind}
-use Rattle.listings.specs.Listing.{ListingReading, readText}
+use Rattle.text_rules.specs.Words.{lineOf}
+use Rattle.text_rules.specs.Decoding.{decoded}
+use Rattle.text_rules.specs.Kinds.{FileKind}
+use Rattle.text_rules.specs.Listing.{ListingReading, readText}
 use Rattle.theorems.specs.Demands.{Call, requesting, loading, clearing, narrowing, expanding, State, replacement, inForce}
 
 -- document 01: "at most 16 groups", "byte 5 counter 0-95"

@@ -7,23 +7,23 @@ ghost use mathlib.Core.Path.{_≡_};
 ghost use Prim.Native.Nat.{_-_, _≤_};
 ghost use lib.ListN.{length};
 ghost use Rattle.rules.specs.Sizes.{recordBytes};
-ghost use Rattle.facts.specs.Places.{Found};
-use arguments::Input;
+ghost use Rattle.bundle_facts.specs.Places.{Found};
+use cli_arguments::Input;
+use cli_printing::print;
+use cli_printing::print_number;
 use desk::Verdict;
+use desk_steps::Failure;
+use desk_steps::Step;
 use libc::STDERR_FILENO;
-use printing::print;
-use printing::print_number;
 use refusals::Refusal;
-use steps::Failure;
-use steps::Step;
 use trimming::TrimReply;
 
 // The desk's line, and its meaning.
 fn print_verdict(v: Verdict, bundle: &[u8]) {
-    let mut line = [0u8; verdicts::LINE];
-    let n = verdicts::verdict_line(v, &mut line);
-    print(arguments::prefix(&line, n));
-    messages::explain(v, bundle);
+    let mut line = [0u8; desk_verdict::LINE];
+    let n = desk_verdict::verdict_line(v, &mut line);
+    print(cli_arguments::prefix(&line, n));
+    cli_messages::explain(v, bundle);
 }
 
 // The desk's line for files that are refused, and its meaning.
@@ -33,14 +33,14 @@ fn print_refusal(why: Refusal, bundle: &[u8]) {
 
 // What a line begins with: an action's old place, and the step that it fails.
 fn print_place(group: usize, action: usize, step: Step) {
-    let mut name = [0u8; verdicts::LINE];
-    let n = verdicts::append_step(step, 0, &mut name);
+    let mut name = [0u8; desk_verdict::LINE];
+    let n = desk_verdict::append_step(step, 0, &mut name);
     print(b"group ");
     print_number(group as u64);
     print(b" action ");
     print_number(action as u64);
     print(b" fails");
-    print(arguments::prefix(&name, n));
+    print(cli_arguments::prefix(&name, n));
     print(b", removed: ");
 }
 
@@ -48,22 +48,22 @@ fn print_place(group: usize, action: usize, step: Step) {
 fn print_record(rec: &[u8])
     requires { ⌜ length (now rec) ≡ recordBytes ⌝ }
 {
-    let mut line = [0u8; lines::ROOM];
-    let n = lines::line_of(rec, &mut line);
-    print(arguments::prefix(&line, n));
+    let mut line = [0u8; text_acl_lines::ROOM];
+    let n = text_acl_lines::line_of(rec, &mut line);
+    print(cli_arguments::prefix(&line, n));
 }
 
 // What is gone of an OpPermissions action, as a record: the permissions that fail.
 fn lost_permissions(
-    places: &[usize; facts::ENTRIES],
+    places: &[usize; bundle_facts::ENTRIES],
     bundle: &[u8],
     rec: &[u8],
-) -> [u8; sizes::RECORD]
+) -> [u8; record_sizes::RECORD]
     requires { ⌜ (length (now rec) ≡ recordBytes) × Found (now bundle) (now places) ⌝ }
 {
-    let policy = facts::policy_of(places, bundle);
-    let bits = keeping::lost_bits(policy, fields::be16(rec, 4));
-    let mut lost = [0u8; sizes::RECORD];
+    let policy = bundle_facts::policy_of(places, bundle);
+    let bits = trim_records::lost_bits(policy, record_fields::be16(rec, 4));
+    let mut lost = [0u8; record_sizes::RECORD];
     lost[0] = 3;
     lost[4] = (bits / 256) as u8;
     lost[5] = (bits % 256) as u8;
@@ -71,7 +71,7 @@ fn lost_permissions(
 }
 
 // What is gone of an action that fails.
-fn print_gone(places: &[usize; facts::ENTRIES], bundle: &[u8], rec: &[u8])
+fn print_gone(places: &[usize; bundle_facts::ENTRIES], bundle: &[u8], rec: &[u8])
     requires { ⌜ (length (now rec) ≡ recordBytes) × Found (now bundle) (now places) ⌝ }
 {
     if rec[0] == 3 {
@@ -84,17 +84,17 @@ fn print_gone(places: &[usize; facts::ENTRIES], bundle: &[u8], rec: &[u8])
 
 // The record of kind 15, if it comes next after an action: it goes with it.
 fn print_file(rest: &[u8], group: usize, action: usize, step: Step) {
-    let file = groups::file_part(rest);
-    if file.len() < sizes::RECORD {
+    let file = acl_groups::file_part(rest);
+    if file.len() < record_sizes::RECORD {
         return;
     }
     print_place(group, action, step);
-    print_record(&file[0..sizes::RECORD]);
+    print_record(&file[0..record_sizes::RECORD]);
 }
 
 // What is gone of the action at a place, with the step that it fails.
 fn print_action(
-    places: &[usize; facts::ENTRIES],
+    places: &[usize; bundle_facts::ENTRIES],
     bundle: &[u8],
     acl: &[u8],
     at: usize,
@@ -103,50 +103,50 @@ fn print_action(
 )
     requires { ⌜ (recordBytes ≤ length (now acl) - at) × Found (now bundle) (now places) ⌝ }
 {
-    let rec = &acl[at..at + sizes::RECORD];
-    let failure = keeping::action_failure(places, bundle, rec);
+    let rec = &acl[at..at + record_sizes::RECORD];
+    let failure = trim_records::action_failure(places, bundle, rec);
     match failure {
         Failure::Nothing => {}
         Failure::At(s) => {
             print_place(group, action, s);
             print_gone(places, bundle, rec);
-            print_file(&acl[at + sizes::RECORD..], group, action, s);
+            print_file(&acl[at + record_sizes::RECORD..], group, action, s);
         }
     }
 }
 
 // What is gone of each action that is checked and fails a step. `next` is the number of the next group, `place` that of the next action.
-fn print_removed(places: &[usize; facts::ENTRIES], bundle: &[u8], acl: &[u8])
+fn print_removed(places: &[usize; bundle_facts::ENTRIES], bundle: &[u8], acl: &[u8])
     requires { ⌜ Found (now bundle) (now places) ⌝ }
 {
     let mut checked = false;
     let mut group = 0;
     let mut next = 0;
     let mut place = 0;
-    let mut at = groups::next_part(acl, 0);
-    while sizes::RECORD <= acl.len() - at {
+    let mut at = acl_groups::next_part(acl, 0);
+    while record_sizes::RECORD <= acl.len() - at {
         if acl[at] == 1 {
-            checked = keeping::is_checked(places, bundle, &acl[at..at + sizes::RECORD]);
+            checked = trim_records::is_checked(places, bundle, &acl[at..at + record_sizes::RECORD]);
             group = next;
             next += 1;
             place = 0;
-            at = groups::next_part(acl, at + sizes::RECORD);
+            at = acl_groups::next_part(acl, at + record_sizes::RECORD);
             continue;
         }
         if !checked {
-            at = groups::next_part(acl, at + sizes::RECORD);
+            at = acl_groups::next_part(acl, at + record_sizes::RECORD);
             continue;
         }
         print_action(places, bundle, acl, at, group, place);
         place += 1;
-        at = groups::next_part(acl, at + sizes::RECORD);
+        at = acl_groups::next_part(acl, at + record_sizes::RECORD);
     }
 }
 
 // Says what was removed, and how long the results are.
 fn print_trimmed(bundle: &[u8], acl: &[u8], new: usize, hints: usize) {
-    let mut places = [0usize; facts::ENTRIES];
-    facts::find_places(&mut places, bundle);
+    let mut places = [0usize; bundle_facts::ENTRIES];
+    bundle_facts::find_places(&mut places, bundle);
     print_removed(&places, bundle, acl);
     print(b"trimmed: ACL ");
     print_number(new as u64);
@@ -157,39 +157,39 @@ fn print_trimmed(bundle: &[u8], acl: &[u8], new: usize, hints: usize) {
 
 // Whether the hints are prepared, and HINTS is none of the other three files.
 fn prepare_hints(hints: &[u8]) -> bool {
-    if !saving::prepare(4, b"HINTS", hints) {
+    if !cli_saving::prepare(4, b"HINTS", hints) {
         return false;
     }
-    if saving::is_same(4, 1) {
+    if cli_saving::is_same(4, 1) {
         return false;
     }
-    if saving::is_same(4, 2) {
+    if cli_saving::is_same(4, 2) {
         return false;
     }
-    !saving::is_same(4, 3)
+    !cli_saving::is_same(4, 3)
 }
 
 // Whether the new ACL is prepared, and NEW is neither file that was read.
 fn prepare_new(new: &[u8]) -> bool {
-    if !saving::prepare(3, b"NEW", new) {
+    if !cli_saving::prepare(3, b"NEW", new) {
         return false;
     }
-    if saving::is_same(3, 1) {
+    if cli_saving::is_same(3, 1) {
         return false;
     }
-    !saving::is_same(3, 2)
+    !cli_saving::is_same(3, 2)
 }
 
 // Whether both files have their names: HINTS first, so that no NEW is ever without its hints.
 fn put_both() -> bool {
-    if !saving::put(4) {
-        saving::discard(3);
+    if !cli_saving::put(4) {
+        cli_saving::discard(3);
         return false;
     }
-    if !saving::put(3) {
-        arguments::print(4);
+    if !cli_saving::put(3) {
+        cli_arguments::print(4);
         io::write_all(STDERR_FILENO, b": has the new hints; ");
-        arguments::print(3);
+        cli_arguments::print(3);
         io::write_all(STDERR_FILENO, b": is unchanged\n");
         return false;
     }
@@ -202,7 +202,7 @@ fn write_both(bundle: &[u8], acl: &[u8], new: &[u8], hints: &[u8]) {
         return;
     }
     if !prepare_new(new) {
-        saving::discard(4);
+        cli_saving::discard(4);
         return;
     }
     if put_both() {
@@ -212,15 +212,15 @@ fn write_both(bundle: &[u8], acl: &[u8], new: &[u8], hints: &[u8]) {
 
 // The tool on two files. The buffers have room for any results.
 fn trim_files(bundle: &[u8], acl: &[u8]) {
-    let mut new = [0u8; sizes::ACL_RECORDS * sizes::RECORD];
-    let mut hints = [0u8; sizes::HINT_RECORDS * sizes::RECORD];
+    let mut new = [0u8; record_sizes::ACL_RECORDS * record_sizes::RECORD];
+    let mut hints = [0u8; record_sizes::HINT_RECORDS * record_sizes::RECORD];
     let reply = trimming::trim(bundle, acl, &mut new, &mut hints);
     match reply {
         TrimReply::Trimmed(m, n) => write_both(
             bundle,
             acl,
-            arguments::prefix(&new, m),
-            arguments::prefix(&hints, n),
+            cli_arguments::prefix(&new, m),
+            cli_arguments::prefix(&hints, n),
         ),
         TrimReply::Failed(s) => print_verdict(Verdict::Failed(s), bundle),
         TrimReply::Refused(why) => print_refusal(why, bundle),
@@ -230,22 +230,22 @@ fn trim_files(bundle: &[u8], acl: &[u8]) {
 // The bundle with the ACL that the second argument names. No file that fits its greatest length fills the buffer, so that a longer one is cut and
 // still too long.
 fn trim_acl(bundle: &[u8]) {
-    let mut acl = [0u8; (sizes::ACL_RECORDS + 1) * sizes::RECORD];
-    let input = arguments::read(2, b"ACL", &mut acl);
+    let mut acl = [0u8; (record_sizes::ACL_RECORDS + 1) * record_sizes::RECORD];
+    let input = cli_arguments::read(2, b"ACL", &mut acl);
     let Input::Read(n) = input else {
         return;
     };
-    trim_files(bundle, arguments::prefix(&acl, n));
+    trim_files(bundle, cli_arguments::prefix(&acl, n));
 }
 
 fn main() {
-    if !arguments::are_given(5, b"trim BUNDLE ACL NEW HINTS") {
+    if !cli_arguments::are_given(5, b"trim BUNDLE ACL NEW HINTS") {
         return;
     }
     let mut bundle = io::buffer();
-    let input = arguments::read(1, b"BUNDLE", &mut bundle);
+    let input = cli_arguments::read(1, b"BUNDLE", &mut bundle);
     let Input::Read(n) = input else {
         return;
     };
-    trim_acl(arguments::prefix(&bundle, n));
+    trim_acl(cli_arguments::prefix(&bundle, n));
 }

@@ -15,11 +15,11 @@ use Rattle.rules.specs.Written.{bigEndian}
 use Rattle.rules.proofs.Rows.{rows-lent, lentRecord, lent-record, lent-rest}
 use Rattle.rules.proofs.Trim.{trim-end, hints-group, hints-other, hints-end}
 use Rattle.subject.specs.Writing.{overwritten}
-use Rattle.keeping.specs.declared.Fate.{Fate}
-use Rattle.keeping.specs.declared.Fate.the-variants.{Copied, Fewer, Dropped}
-use Rattle.keeping.specs.Fates.{recordFate, sizeOf, leftOf, keptAfter, checkedAfter}
-use Rattle.keeping.proofs.Laws.{left-size, record-turn}
-use Rattle.hinting.proofs.Written.{Writing, writing-start, writing-room, writing-next, writing-done}
+use Rattle.trim_records.specs.declared.Fate.{Fate}
+use Rattle.trim_records.specs.declared.Fate.the-variants.{Copied, Fewer, Dropped}
+use Rattle.trim_records.specs.Fates.{recordFate, sizeOf, leftOf, keptAfter, checkedAfter}
+use Rattle.trim_records.proofs.Laws.{left-size, record-turn}
+use Rattle.trim_hints.proofs.Written.{Writing, writing-start, writing-room, writing-next, writing-done}
 use Rattle.trimming.specs.Trimming.{hintSize}
 
 -- a record as code lends it has recordBytes bytes

@@ -5,7 +5,7 @@ use Rattle.rules.specs.Sizes.{recordBytes}
 use Rattle.rules.specs.Basics.{if_then_else_, Bytes, kind}
 use Rattle.rules.specs.Trim as rules
 use Rattle.refusals.specs.Refusals.{refusalNumber}
-use Rattle.steps.specs.Steps.{stepAs}
+use Rattle.desk_steps.specs.Steps.{stepAs}
 use Rattle.trimming.specs.declared.TrimReply.{TrimReply}
 use Rattle.trimming.specs.declared.TrimReply.the-variants.{Trimmed, Failed, Refused}
 

@@ -1,5 +1,5 @@
-use Rattle.facts.specs.Found.{policyAs}
-use Rattle.evidence.specs.Given.{given}
+use Rattle.bundle_facts.specs.Found.{policyAs}
+use Rattle.desk_evidence.specs.Given.{given}
 use Rattle.rules.specs.Desk.{failureUnder}
 use Rattle.rules.proofs.Choices.{picks}
 use Rattle.desk_actions.proofs.Laws.{by-kind}

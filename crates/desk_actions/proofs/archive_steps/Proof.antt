@@ -1,4 +1,4 @@
-use Rattle.steps.proofs.Laws.{tests}
+use Rattle.desk_steps.proofs.Laws.{tests}
 use borrow.Author.Needs.{needs}
 use Rattle.desk_actions.proofs.archive_steps.Statement.{statement}
 use Rattle.desk_actions.proofs.archive_steps.Tie as tie

@@ -1,7 +1,7 @@
 use Prim.Native.Nat.{_≤_, _/_, _^_}
 use mathlib.Core.Path.{_≡_}
 use Rattle.rules.specs.Basics.{allBelow}
-use Rattle.facts.specs.Found.{policyAs}
+use Rattle.bundle_facts.specs.Found.{policyAs}
 use Rattle.desk_actions.specs.Classes.{admittedBit}
 use Rattle.desk_actions.proofs.Laws.{below-none, below-next, left-below, left-room, left-next, left-none}
 use borrow.Author.Needs.{needs}

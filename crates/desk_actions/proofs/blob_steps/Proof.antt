@@ -1,5 +1,5 @@
-use Rattle.evidence.specs.Given.{given}
-use Rattle.steps.proofs.Laws.{tests}
+use Rattle.desk_evidence.specs.Given.{given}
+use Rattle.desk_steps.proofs.Laws.{tests}
 use Rattle.desk_actions.proofs.Laws.{by-flags, fault-if, fault-unless}
 use borrow.Author.Needs.{needs}
 use Rattle.desk_actions.proofs.blob_steps.Statement.{statement}

@@ -40,21 +40,21 @@ use Rattle.gate.specs.declared.Ledger.{Ledger}
 use Rattle.gate.specs.Outcomes.{ledgerAs}
 use Rattle.gate.proofs.Ledger as L
 use Rattle.gate.proofs.Ledger.Laws as L′
-use Rattle.prepared.specs.declared.Prepared.{Prepared}
-use Rattle.prepared.specs.Forms.{formAs}
-use Rattle.prepared.proofs.Prepared as F
-use Rattle.prepared.proofs.Prepared.Laws as F′
-use Rattle.row.specs.declared.Certificate.{Certificate}
-use Rattle.row.specs.declared.Seen.{Seen}
-use Rattle.row.specs.Rows.{rowAs, Saw}
-use Rattle.row.proofs.Seen as N
-use Rattle.row.proofs.Seen.Laws as N′
-use Rattle.row.proofs.Lent.{R, Shared, copies}
-use Rattle.row.proofs.Calls.{asks}
-use Rattle.row.proofs.read_row as read-row
-use Rattle.row.proofs.read_row.Symbol as read-row-def
-use Rattle.row.proofs.read_row.Symbol.{name as #row·read-row}
-use Rattle.row.proofs.read_row.Met as read-row-thm
+use Rattle.run_form.specs.declared.Prepared.{Prepared}
+use Rattle.run_form.specs.Forms.{formAs}
+use Rattle.run_form.proofs.Prepared as F
+use Rattle.run_form.proofs.Prepared.Laws as F′
+use Rattle.run_certificates.specs.declared.Certificate.{Certificate}
+use Rattle.run_certificates.specs.declared.Seen.{Seen}
+use Rattle.run_certificates.specs.Rows.{rowAs, Saw}
+use Rattle.run_certificates.proofs.Seen as N
+use Rattle.run_certificates.proofs.Seen.Laws as N′
+use Rattle.run_certificates.proofs.Lent.{R, Shared, copies}
+use Rattle.run_certificates.proofs.Calls.{asks}
+use Rattle.run_certificates.proofs.read_row as read-row
+use Rattle.run_certificates.proofs.read_row.Symbol as read-row-def
+use Rattle.run_certificates.proofs.read_row.Symbol.{name as #row·read-row}
+use Rattle.run_certificates.proofs.read_row.Met as read-row-thm
 use Rattle.runs.specs.declared.RunOutcome.{RunOutcome}
 use Rattle.runs.specs.Judged.{runOutcomeAs, preparedSeen}
 use Rattle.runs.proofs.RunOutcome as O

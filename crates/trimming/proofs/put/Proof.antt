@@ -1,6 +1,6 @@
 use native.Mathlib.Omega.{arith}
 use mathlib.Core.Path.{refl, ap}
-use Rattle.keeping.specs.Fates.{sizeOf}
+use Rattle.trim_records.specs.Fates.{sizeOf}
 use Rattle.trimming.proofs.Laws.{put-copied, put-fewer, put-nothing}
 use borrow.Author.Needs.{needs}
 use Rattle.trimming.proofs.put.Statement.{statement}

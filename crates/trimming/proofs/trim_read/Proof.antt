@@ -1,5 +1,5 @@
 use mathlib.Core.Path.{sym, _∙_, ap}
-use Rattle.steps.specs.Steps.{failureAs}
+use Rattle.desk_steps.specs.Steps.{failureAs}
 use Rattle.trimming.proofs.Ends.{ends-step}
 use borrow.Author.Needs.{needs}
 use Rattle.trimming.proofs.trim_read.Statement.{statement}

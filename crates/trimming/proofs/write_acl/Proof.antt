@@ -3,7 +3,7 @@ use mathlib.Core.Path.{_≡_}
 use lib.ListN.{length}
 use Rattle.rules.specs.Basics.{records, joined, recordsFrom}
 use Rattle.rules.specs.Trim.{trimmedFrom, trimmedAcl}
-use Rattle.hinting.proofs.Written.{Writing, writing-kept, writing-inside}
+use Rattle.trim_hints.proofs.Written.{Writing, writing-kept, writing-inside}
 use Rattle.trimming.proofs.Laws.{acl-first, acl-room, acl-next, acl-done}
 use borrow.Author.Needs.{needs}
 use Rattle.trimming.proofs.write_acl.Statement.{statement}

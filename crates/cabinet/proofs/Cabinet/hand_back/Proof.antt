@@ -1,4 +1,4 @@
-use Rattle.charging.specs.Charges.{answerAs}
+use Rattle.gate_charge.specs.Charges.{answerAs}
 use Rattle.cabinet.proofs.Laws.{handed}
 use borrow.Author.Needs.{needs}
 use Rattle.cabinet.proofs.Cabinet.hand_back.Statement.{statement}

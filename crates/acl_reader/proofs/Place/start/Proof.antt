@@ -1,0 +1,11 @@
+use Rattle.acl_reader.specs.Places.{keysOf}
+use borrow.Author.Needs.{needs}
+use Rattle.acl_reader.proofs.Place.start.Statement.{statement}
+use Rattle.acl_reader.proofs.Place.start.Tie as tie
+
+returns : tie.Need-returns
+unfolding keysOf
+returns c = search needs
+
+pub start-spec : {M : Type 1} → statement M
+start-spec = tie.close (tie.spec returns)

@@ -1,0 +1,17 @@
+-- What a run in a slot hands back, as the definitions have it.
+use Rattle.rules.specs.Basics.{Bytes}
+use Rattle.rules.specs.Numbers.{noSlot}
+use Rattle.rules.specs.Cabinet as rules
+use Rattle.rules.specs.Runs.{refusedWhole}
+use Rattle.runs.specs.Judged.{runReplyAs}
+use Rattle.cabinet.specs.Kept.{cabinetAs}
+use Rattle.rules.specs.CabinetRuns as defined
+use Rattle.cabinet_runs.specs.declared.CabinetRan.{CabinetRan}
+
+-- with the buffer afterwards
+abbrev pub cabinetRanAs : CabinetRan → Bytes → defined.CabinetRan
+cabinetRanAs r buffer = record { reply = runReplyAs (r .reply); cabinet = cabinetAs (r .cabinet); buffer = buffer }
+
+-- a slot that there is not: cabinet and buffer stand
+abbrev pub notRun : rules.Cabinet → Bytes → defined.CabinetRan
+notRun c buffer = record { reply = refusedWhole noSlot; cabinet = c; buffer = buffer }

@@ -1,0 +1,13 @@
+-- The letters of a replay script (docs/REPLAY.md) that write into one lent buffer, by their numbers, and the definition that each stands for.
+use Prim.Native.Nat.{ℕ}
+use lib.Dec.{eqb}
+use Rattle.rules.specs.Basics.{if_then_else_, Bytes}
+use Rattle.rules.specs.Subject.{subjectBuffer}
+use Rattle.text_rules.specs.Listing.{writeListing, readListingInto}
+
+-- S, W, T: the buffer after a subject, a listing that is written, one that is read
+unfoldable pub bufferAfter : ℕ → ℕ → ℕ → Bytes → Bytes → Bytes
+bufferAfter letter first second given buffer =
+    if eqb letter 83 then subjectBuffer first second given buffer
+    else if eqb letter 87 then writeListing given buffer .buffer
+    else readListingInto given buffer .buffer

@@ -1,0 +1,118 @@
+// The calls of a replay script (docs/REPLAY.md) that run many requests on the ledger, and the one that prepares an ACL for them. Each makes the call and
+// prints its line; a run hands back the ledger, and leaves the buffer, of the definition that its letter stands for. No contract can say what is printed.
+ghost use mathlib.Core.Path.{_≡_};
+ghost use lib.ListN.{length};
+ghost use Rattle.rules.specs.Sizes.{permissionsMax};
+ghost use Rattle.gate.specs.Outcomes.{ledgerAs};
+ghost use Rattle.run_form.specs.Forms.{formAs};
+ghost use Rattle.runs.specs.Judged.{runOutcomeAs};
+ghost use Rattle.replay_runs.specs.Letters.{formBytes, usesGiven, formGiven, runAnswer};
+use cli_printing::print;
+use files::Checked;
+use gate::Ledger;
+use run_form::Prepared;
+use runs::RunOutcome;
+use runs::RunReply;
+
+// The sets of the permissions, at the front of a form's bytes.
+fn uses_of(bytes: &[u8]) -> [u64; record_sizes::PERMISSIONS]
+    requires { ⌜ length (now bytes) ≡ formBytes ⌝ }
+    ensures { λ r. ⌜ r ≡ usesGiven (now (bytes .entry)) permissionsMax ⌝ }
+{
+    let mut uses = [0u64; record_sizes::PERMISSIONS];
+    let mut i = 0;
+    while i < record_sizes::PERMISSIONS {
+        uses[i] = record_fields::be64(bytes, i * 8);
+        i += 1;
+    }
+    uses
+}
+
+// A form that is given as bytes: eighteen numbers, big-endian.
+fn form_of(bytes: &[u8]) -> Prepared
+    requires { ⌜ length (now bytes) ≡ formBytes ⌝ }
+    ensures { λ r. ⌜ formAs r ≡ formGiven (now (bytes .entry)) ⌝ }
+{
+    let uses = uses_of(bytes);
+    Prepared {
+        uses,
+        working: record_fields::be64(bytes, 128),
+        recovery: record_fields::be64(bytes, 136),
+    }
+}
+
+// The answer to a letter of a run: plain, or on a prepared ACL.
+fn answer(
+    ledger: Ledger,
+    letter: u8,
+    form: &[u8],
+    km0: &[u8],
+    acl: &[u8],
+    row: &[u8],
+    requests: &[u8],
+    answers: &mut [u8],
+) -> RunOutcome
+    requires { ⌜ length (now form) ≡ formBytes ⌝ }
+    ensures { λ r. ⌜ runOutcomeAs r (now (answers .exit)) ≡ runAnswer (ledgerAs ledger) letter (now (form .entry)) (now (km0 .entry)) (now (acl .entry)) (now (row .entry)) (now (requests .entry)) (now (answers .entry)) ⌝ }
+{
+    if letter == b'B' {
+        return replay_rows::run(ledger, km0, acl, row, requests, answers);
+    }
+    replay_rows::prepared_run(ledger, km0, acl, row, form_of(form), requests, answers)
+}
+
+fn print_ran(reply: RunReply) {
+    match reply {
+        RunReply::Ran(n) => {
+            print(b"length");
+            cli_printing::print_spaced(n);
+        }
+        RunReply::Refused(why) => cli_printing::print_refusal(refusals::number(why) as u64),
+    }
+}
+
+// A run: its reply, the whole buffer after it and the ledger handed back.
+pub fn run_call(
+    k: u64,
+    before: Ledger,
+    letter: u8,
+    form: &[u8],
+    km0: &[u8],
+    acl: &[u8],
+    row: &[u8],
+    requests: &[u8],
+    answers: &mut [u8],
+) -> Ledger
+    requires { ⌜ length (now form) ≡ formBytes ⌝ }
+    ensures { λ r. ⌜ (ledgerAs r ≡ runAnswer (ledgerAs before) letter (now (form .entry)) (now (km0 .entry)) (now (acl .entry)) (now (row .entry)) (now (requests .entry)) (now (answers .entry)) .ledger) × (now (answers .exit) ≡ runAnswer (ledgerAs before) letter (now (form .entry)) (now (km0 .entry)) (now (acl .entry)) (now (row .entry)) (now (requests .entry)) (now (answers .entry)) .buffer) ⌝ }
+{
+    let o = answer(before, letter, form, km0, acl, row, requests, answers);
+    let reply = o.reply;
+    let ledger = o.ledger;
+    cli_printing::print_line(k);
+    print_ran(reply);
+    print(b" ");
+    cli_printing::print_hex(answers);
+    cli_outcomes::print_ledger(ledger)
+}
+
+// The sets of a form, sixteen lower-case digits for each.
+fn print_form(form: Prepared) {
+    let uses = form.uses;
+    print(b"form ");
+    cli_printing::print_words(&uses);
+    cli_printing::print_word(form.working);
+    cli_printing::print_word(form.recovery);
+}
+
+// A preparation: the form, or the ACL's refusal.
+pub fn prepare_call(k: u64, acl: &[u8]) {
+    let p = run_form::prepare(acl);
+    let fault = p.fault;
+    cli_printing::print_line(k);
+    match fault {
+        Checked::Sound => print_form(p.form),
+        Checked::Refused(why) => cli_printing::print_refusal(refusals::number(why) as u64),
+    }
+    print(b"\n");
+}

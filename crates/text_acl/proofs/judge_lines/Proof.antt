@@ -1,0 +1,116 @@
+use Prim.Native.Nat.{_+_, _-_, _≤_}
+use lib.ListN.{length}
+use Rattle.rules.specs.Sizes.{limitsMax}
+use Rattle.text_rules.specs.Kinds.{aclKind}
+use Rattle.acl_reader.specs.Places.{aclPlaceAs}
+use Rattle.text_acl.proofs.Reading.{good-is, good-place, LinesJudged, judged-none, judged-bad, judged-line, judged-missing, judged-all, end-due, end-sound}
+use borrow.Author.Needs.{needs}
+use Rattle.text_acl.proofs.judge_lines.Statement.{statement}
+use Rattle.text_acl.proofs.judge_lines.Tie as tie
+
+abbrev Inv-loop : tie.InvT-loop
+Inv-loop text place₀ at₀ line₀ place at line = (at ≤ length text) × (line ≤ at + 1) × (1 ≤ line) × (place .limits ≤ limitsMax) × LinesJudged aclKind text (aclPlaceAs place) at line
+
+abbrev μ-loop : tie.MeasureT-loop
+μ-loop text place₀ at₀ line₀ place at line = length text - at
+
+start-requires : tie.Need-start-requires Inv-loop μ-loop
+start-requires c κs = search needs
+
+loop-holds : tie.Need-loop-holds Inv-loop μ-loop
+loop-holds c = (search needs, search needs, search needs, search needs, search (needs, judged-none))
+
+line-end-requires : tie.Need-line-end-requires Inv-loop μ-loop
+line-end-requires c κs = search needs
+
+sub-decoded-record : tie.Need-sub-decoded-record Inv-loop μ-loop
+sub-decoded-record c = search needs
+
+part-decoded-record-start : tie.Need-part-decoded-record-start Inv-loop μ-loop
+part-decoded-record-start c = search needs
+
+part-decoded-record-end : tie.Need-part-decoded-record-end Inv-loop μ-loop
+part-decoded-record-end c = search needs
+
+decoded-record-requires : tie.Need-decoded-record-requires Inv-loop μ-loop
+decoded-record-requires c κs = search needs
+
+slice-aggregate-read : tie.Need-slice-aggregate-read Inv-loop μ-loop
+slice-aggregate-read c = search needs
+
+read-requires : tie.Need-read-requires Inv-loop μ-loop
+read-requires c κs = search needs
+
+sub-is-good : tie.Need-sub-is-good Inv-loop μ-loop
+sub-is-good c = search needs
+
+part-is-good-start : tie.Need-part-is-good-start Inv-loop μ-loop
+part-is-good-start c = search needs
+
+part-is-good-end : tie.Need-part-is-good-end Inv-loop μ-loop
+part-is-good-end c = search needs
+
+is-good-requires : tie.Need-is-good-requires Inv-loop μ-loop
+is-good-requires c κs = search needs
+
+returns : tie.Need-returns Inv-loop μ-loop
+returns c =
+    let r = c .before .before .before in
+    let d = r .before .before in
+    let n = d .before .before in
+    let l = n .before .before in
+    let g = good-is _ (aclPlaceAs (r .read .result .place)) (r .read .result .found) _ _ _ (d .decoded-record .ensures) (search needs) (r .read .ensures .0) (c .before .is-good .ensures) in
+    judged-bad aclKind (l .before .before .before .args .text .now) (aclPlaceAs (l .loop .place)) (l .loop .at) (l .loop .line) (n .line-end .result) _ (n .line-end .ensures) g (l .loop .inv .4) (c .if1 .taken)
+
+add-line : tie.Need-add-line Inv-loop μ-loop
+add-line c = search needs
+
+loop-less : tie.Need-loop-less Inv-loop μ-loop
+loop-less c = search needs
+
+loop-again : tie.Need-loop-again Inv-loop μ-loop
+loop-again c =
+    let i = c .before in
+    let r = i .before .before .before in
+    let d = r .before .before in
+    let n = d .before .before in
+    let l = n .before .before in
+    let g = good-is _ (aclPlaceAs (r .read .result .place)) (r .read .result .found) _ _ _ (d .decoded-record .ensures) (search needs) (r .read .ensures .0) (i .before .is-good .ensures) in
+    let p = good-place _ (aclPlaceAs (r .read .result .place)) (r .read .result .found) _ _ _ (d .decoded-record .ensures) (search needs) (r .read .ensures .0) (i .before .is-good .ensures) (i .if1 .left) in
+    (search needs, search needs, search needs, search needs, judged-line aclKind (l .before .before .before .args .text .now) (aclPlaceAs (l .loop .place)) (l .loop .at) (l .loop .line) (n .line-end .result) _ (n .line-end .ensures) g (l .loop .inv .4) _ _ (i .if1 .left) (d .decoded-record .ensures) p)
+
+returns-2 : tie.Need-returns-2 Inv-loop μ-loop
+returns-2 c = search (needs, judged-missing, end-due)
+
+sub-t22 : tie.Need-sub-t22 Inv-loop μ-loop
+sub-t22 c = search needs
+
+returns-3 : tie.Need-returns-3 Inv-loop μ-loop
+returns-3 c = search (needs, judged-all, end-sound)
+
+pub judge-lines-spec : {M : Type 1} → statement M
+judge-lines-spec =
+    tie.close
+    (tie.spec
+    Inv-loop
+    μ-loop
+    start-requires
+    loop-holds
+    line-end-requires
+    sub-decoded-record
+    part-decoded-record-start
+    part-decoded-record-end
+    decoded-record-requires
+    slice-aggregate-read
+    read-requires
+    sub-is-good
+    part-is-good-start
+    part-is-good-end
+    is-good-requires
+    returns
+    add-line
+    loop-less
+    loop-again
+    returns-2
+    sub-t22
+    returns-3)
