@@ -11,10 +11,10 @@ use lib.ListN.{length, take, drop, getD, length-drop, drop-of-length-le}
 use lib.Seq.{length-take-le, drop-nil, getD-drop, getD-take}
 use lib.Dec.{eqb}
 use Rattle.rules.specs.Basics.{if_then_else_, Bytes, all, part, kind, records, recordsFrom}
-use Rattle.rules.specs.Acl.{Limit, limitOf, limitsOf, fileRuleOf, fileRuleNext, actionOf, actionsOf, Group, groupOf, groupsOf}
-use Rattle.rules.specs.Request.{blobFileOf, blobFileNext}
+use Rattle.rules.specs.Acl.{Limit, limitOf, limitsOf, blobfileRuleOf, blobfileRuleNext, actionOf, actionsOf, Group, groupOf, groupsOf}
+use Rattle.rules.specs.Request.{blobfileOf, blobfileNext}
 use Rattle.rules.proofs.Rows.{rows-at, rows-end, rows-start, rows-rest, rows-lent, kind-at, lentRecord, lent-record, lentRest, lent-rest, first, no-rows}
-use Rattle.acl_groups.specs.Parts.{passedOver, partPlace, actionPlace, groupPlace, actionFrom, actionsFrom, NextPart, NextAction, GroupAt, FromGroup, GroupBody, fileIn, blobIn, filePart, FilePart}
+use Rattle.acl_groups.specs.Parts.{passedOver, partOffset, actionOffset, groupOffset, actionFrom, actionsFrom, NextPart, NextAction, GroupAt, FromGroup, GroupBody, blobfileRuleIn, blobfileIn, blobfilePart, FilePart}
 
 or-not-left : (a b : Bool) → (a || b) ≡ false → a ≡ false
 or-not-left true b e = e
@@ -40,17 +40,17 @@ module _ (s : Bytes) (i : ℕ) (h : 64 ≤ length s - i) where
       ap actionsOf (rows-at s i h)
       ∙ rw (kind-at s i, ne-eqb (getD s i 0) 1 n, or-not-left (eqb (getD s i 0) 2) (eqb (getD s i 0) 15) p, or-not-right (eqb (getD s i 0) 2) (eqb (getD s i 0) 15) p)
 
-  place-group : getD s i 0 ≡ 1 → actionPlace (recordsFrom s i) i (length s) ≡ length s
-  unfolding actionPlace
-  place-group e = ap (λ (z : List Bytes). actionPlace z i (length s)) (rows-at s i h) ∙ rw (kind-at s i, eq-eqb (getD s i 0) 1 e)
+  place-group : getD s i 0 ≡ 1 → actionOffset (recordsFrom s i) i (length s) ≡ length s
+  unfolding actionOffset
+  place-group e = ap (λ (z : List Bytes). actionOffset z i (length s)) (rows-at s i h) ∙ rw (kind-at s i, eq-eqb (getD s i 0) 1 e)
 
-  place-action : (getD s i 0 ≡ 1 → ⊥) → passedOver (getD s i 0) ≡ false → actionPlace (recordsFrom s i) i (length s) ≡ i
-  unfolding actionPlace
-  place-action n p = ap (λ (z : List Bytes). actionPlace z i (length s)) (rows-at s i h) ∙ rw (kind-at s i, ne-eqb (getD s i 0) 1 n, p)
+  place-action : (getD s i 0 ≡ 1 → ⊥) → passedOver (getD s i 0) ≡ false → actionOffset (recordsFrom s i) i (length s) ≡ i
+  unfolding actionOffset
+  place-action n p = ap (λ (z : List Bytes). actionOffset z i (length s)) (rows-at s i h) ∙ rw (kind-at s i, ne-eqb (getD s i 0) 1 n, p)
 
-  part-stands : passedOver (getD s i 0) ≡ false → partPlace (recordsFrom s i) i ≡ i
-  unfolding partPlace
-  part-stands p = ap (λ (z : List Bytes). partPlace z i) (rows-at s i h) ∙ rw (kind-at s i, p)
+  part-stands : passedOver (getD s i 0) ≡ false → partOffset (recordsFrom s i) i ≡ i
+  unfolding partOffset
+  part-stands p = ap (λ (z : List Bytes). partOffset z i) (rows-at s i h) ∙ rw (kind-at s i, p)
 
   module _ (p : passedOver (getD s i 0) ≡ true) where
     pub acts-over : actionsOf (recordsFrom s i) ≡ actionsOf (recordsFrom s (i + 64))
@@ -58,7 +58,7 @@ module _ (s : Bytes) (i : ℕ) (h : 64 ≤ length s - i) where
     acts-over =
         ap actionsOf (rows-at s i h)
         ∙ rw (kind-at s i, ne-eqb (getD s i 0) 1 (over-no-group (getD s i 0) p))
-        (pick (eqb (getD s i 0) 2) (eqb (getD s i 0) 15) (actionsOf (recordsFrom s (i + 64))) (actionOf (part i 64 s) (fileRuleNext (recordsFrom s (i + 64))) ∷ actionsOf (recordsFrom s (i + 64))) p)
+        (pick (eqb (getD s i 0) 2) (eqb (getD s i 0) 15) (actionsOf (recordsFrom s (i + 64))) (actionOf (part i 64 s) (blobfileRuleNext (recordsFrom s (i + 64))) ∷ actionsOf (recordsFrom s (i + 64))) p)
       where
         pick : {A : Type 0} (a b : Bool) (x y : A) → (a || b) ≡ true → (if a then x else if b then x else y) ≡ x
         pick true b x y e = refl
@@ -69,21 +69,21 @@ module _ (s : Bytes) (i : ℕ) (h : 64 ≤ length s - i) where
     unfolding groupsOf
     groups-over = ap groupsOf (rows-at s i h) ∙ rw (kind-at s i, ne-eqb (getD s i 0) 1 (over-no-group (getD s i 0) p))
 
-    place-over : actionPlace (recordsFrom s i) i (length s) ≡ actionPlace (recordsFrom s (i + 64)) (i + 64) (length s)
-    unfolding actionPlace
+    place-over : actionOffset (recordsFrom s i) i (length s) ≡ actionOffset (recordsFrom s (i + 64)) (i + 64) (length s)
+    unfolding actionOffset
     place-over =
-        ap (λ (z : List Bytes). actionPlace z i (length s)) (rows-at s i h)
+        ap (λ (z : List Bytes). actionOffset z i (length s)) (rows-at s i h)
         ∙ rw (kind-at s i, ne-eqb (getD s i 0) 1 (over-no-group (getD s i 0) p), p)
 
-    part-over : partPlace (recordsFrom s i) i ≡ partPlace (recordsFrom s (i + 64)) (i + 64)
-    unfolding partPlace
-    part-over = ap (λ (z : List Bytes). partPlace z i) (rows-at s i h) ∙ rw (kind-at s i, p)
+    part-over : partOffset (recordsFrom s i) i ≡ partOffset (recordsFrom s (i + 64)) (i + 64)
+    unfolding partOffset
+    part-over = ap (λ (z : List Bytes). partOffset z i) (rows-at s i h) ∙ rw (kind-at s i, p)
 
 -- A loop up to the next group or action: what has been passed over so far changes nothing.
 pub record Passed (s : Bytes) (at i : ℕ) : Type 0 where
   pub later : at ≤ i
-  pub exact : partPlace (recordsFrom s i) i ≡ partPlace (recordsFrom s at) at
-  pub place : actionPlace (recordsFrom s i) i (length s) ≡ actionPlace (recordsFrom s at) at (length s)
+  pub exact : partOffset (recordsFrom s i) i ≡ partOffset (recordsFrom s at) at
+  pub place : actionOffset (recordsFrom s i) i (length s) ≡ actionOffset (recordsFrom s at) at (length s)
   pub actions : actionsOf (recordsFrom s i) ≡ actionsOf (recordsFrom s at)
   pub groups : groupsOf (recordsFrom s i) ≡ groupsOf (recordsFrom s at)
 
@@ -118,10 +118,10 @@ module _ (s : Bytes) (at i : ℕ) (m : Passed s at i) where
       }
 
   pub part-none : i ≤ length s → length s - i < 64 → NextPart s at i
-  unfolding recordsFrom partPlace
+  unfolding recordsFrom partOffset
   part-none l h =
       record {
-        exact = sym (ap (λ (z : List Bytes). partPlace z i) (rows-end s i h)) ∙ m .exact;
+        exact = sym (ap (λ (z : List Bytes). partOffset z i) (rows-end s i h)) ∙ m .exact;
         place = m .place;
         actions = m .actions;
         groups = m .groups;
@@ -136,7 +136,7 @@ unfolding actionsOf
 no-actions-left s = ap actionsOf (no-rows (drop (length s) s) (omega (arith, length-drop (length s) s)))
 
 module _ (s : Bytes) (at i : ℕ) (e : NextPart s at i) where
-  at-end : actionPlace (recordsFrom s i) i (length s) ≡ length s → actionsOf (recordsFrom s i) ≡ [] → NextAction s at (length s)
+  at-end : actionOffset (recordsFrom s i) i (length s) ≡ length s → actionsOf (recordsFrom s i) ≡ [] → NextAction s at (length s)
   unfolding recordsFrom
   at-end p n =
       let l = e .later in
@@ -150,8 +150,8 @@ module _ (s : Bytes) (at i : ℕ) (e : NextPart s at i) where
       }
 
   pub next-none : length s - i < 64 → NextAction s at (length s)
-  unfolding actionPlace actionsOf
-  next-none h = at-end (ap (λ (z : List Bytes). actionPlace z i (length s)) (rows-end s i h)) (ap actionsOf (rows-end s i h))
+  unfolding actionOffset actionsOf
+  next-none h = at-end (ap (λ (z : List Bytes). actionOffset z i (length s)) (rows-end s i h)) (ap actionsOf (rows-end s i h))
 
   pub next-group : 64 ≤ length s - i → getD s i 0 ≡ 1 → NextAction s at (length s)
   next-group h k = at-end (place-group s i h k) (acts-group s i h k)
@@ -184,32 +184,32 @@ module _ (s : Bytes) (at left : ℕ) (x : List Group) (inv : drop left (groupsOf
       sym (ap (λ (z : List Bytes). drop left (groupsOf z)) (rows-at s at h) ∙ rw (kind-at s at, eq-eqb (getD s at 0) 1 e) (drop-more left _ _ n)) ∙ inv
 
 -- the offset of a group
-module _ (s : Bytes) (at left x : ℕ) (inv : groupPlace left (recordsFrom s at) at (length s) ≡ x) where
-  pub place-skip : 64 ≤ length s - at → (getD s at 0 ≡ 1 → ⊥) → groupPlace left (recordsFrom s (at + 64)) (at + 64) (length s) ≡ x
-  unfolding groupPlace
-  place-skip h n = sym (ap (λ (z : List Bytes). groupPlace left z at (length s)) (rows-at s at h) ∙ rw (kind-at s at, ne-eqb (getD s at 0) 1 n)) ∙ inv
+module _ (s : Bytes) (at left x : ℕ) (inv : groupOffset left (recordsFrom s at) at (length s) ≡ x) where
+  pub place-skip : 64 ≤ length s - at → (getD s at 0 ≡ 1 → ⊥) → groupOffset left (recordsFrom s (at + 64)) (at + 64) (length s) ≡ x
+  unfolding groupOffset
+  place-skip h n = sym (ap (λ (z : List Bytes). groupOffset left z at (length s)) (rows-at s at h) ∙ rw (kind-at s at, ne-eqb (getD s at 0) 1 n)) ∙ inv
 
-  pub place-next : 64 ≤ length s - at → getD s at 0 ≡ 1 → (left ≡ 0 → ⊥) → groupPlace (left - 1) (recordsFrom s (at + 64)) (at + 64) (length s) ≡ x
-  unfolding groupPlace
+  pub place-next : 64 ≤ length s - at → getD s at 0 ≡ 1 → (left ≡ 0 → ⊥) → groupOffset (left - 1) (recordsFrom s (at + 64)) (at + 64) (length s) ≡ x
+  unfolding groupOffset
   place-next h e n =
-      sym (ap (λ (z : List Bytes). groupPlace left z at (length s)) (rows-at s at h) ∙ rw (kind-at s at, eq-eqb (getD s at 0) 1 e, ne-eqb left 0 n)) ∙ inv
+      sym (ap (λ (z : List Bytes). groupOffset left z at (length s)) (rows-at s at h) ∙ rw (kind-at s at, eq-eqb (getD s at 0) 1 e, ne-eqb left 0 n)) ∙ inv
 
   pub place-here : 64 ≤ length s - at → getD s at 0 ≡ 1 → left ≡ 0 → at ≡ x
-  unfolding groupPlace
+  unfolding groupOffset
   place-here h e n =
-      sym (ap (λ (z : List Bytes). groupPlace left z at (length s)) (rows-at s at h) ∙ rw (kind-at s at, eq-eqb (getD s at 0) 1 e, eq-eqb left 0 n)) ∙ inv
+      sym (ap (λ (z : List Bytes). groupOffset left z at (length s)) (rows-at s at h) ∙ rw (kind-at s at, eq-eqb (getD s at 0) 1 e, eq-eqb left 0 n)) ∙ inv
 
   pub place-none : length s - at < 64 → length s ≡ x
-  unfolding groupPlace
-  place-none h = sym (ap (λ (z : List Bytes). groupPlace left z at (length s)) (rows-end s at h)) ∙ inv
+  unfolding groupOffset
+  place-none h = sym (ap (λ (z : List Bytes). groupOffset left z at (length s)) (rows-end s at h)) ∙ inv
 
 -- what was found
 module _ (s : Bytes) (from g at left : ℕ) (inv : drop left (groupsOf (recordsFrom s at)) ≡ drop g (groupsOf (records (drop from s)))) where
-  pub found-here : at ≤ length s → getD s at 0 ≡ 1 → left ≡ 0 → at ≡ groupPlace g (records (drop from s)) from (length s) → GroupAt s from g at
+  pub found-here : at ≤ length s → getD s at 0 ≡ 1 → left ≡ 0 → at ≡ groupOffset g (records (drop from s)) from (length s) → GroupAt s from g at
   unfolding recordsFrom
   found-here l k e p = record { exact = p; same = rw e at inv; inside = l; head = λ h. k }
 
-  pub found-none : length s - at < 64 → length s ≡ groupPlace g (records (drop from s)) from (length s) → GroupAt s from g (length s)
+  pub found-none : length s - at < 64 → length s ≡ groupOffset g (records (drop from s)) from (length s) → GroupAt s from g (length s)
   unfolding groupsOf
   found-none h p =
       let z : groupsOf (records (drop (length s) s)) ≡ [] = ap groupsOf (no-rows (drop (length s) s) (omega (arith, length-drop (length s) s))) in
@@ -248,7 +248,7 @@ module _ (acl : Bytes) (g : ℕ) (r : Bytes) (e : FromGroup acl g r) where
       record { exact = lent-rest r 64 ∙ ap (drop 64) (e .exact); limits = rw (b, z) }
 
 -- an action, as code lends its record and the records that follow it
-pub lent-action : (s : Bytes) (at : ℕ) → actionOf (lentRecord s at) (fileRuleNext (records (lentRest s (at + 64)))) ≡ actionFrom s at
+pub lent-action : (s : Bytes) (at : ℕ) → actionOf (lentRecord s at) (blobfileRuleNext (records (lentRest s (at + 64)))) ≡ actionFrom s at
 unfolding recordsFrom
 lent-action s at = rw (lent-record s at, rows-rest s (at + 64))
 
@@ -293,43 +293,43 @@ module _ (p : Limit → Bool) (s : Bytes) (at : ℕ) (x : Bool) (inv : all p (li
   all-done h = sym (ap (all p) (limits-end s at h)) ∙ inv
 
 -- The record of kind 15 that comes next, as a part.
-file-some : (r : Bytes) → 0 < length r → (fileIn r ≡ some (fileRuleOf r)) × (blobIn r ≡ some (blobFileOf r))
+file-some : (r : Bytes) → 0 < length r → (blobfileRuleIn r ≡ some (blobfileRuleOf r)) × (blobfileIn r ≡ some (blobfileOf r))
 file-some [] h = absurd (omega arith)
 file-some (b ∷ bs) h = (refl, refl)
 
 module _ (rest : Bytes) where
   pub file-short : length rest < 64 → FilePart rest []
-  unfolding fileRuleNext blobFileNext filePart
+  unfolding blobfileRuleNext blobfileNext blobfilePart
   file-short h =
       let n : records rest ≡ [] = no-rows rest h in
       record {
-        exact = sym (ap filePart n);
-        file = sym (ap fileRuleNext n);
-        blob = sym (ap blobFileNext n);
+        exact = sym (ap blobfilePart n);
+        file = sym (ap blobfileRuleNext n);
+        blob = sym (ap blobfileNext n);
         whole = λ z. absurd (z refl);
       }
 
   module _ (h : 64 ≤ length rest) where
     pub file-other : (getD rest 0 0 ≡ 15 → ⊥) → FilePart rest []
-    unfolding fileRuleNext blobFileNext filePart
+    unfolding blobfileRuleNext blobfileNext blobfilePart
     file-other n =
         let k : eqb (kind (take 64 rest)) 15 ≡ false = ne-eqb (kind (take 64 rest)) 15 (λ e. n (sym (getD-take 64 rest 0 0 (omega arith)) ∙ e)) in
         record {
-          exact = sym (ap filePart (first rest h) ∙ rw k);
-          file = sym (ap fileRuleNext (first rest h) ∙ rw k);
-          blob = sym (ap blobFileNext (first rest h) ∙ rw k);
+          exact = sym (ap blobfilePart (first rest h) ∙ rw k);
+          file = sym (ap blobfileRuleNext (first rest h) ∙ rw k);
+          blob = sym (ap blobfileNext (first rest h) ∙ rw k);
           whole = λ z. absurd (z refl);
         }
 
     pub file-found : getD rest 0 0 ≡ 15 → FilePart rest (take 64 rest)
-    unfolding fileRuleNext blobFileNext filePart
+    unfolding blobfileRuleNext blobfileNext blobfilePart
     file-found e =
         let k : eqb (kind (take 64 rest)) 15 ≡ true = eq-eqb (kind (take 64 rest)) 15 (getD-take 64 rest 0 0 (omega arith) ∙ e) in
         let l : length (take 64 rest) ≡ 64 = length-take-le 64 rest h in
         let b = file-some (take 64 rest) (omega (arith, l)) in
         record {
-          exact = sym (ap filePart (first rest h) ∙ rw k);
-          file = b .0 ∙ sym (ap fileRuleNext (first rest h) ∙ rw k);
-          blob = b .1 ∙ sym (ap blobFileNext (first rest h) ∙ rw k);
+          exact = sym (ap blobfilePart (first rest h) ∙ rw k);
+          file = b .0 ∙ sym (ap blobfileRuleNext (first rest h) ∙ rw k);
+          blob = b .1 ∙ sym (ap blobfileNext (first rest h) ∙ rw k);
           whole = λ z. l;
         }

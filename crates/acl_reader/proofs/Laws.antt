@@ -12,13 +12,13 @@ use borrow.Author.Tests.{eq-eqb, ne-eqb, ltb-true, not-true, not-false}
 use Rattle.rules.specs.Sizes.{groupsMax, limitsMax, actionsMax}
 use Rattle.rules.specs.Basics.{Bytes, any, kind, flag, orNext, firstFault, scan, recordsFrom}
 use Rattle.rules.specs.Numbers.{malformed, tooMany, openArchive}
-use Rattle.rules.specs.Acl.{AclPlace, aclStart, among, limitKey, limitInPlace, inPlace, hasRoomUnder, hasRoom, keyed, recordFaultUnder, aclRecordFault, limitAdded, groupBegun, actionAdded, afterRecord, aclEnd, aclFaultUnder, aclFault}
+use Rattle.rules.specs.Acl.{AclState, aclStart, among, limitKey, limitInPlace, inPlace, hasRoomUnder, hasRoom, keyed, recordFaultUnder, aclRecordFault, limitAdded, groupBegun, actionAdded, afterRecord, aclEnd, aclFaultUnder, aclFault}
 use Rattle.rules.proofs.Rows.{rows-lent, rows-end, lentRecord}
 use Rattle.files.specs.declared.Checked.{Checked}
 use Rattle.files.specs.declared.Checked.the-variants.{Sound, Refused}
 use Rattle.files.specs.Faults.{faultAs}
-use Rattle.acl_reader.specs.declared.Place.{Place}
-use Rattle.acl_reader.specs.Places.{keysOf, aclPlaceAs, begunWith, addedWith, AclReading, stopped, on, readPast, reading, checkedAs}
+use Rattle.acl_reader.specs.declared.State.{State}
+use Rattle.acl_reader.specs.Places.{keysOf, aclStateAs, begunWith, addedWith, AclReading, stopped, on, readPast, reading, checkedAs}
 
 -- A key among some, by a loop: what is left has the whole's answer.
 any-last : {A : Type 0} (t : A → Bool) (xs : List A) (x : A) → any t (xs ++ (x ∷ [])) ≡ (t x || any t xs)
@@ -102,12 +102,12 @@ key-added n key keys h l =
     let q : (keys % 281474976710656 * 65536 + key) % 65536 ≡ key = omega arith in
     rw (e, p, q, low-keys n keys h)
 
-pub place-added : (p : Place) (key : ℕ) → p .limits < limitsMax → key < 65536
-    → aclPlaceAs (record { groups = p .groups; opened = p .opened; limits = p .limits + 1; actions = p .actions; keys = p .keys % 281474976710656 * 65536 + key; «file_due» = p .«file_due» }) ≡ limitAdded (aclPlaceAs p) key
+pub place-added : (p : State) (key : ℕ) → p .limits < limitsMax → key < 65536
+    → aclStateAs (record { groups = p .groups; opened = p .opened; limits = p .limits + 1; actions = p .actions; keys = p .keys % 281474976710656 * 65536 + key; «file_due» = p .«file_due» }) ≡ limitAdded (aclStateAs p) key
 place-added p key h l = ap (λ (l : List ℕ). record { groups = p .groups; isOpen = p .opened; limits = l; actions = p .actions; fileDue = p .«file_due» }) (key-added (p .limits) key (p .keys) h l)
 
 -- The fault of a record by its three tests, `if !f(..)`.
-module _ (s : AclPlace) (r : Bytes) (a : Bool) (e : a ≡ inPlace s r) where
+module _ (s : AclState) (r : Bytes) (a : Bool) (e : a ≡ inPlace s r) where
   pub acl-bad : not a ≡ true → aclRecordFault s r ≡ some malformed
   unfolding recordFaultUnder firstFault
   acl-bad h = rw (sym e ∙ not-true a h)
@@ -127,21 +127,21 @@ module _ (s : AclPlace) (r : Bytes) (a : Bool) (e : a ≡ inPlace s r) where
       acl-sound l = rw (sym e ∙ not-false a h, sym d ∙ not-false b k, sym f ∙ not-false c l)
 
 -- a group begun, and an action added, by the flag that the code read
-pub group-begun : (s t : AclPlace) (r : Bytes) (b : Bool) → b ≡ flag 0 r → t ≡ begunWith s (not b) → t ≡ groupBegun s r
+pub group-begun : (s t : AclState) (r : Bytes) (b : Bool) → b ≡ flag 0 r → t ≡ begunWith s (not b) → t ≡ groupBegun s r
 group-begun s t r b e d = d ∙ ap (λ (x : Bool). begunWith s (not x)) e
 
-pub action-added : (s t : AclPlace) (r : Bytes) (b : Bool) → b ≡ flag 6 r → t ≡ addedWith s b → t ≡ actionAdded s r
+pub action-added : (s t : AclState) (r : Bytes) (b : Bool) → b ≡ flag 6 r → t ≡ addedWith s b → t ≡ actionAdded s r
 action-added s t r b e d = d ∙ ap (addedWith s) e
 
 -- the end: a record of kind 15 is missing or not
-pub end-due : (s : AclPlace) → s .fileDue ≡ true → some malformed ≡ aclEnd s
+pub end-due : (s : AclState) → s .fileDue ≡ true → some malformed ≡ aclEnd s
 end-due s e = rw e
 
-pub end-sound : (s : AclPlace) → s .fileDue ≡ false → none ≡ aclEnd s
+pub end-sound : (s : AclState) → s .fileDue ≡ false → none ≡ aclEnd s
 end-sound s e = rw e
 
 -- what room says of each kind
-module _ (p : Place) (r : Bytes) (h : hasRoom (aclPlaceAs p) r ≡ true) where
+module _ (p : State) (r : Bytes) (h : hasRoom (aclStateAs p) r ≡ true) where
   pub group-fits : kind r ≡ 1 → p .groups < groupsMax
   unfolding hasRoomUnder
   group-fits e = ltb-true (p .groups) groupsMax (rw (eq-eqb (kind r) 1 e) at h)
@@ -157,11 +157,11 @@ module _ (p : Place) (r : Bytes) (h : hasRoom (aclPlaceAs p) r ≡ true) where
       ltb-true (p .actions) actionsMax (rw (ne-eqb (kind r) 1 n, ne-eqb (kind r) 2 m, ne-eqb (kind r) 15 k) at h)
 
 -- a limit's key, as `be16` read it
-module _ (s : AclPlace) (r : Bytes) (key : ℕ) (e : key ≡ limitKey r) where
+module _ (s : AclState) (r : Bytes) (key : ℕ) (e : key ≡ limitKey r) where
   pub limit-placed : (b : Bool) → b ≡ limitInPlace s key → b ≡ limitInPlace s (limitKey r)
   limit-placed b q = q ∙ ap (limitInPlace s) e
 
-  pub limit-next : (t : AclPlace) → t ≡ limitAdded s key → t ≡ limitAdded s (limitKey r)
+  pub limit-next : (t : AclState) → t ≡ limitAdded s key → t ≡ limitAdded s (limitKey r)
   limit-next t p = p ∙ ap (limitAdded s) e
 
 -- a call that answered yes
@@ -173,7 +173,7 @@ pub action-placed : (r t g : Bool) → r ≡ t → not r ≡ false → g ≡ (t 
 action-placed r t g e h = sym (ap (λ (x : Bool). x && g) (sym e ∙ not-false r h))
 
 -- The turns of the loop over records: what is left is read as the whole.
-module _ (s : Bytes) (at : ℕ) (st : AclPlace) (x : AclReading) (inv : reading st (recordsFrom s at) ≡ x) where
+module _ (s : Bytes) (at : ℕ) (st : AclState) (x : AclReading) (inv : reading st (recordsFrom s at) ≡ x) where
   read-step : 64 ≤ length s - at → readPast (aclRecordFault st (lentRecord s at)) (reading (afterRecord st (lentRecord s at)) (recordsFrom s (at + 64))) ≡ x
   unfolding reading
   read-step h = sym (ap (reading st) (rows-lent s at h)) ∙ inv
@@ -181,8 +181,8 @@ module _ (s : Bytes) (at : ℕ) (st : AclPlace) (x : AclReading) (inv : reading 
   pub read-stop : (f : ℕ) → 64 ≤ length s - at → aclRecordFault st (lentRecord s at) ≡ some f → stopped f ≡ x
   read-stop f h e = rw e at (read-step h)
 
-  pub read-next : (t : AclPlace) → 64 ≤ length s - at → aclRecordFault st (lentRecord s at) ≡ none → t ≡ afterRecord st (lentRecord s at) → reading t (recordsFrom s (at + 64)) ≡ x
-  read-next t h e d = ap (λ (z : AclPlace). reading z (recordsFrom s (at + 64))) d ∙ rw e at (read-step h)
+  pub read-next : (t : AclState) → 64 ≤ length s - at → aclRecordFault st (lentRecord s at) ≡ none → t ≡ afterRecord st (lentRecord s at) → reading t (recordsFrom s (at + 64)) ≡ x
+  read-next t h e d = ap (λ (z : AclState). reading z (recordsFrom s (at + 64))) d ∙ rw e at (read-step h)
 
   pub read-done : length s - at < 64 → on st ≡ x
   unfolding reading
@@ -193,7 +193,7 @@ abbrev ended : AclReading → Option ℕ
 ended (stopped f) = some f
 ended (on s) = aclEnd s
 
-scan-is : (s : AclPlace) (rs : List Bytes) → scan aclRecordFault afterRecord aclEnd s rs ≡ ended (reading s rs)
+scan-is : (s : AclState) (rs : List Bytes) → scan aclRecordFault afterRecord aclEnd s rs ≡ ended (reading s rs)
 unfolding scan reading
 scan-is s [] = refl
 scan-is s (r ∷ rs) = pick (aclRecordFault s r) (scan-is (afterRecord s r) rs)
@@ -203,11 +203,11 @@ scan-is s (r ∷ rs) = pick (aclRecordFault s r) (scan-is (afterRecord s r) rs)
     pick none e = e
     pick (some n) e = refl
 
-found-is : (q : AclPlace) (f : Checked) → orNext (faultAs f) (aclEnd q) ≡ ended (checkedAs q f)
+found-is : (q : AclState) (f : Checked) → orNext (faultAs f) (aclEnd q) ≡ ended (checkedAs q f)
 found-is q Sound = refl
 found-is q (Refused r) = refl
 
-pub fault-read : (s q : AclPlace) (f : Checked) (rs : List Bytes) (x e : Option ℕ) → s ≡ aclStart → checkedAs q f ≡ reading s rs → e ≡ aclEnd q → x ≡ orNext (faultAs f) e → x ≡ aclFault rs
+pub fault-read : (s q : AclState) (f : Checked) (rs : List Bytes) (x e : Option ℕ) → s ≡ aclStart → checkedAs q f ≡ reading s rs → e ≡ aclEnd q → x ≡ orNext (faultAs f) e → x ≡ aclFault rs
 unfolding aclFaultUnder
 fault-read s q f rs x e b i d z =
-    z ∙ ap (orNext (faultAs f)) d ∙ found-is q f ∙ ap ended (i ∙ ap (λ (y : AclPlace). reading y rs) b) ∙ sym (scan-is aclStart rs)
+    z ∙ ap (orNext (faultAs f)) d ∙ found-is q f ∙ ap ended (i ∙ ap (λ (y : AclState). reading y rs) b) ∙ sym (scan-is aclStart rs)

@@ -5,17 +5,17 @@ ghost use Prim.Native.Nat.{_≤_, _<_};
 ghost use lib.ListN.{length};
 ghost use Rattle.rules.specs.Sizes.{recordBytes, groupsMax, limitsMax, actionsMax};
 ghost use Rattle.rules.specs.Basics.{records};
-ghost use Rattle.rules.specs.Acl.{aclStart, among, limitInPlace, actionLaidOut, fileRecord, placedByKind, inPlace, hasRoom, keyed, limitAdded, filePassed, afterRecord, aclEnd, aclFault, aclFileFault};
+ghost use Rattle.rules.specs.Acl.{aclStart, among, limitInPlace, actionLaidOut, blobfileRecord, placedByKind, inPlace, hasRoom, keyed, limitAdded, blobfilePassed, afterRecord, aclEnd, aclFault, aclFileFault};
 ghost use Rattle.refusals.specs.Refusals.{refusalNumber};
 ghost use Rattle.files.specs.Faults.{faultAs};
-ghost use Rattle.acl_reader.specs.Places.{keysOf, aclPlaceAs, begunWith, addedWith, stopped, reading, readingAs, Kept};
+ghost use Rattle.acl_reader.specs.Places.{keysOf, aclStateAs, begunWith, addedWith, stopped, reading, readingAs, Kept};
 use files::Checked;
 use refusals::Refusal;
 
 // The reader's state: groups begun; of the last group whether it is open (it has no certifier), the limits, the actions; whether a record of kind 15 must
 // come next; and the sort and counter of each limit, sixteen bits for each, the last limit's lowest: one number, which stays in a register, where a row would be
 // stored by two bytes and loaded again by eight. The fields leave no gap, for a gap's bytes would be carried along with them.
-pub struct Place {
+pub struct State {
     pub groups: u16,
     pub limits: u16,
     pub actions: u16,
@@ -26,7 +26,7 @@ pub struct Place {
 
 // The result of reading records: the first fault, or none and the state after them.
 pub struct Read {
-    pub place: Place,
+    pub place: State,
     pub found: Checked,
 }
 
@@ -65,16 +65,16 @@ fn action(rec: &[u8]) -> bool
 }
 
 // Whether a record is a well-formed one of kind 15.
-fn file_record(rec: &[u8]) -> bool
+fn blobfile_record(rec: &[u8]) -> bool
     requires { ⌜ length (now rec) ≡ recordBytes ⌝ }
-    ensures { λ r. ⌜ r ≡ fileRecord (now (rec .entry)) ⌝ }
+    ensures { λ r. ⌜ r ≡ blobfileRecord (now (rec .entry)) ⌝ }
 {
     (rec[0] == 15) & record_layout::file(rec)
 }
 
-impl Place {
+impl State {
     pub fn start() -> Self
-        ensures { λ r. ⌜ (aclPlaceAs r ≡ aclStart) × (r .limits ≤ limitsMax) ⌝ }
+        ensures { λ r. ⌜ (aclStateAs r ≡ aclStart) × (r .limits ≤ limitsMax) ⌝ }
     {
         Self {
             groups: 0,
@@ -89,7 +89,7 @@ impl Place {
     // Whether a limit of this sort and counter may come next.
     fn takes_limit(self, key: u16) -> bool
         requires { ⌜ self .limits ≤ limitsMax ⌝ }
-        ensures { λ r. ⌜ r ≡ limitInPlace (aclPlaceAs self) key ⌝ }
+        ensures { λ r. ⌜ r ≡ limitInPlace (aclStateAs self) key ⌝ }
     {
         if !(0 < self.groups) {
             return false;
@@ -103,10 +103,10 @@ impl Place {
     // Whether a record is well formed and may come next: kind 15 if the last action announced it, and only then.
     fn in_place(self, rec: &[u8]) -> bool
         requires { ⌜ (self .limits ≤ limitsMax) × (length (now rec) ≡ recordBytes) ⌝ }
-        ensures { λ r. ⌜ r ≡ inPlace (aclPlaceAs self) (now (rec .entry)) ⌝ }
+        ensures { λ r. ⌜ r ≡ inPlace (aclStateAs self) (now (rec .entry)) ⌝ }
     {
         if self.file_due {
-            return file_record(rec);
+            return blobfile_record(rec);
         }
         self.placed_by_kind(rec)
     }
@@ -114,7 +114,7 @@ impl Place {
     // Whether a group, a limit or an action is well formed and may come next.
     fn placed_by_kind(self, rec: &[u8]) -> bool
         requires { ⌜ (self .limits ≤ limitsMax) × (length (now rec) ≡ recordBytes) ⌝ }
-        ensures { λ r. ⌜ r ≡ placedByKind (aclPlaceAs self) (now (rec .entry)) ⌝ }
+        ensures { λ r. ⌜ r ≡ placedByKind (aclStateAs self) (now (rec .entry)) ⌝ }
     {
         let kind = rec[0];
         if kind == 1 {
@@ -135,7 +135,7 @@ impl Place {
     // Whether there is room for one more of a record's kind.
     fn has_room(self, rec: &[u8]) -> bool
         requires { ⌜ (self .limits ≤ limitsMax) × (length (now rec) ≡ recordBytes) ⌝ }
-        ensures { λ r. ⌜ r ≡ hasRoom (aclPlaceAs self) (now (rec .entry)) ⌝ }
+        ensures { λ r. ⌜ r ≡ hasRoom (aclStateAs self) (now (rec .entry)) ⌝ }
     {
         let kind = rec[0];
         if kind == 1 {
@@ -153,7 +153,7 @@ impl Place {
     // Whether a record is none that opens the key to any recovery key: a MakeArchiveBlob action without kahash in an open group.
     fn is_keyed(self, rec: &[u8]) -> bool
         requires { ⌜ length (now rec) ≡ recordBytes ⌝ }
-        ensures { λ r. ⌜ r ≡ keyed (aclPlaceAs self .isOpen) (now (rec .entry)) ⌝ }
+        ensures { λ r. ⌜ r ≡ keyed (aclStateAs self .isOpen) (now (rec .entry)) ⌝ }
     {
         let kind = rec[0];
         !(self.opened & (kind == 5)) | record_fields::flag_of(0, rec)
@@ -162,7 +162,7 @@ impl Place {
     // The state after a limit that is not one too many.
     fn after_limit(mut self, key: u16) -> Self
         requires { ⌜ self .limits < limitsMax ⌝ }
-        ensures { λ r. ⌜ (aclPlaceAs r ≡ limitAdded (aclPlaceAs self) key) × (r .limits ≤ limitsMax) ⌝ }
+        ensures { λ r. ⌜ (aclStateAs r ≡ limitAdded (aclStateAs self) key) × (r .limits ≤ limitsMax) ⌝ }
     {
         self.keys = self.keys % 281474976710656 * 65536 + (key as u64);
         self.limits += 1;
@@ -172,7 +172,7 @@ impl Place {
     // The state after a group record, which may be open.
     fn after_group(mut self, opened: bool) -> Self
         requires { ⌜ (self .limits ≤ limitsMax) × (self .groups < groupsMax) ⌝ }
-        ensures { λ r. ⌜ (aclPlaceAs r ≡ begunWith (aclPlaceAs self) opened) × (r .limits ≤ limitsMax) ⌝ }
+        ensures { λ r. ⌜ (aclStateAs r ≡ begunWith (aclStateAs self) opened) × (r .limits ≤ limitsMax) ⌝ }
     {
         self.groups += 1;
         self.opened = opened;
@@ -185,7 +185,7 @@ impl Place {
     // The state after an action, which may announce a record of kind 15.
     fn after_action(mut self, file_due: bool) -> Self
         requires { ⌜ (self .limits ≤ limitsMax) × (self .actions < actionsMax) ⌝ }
-        ensures { λ r. ⌜ (aclPlaceAs r ≡ addedWith (aclPlaceAs self) «file_due») × (r .limits ≤ limitsMax) ⌝ }
+        ensures { λ r. ⌜ (aclStateAs r ≡ addedWith (aclStateAs self) «file_due») × (r .limits ≤ limitsMax) ⌝ }
     {
         self.actions += 1;
         self.file_due = file_due;
@@ -195,7 +195,7 @@ impl Place {
     // The state after a record of kind 15.
     fn after_file(mut self) -> Self
         requires { ⌜ self .limits ≤ limitsMax ⌝ }
-        ensures { λ r. ⌜ (aclPlaceAs r ≡ filePassed (aclPlaceAs self)) × (r .limits ≤ limitsMax) ⌝ }
+        ensures { λ r. ⌜ (aclStateAs r ≡ blobfilePassed (aclStateAs self)) × (r .limits ≤ limitsMax) ⌝ }
     {
         self.file_due = false;
         self
@@ -203,8 +203,8 @@ impl Place {
 
     // The state after a record that is not one too many.
     fn after(self, rec: &[u8]) -> Self
-        requires { ⌜ (hasRoom (aclPlaceAs self) (now rec) ≡ true) × (self .limits ≤ limitsMax) × (length (now rec) ≡ recordBytes) ⌝ }
-        ensures { λ r. ⌜ (aclPlaceAs r ≡ afterRecord (aclPlaceAs self) (now (rec .entry))) × (r .limits ≤ limitsMax) ⌝ }
+        requires { ⌜ (hasRoom (aclStateAs self) (now rec) ≡ true) × (self .limits ≤ limitsMax) × (length (now rec) ≡ recordBytes) ⌝ }
+        ensures { λ r. ⌜ (aclStateAs r ≡ afterRecord (aclStateAs self) (now (rec .entry))) × (r .limits ≤ limitsMax) ⌝ }
     {
         let kind = rec[0];
         if kind == 1 {
@@ -221,7 +221,7 @@ impl Place {
 
     // The fault of a file that ends here: 2 if a record of kind 15 is missing.
     fn end(self) -> Checked
-        ensures { λ r. ⌜ faultAs r ≡ aclEnd (aclPlaceAs self) ⌝ }
+        ensures { λ r. ⌜ faultAs r ≡ aclEnd (aclStateAs self) ⌝ }
     {
         if self.file_due {
             return Checked::Refused(Refusal::Malformed);
@@ -244,7 +244,7 @@ impl Place {
     // are one piece of code with it and the place stays in registers.
     pub fn read(self, acl: &[u8]) -> Read
         requires { ⌜ self .limits ≤ limitsMax ⌝ }
-        ensures { λ r. ⌜ (readingAs r ≡ reading (aclPlaceAs self) (records (now (acl .entry)))) × Kept r ⌝ }
+        ensures { λ r. ⌜ (readingAs r ≡ reading (aclStateAs self) (records (now (acl .entry)))) × Kept r ⌝ }
     {
         let mut place = self;
         let mut at = 0;
@@ -273,7 +273,7 @@ impl Place {
 pub fn acl_records(acl: &[u8]) -> Checked
     ensures { λ r. ⌜ faultAs r ≡ aclFault (records (now (acl .entry))) ⌝ }
 {
-    let read = Place::start().read(acl);
+    let read = State::start().read(acl);
     let found = read.found;
     files::first_fault(found, read.place.end())
 }

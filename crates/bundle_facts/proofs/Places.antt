@@ -13,7 +13,7 @@ use Rattle.rules.specs.Basics.{if_then_else_, Bytes, part, kind, byte, orNext, 
 use Rattle.rules.specs.Bundle.{firstRecord, numbered, policyRecord}
 use Rattle.rules.proofs.Rows.{rows-start, rows-lent, rows-end, lentRecord, lent-record, kind-at}
 use Rattle.bundle_facts.specs.Found.{orEmpty}
-use Rattle.bundle_facts.specs.Places.{entries, unasked, entryOf, entered, noted, notedFrom, placesOf, endingAt, PlaceOf, Filling, Found}
+use Rattle.bundle_facts.specs.Places.{entries, unasked, entryOf, entered, noted, notedFrom, offsetsOf, endingAt, OffsetOf, Filling, Found}
 
 -- An entry is one of the table's.
 pub entry-below : (k n i : ℕ) → i ≡ entryOf k n → i < entries
@@ -42,8 +42,8 @@ unfolding entered
 entered-at s at i j e = rw (lent-record s at, kind-at s at, number-at s at, e)
 
 -- One place, when a record is passed: one that is found stays, another is what is left or this record.
-module _ (s : Bytes) (i end : ℕ) (left : List Bytes) (p : PlaceOf s i end left) where
-  place-found : (rest : List Bytes) → (end ≡ 0 → ⊥) → PlaceOf s i end rest
+module _ (s : Bytes) (i end : ℕ) (left : List Bytes) (p : OffsetOf s i end left) where
+  place-found : (rest : List Bytes) → (end ≡ 0 → ⊥) → OffsetOf s i end rest
   unfolding endingAt
   place-found rest n =
       record {
@@ -52,7 +52,7 @@ module _ (s : Bytes) (i end : ℕ) (left : List Bytes) (p : PlaceOf s i end left
         first = let q = ne-eqb end 0 n in rw q (rw q at (p .first));
       }
 
-  place-passed : (r : Bytes) (rest : List Bytes) → left ≡ r ∷ rest → entered i r ≡ false → PlaceOf s i end rest
+  place-passed : (r : Bytes) (rest : List Bytes) → left ≡ r ∷ rest → entered i r ≡ false → OffsetOf s i end rest
   unfolding firstRecord
   place-passed r rest e t =
       record {
@@ -61,8 +61,8 @@ module _ (s : Bytes) (i end : ℕ) (left : List Bytes) (p : PlaceOf s i end left
         first = sym (ap (λ (l : List Bytes). orNext (endingAt s end) (firstRecord (entered i) l)) e ∙ rw t) ∙ p .first;
       }
 
-module _ (s : Bytes) (i at : ℕ) (left : List Bytes) (p : PlaceOf s i 0 left) where
-  place-here : (rest : List Bytes) → 64 ≤ length s - at → left ≡ lentRecord s at ∷ rest → entered i (lentRecord s at) ≡ true → PlaceOf s i (at + 64) rest
+module _ (s : Bytes) (i at : ℕ) (left : List Bytes) (p : OffsetOf s i 0 left) where
+  place-here : (rest : List Bytes) → 64 ≤ length s - at → left ≡ lentRecord s at ∷ rest → entered i (lentRecord s at) ≡ true → OffsetOf s i (at + 64) rest
   unfolding endingAt firstRecord
   place-here rest h e t =
       let m : at + 64 - 64 ≡ at = omega arith in
@@ -82,7 +82,7 @@ filling-start s places e =
       each = λ i h. rw (getD-replicate {A = ℕ} entries i 0 0 (omega arith)) (nothing i);
     })
   where
-    nothing : (i : ℕ) → PlaceOf s i 0 (recordsFrom s 0)
+    nothing : (i : ℕ) → OffsetOf s i 0 (recordsFrom s 0)
     nothing i = record { least = λ z. omega arith; most = omega arith; first = ap (firstRecord (entered i)) (rows-start s) }
 
 module _ (s : Bytes) (places : List ℕ) (at : ℕ) (f : Filling s places (recordsFrom s at)) where
@@ -90,13 +90,13 @@ module _ (s : Bytes) (places : List ℕ) (at : ℕ) (f : Filling s places (recor
   filling-done h = rw (rows-end s at h) at f
 
   module _ (j : ℕ) (h : 64 ≤ length s - at) (e : j ≡ entryOf (getD s at 0) (getD s (at + 4) 0)) where
-    passed : (i end : ℕ) → PlaceOf s i end (recordsFrom s at) → (j ≡ i → ⊥) → PlaceOf s i end (recordsFrom s (at + 64))
+    passed : (i end : ℕ) → OffsetOf s i end (recordsFrom s at) → (j ≡ i → ⊥) → OffsetOf s i end (recordsFrom s (at + 64))
     passed i end p n = place-passed s i end (recordsFrom s at) p (lentRecord s at) (recordsFrom s (at + 64)) (rows-lent s at h) (entered-at s at i j e ∙ ne-eqb j i n)
 
     pub filling-kept : (getD places j 0 ≡ 0 → ⊥) → Filling s places (recordsFrom s (at + 64))
     filling-kept n = record { sized = f .sized; each = λ i l. pick i l (eqb j i) refl }
       where
-        pick : (i : ℕ) → i < unasked → (b : Bool) → eqb j i ≡ b → PlaceOf s i (getD places i 0) (recordsFrom s (at + 64))
+        pick : (i : ℕ) → i < unasked → (b : Bool) → eqb j i ≡ b → OffsetOf s i (getD places i 0) (recordsFrom s (at + 64))
         pick i l true q =
             let d : j ≡ i = eqb-true j i q in
             place-found s i (getD places i 0) (recordsFrom s at) (f .each i l) (recordsFrom s (at + 64)) (rw d at n)
@@ -109,7 +109,7 @@ module _ (s : Bytes) (places : List ℕ) (at : ℕ) (f : Filling s places (recor
           each = λ i l. pick i l (eqb j i) refl;
         }
       where
-        pick : (i : ℕ) → i < unasked → (b : Bool) → eqb j i ≡ b → PlaceOf s i (getD (set places j (at + 64)) i 0) (recordsFrom s (at + 64))
+        pick : (i : ℕ) → i < unasked → (b : Bool) → eqb j i ≡ b → OffsetOf s i (getD (set places j (at + 64)) i 0) (recordsFrom s (at + 64))
         pick i l true q =
             let d : j ≡ i = eqb-true j i q in
             let n : getD places i 0 ≡ 0 = rw d at z in
@@ -120,11 +120,11 @@ module _ (s : Bytes) (places : List ℕ) (at : ℕ) (f : Filling s places (recor
             rw (getD-set-other places j i (at + 64) 0 n) (passed i (getD places i 0) (f .each i l) (eqb-false j i q))
 
 -- The table as it is noted: what is left of the records leads to the bundle's.
-pub noted-start : (s : Bytes) (places : List ℕ) → places ≡ replicate entries 0 → notedFrom places 0 (recordsFrom s 0) ≡ placesOf s
+pub noted-start : (s : Bytes) (places : List ℕ) → places ≡ replicate entries 0 → notedFrom places 0 (recordsFrom s 0) ≡ offsetsOf s
 noted-start s places e = rw (e, rows-start s)
 
-module _ (s : Bytes) (places : List ℕ) (at : ℕ) (n : notedFrom places at (recordsFrom s at) ≡ placesOf s) where
-  pub noted-done : length s - at < 64 → places ≡ placesOf s
+module _ (s : Bytes) (places : List ℕ) (at : ℕ) (n : notedFrom places at (recordsFrom s at) ≡ offsetsOf s) where
+  pub noted-done : length s - at < 64 → places ≡ offsetsOf s
   unfolding notedFrom
   noted-done h = sym (ap (notedFrom places at) (rows-end s at h)) ∙ n
 
@@ -132,16 +132,16 @@ module _ (s : Bytes) (places : List ℕ) (at : ℕ) (n : notedFrom places at (re
     entry-here : entryOf (kind (lentRecord s at)) (byte 4 (lentRecord s at)) ≡ j
     entry-here = rw (lent-record s at, kind-at s at, number-at s at) (sym e)
 
-    one-noted : notedFrom (noted places j (at + 64)) (at + 64) (recordsFrom s (at + 64)) ≡ placesOf s
+    one-noted : notedFrom (noted places j (at + 64)) (at + 64) (recordsFrom s (at + 64)) ≡ offsetsOf s
     unfolding notedFrom
     one-noted =
         sym (ap (notedFrom places at) (rows-lent s at h) ∙ ap (λ (i : ℕ). notedFrom (noted places i (at + 64)) (at + 64) (recordsFrom s (at + 64))) entry-here) ∙ n
 
-    pub noted-kept : (getD places j 0 ≡ 0 → ⊥) → notedFrom places (at + 64) (recordsFrom s (at + 64)) ≡ placesOf s
+    pub noted-kept : (getD places j 0 ≡ 0 → ⊥) → notedFrom places (at + 64) (recordsFrom s (at + 64)) ≡ offsetsOf s
     unfolding noted
     noted-kept k = let q : noted places j (at + 64) ≡ places = rw (ne-eqb (getD places j 0) 0 k) in rw q at one-noted
 
-    pub noted-put : getD places j 0 ≡ 0 → notedFrom (set places j (at + 64)) (at + 64) (recordsFrom s (at + 64)) ≡ placesOf s
+    pub noted-put : getD places j 0 ≡ 0 → notedFrom (set places j (at + 64)) (at + 64) (recordsFrom s (at + 64)) ≡ offsetsOf s
     unfolding noted
     noted-put z = let q : noted places j (at + 64) ≡ set places j (at + 64) = rw (eq-eqb (getD places j 0) 0 z) in rw q at one-noted
 

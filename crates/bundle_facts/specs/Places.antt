@@ -39,15 +39,15 @@ notedFrom places at [] = places
 notedFrom places at (r ∷ rs) = notedFrom (noted places (entryOf (kind r) (byte 4 r)) (at + recordBytes)) (at + recordBytes) rs
 
 -- the table of a bundle: of each entry the byte at which its first record ends, 0 where there is none
-abbrev pub placesOf : Bytes → List ℕ
-placesOf s = notedFrom (replicate entries 0) 0 (records s)
+abbrev pub offsetsOf : Bytes → List ℕ
+offsetsOf s = notedFrom (replicate entries 0) 0 (records s)
 
 -- the record that ends at a byte; none ends at 0
 unfoldable pub endingAt : Bytes → ℕ → Option Bytes
 endingAt s end = if eqb end 0 then none else some (part (end - recordBytes) recordBytes s)
 
 -- The place of an entry: the first record of the entry ends there, or, where the place is 0, is the first of those that are left.
-pub record PlaceOf (s : Bytes) (i end : ℕ) (left : List Bytes) : Type 0 where
+pub record OffsetOf (s : Bytes) (i end : ℕ) (left : List Bytes) : Type 0 where
   pub least : 0 < end → recordBytes ≤ end
   pub most : end ≤ length s
   pub first : orNext (endingAt s end) (firstRecord (entered i) left) ≡ firstRecord (entered i) (records s)
@@ -55,7 +55,7 @@ pub record PlaceOf (s : Bytes) (i end : ℕ) (left : List Bytes) : Type 0 where
 -- a table, filled but for the records that are left
 pub record Filling (s : Bytes) (places : List ℕ) (left : List Bytes) : Type 0 where
   pub sized : length places ≡ entries
-  pub each : (i : ℕ) → i < unasked → PlaceOf s i (getD places i 0) left
+  pub each : (i : ℕ) → i < unasked → OffsetOf s i (getD places i 0) left
 
 -- a table that is filled
 abbrev pub Found : Bytes → List ℕ → Type 0

@@ -7,7 +7,7 @@ ghost use Rattle.rules.specs.Sizes.{recordBytes};
 ghost use Rattle.rules.specs.Basics.{bit, records};
 ghost use Rattle.rules.specs.Bundle.{firstRecord, field, lists, listed, signatureOutcome, policyOf};
 ghost use Rattle.bundle_facts.specs.Found.{orEmpty, signatureAs, policyAs};
-ghost use Rattle.bundle_facts.specs.Places.{entries, unasked, entryOf, entered, placesOf, Found};
+ghost use Rattle.bundle_facts.specs.Places.{entries, unasked, entryOf, entered, offsetsOf, Found};
 
 // The outcome of a signature that a bundle reports.
 pub enum Signature {
@@ -50,9 +50,9 @@ fn entry(kind: u8, number: u8) -> usize
 }
 
 // Where the records stand that are asked for: of those of an entry the byte at which the first ends, 0 where there is none. One walk finds them all.
-pub fn find_places(places: &mut [usize; ENTRIES], bundle: &[u8])
+pub fn find_offsets(places: &mut [usize; ENTRIES], bundle: &[u8])
     requires { ⌜ now places ≡ replicate entries 0 ⌝ }
-    ensures { λ _. ⌜ Found (now (bundle .entry)) (now (places .exit)) × (now (places .exit) ≡ placesOf (now (bundle .entry))) ⌝ }
+    ensures { λ _. ⌜ Found (now (bundle .entry)) (now (places .exit)) × (now (places .exit) ≡ offsetsOf (now (bundle .entry))) ⌝ }
 {
     let mut at = 0;
     while record_sizes::RECORD <= bundle.len() - at {

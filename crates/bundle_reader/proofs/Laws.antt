@@ -9,7 +9,7 @@ use borrow.Author.Tests.{eqb-true, eqb-false, ltb-true, ltb-false, lt-ltb, le-lt
 use Rattle.rules.specs.Numbers.{malformed, tooMany}
 use Rattle.rules.specs.Sizes.{listedMax}
 use Rattle.rules.specs.Basics.{if_then_else_, Bytes, implies, firstFault, recordFault}
-use Rattle.rules.specs.Bundle.{BundlePlace, orderOf, inOrder, listedOrder, policyOrder, bundleRecordLaidOut, bundleInPlace, bundleHasRoom, bundleRecordFault, listedAfter, afterBundleRecord, bundleEnd}
+use Rattle.rules.specs.Bundle.{BundleState, orderOf, inOrder, listedOrder, policyOrder, bundleRecordLaidOut, bundleInPlace, bundleHasRoom, bundleRecordFault, listedAfter, afterBundleRecord, bundleEnd}
 
 -- A record's place in the order, as the code computed it, and 1 where it is field 14's.
 module _ (r : Bytes) (order again : ℕ) (e : order ≡ orderOf r) (f : again ≡ (if eqb order listedOrder then 1 else 0)) where
@@ -83,17 +83,17 @@ module _ (r : Bytes) (order again : ℕ) (e : order ≡ orderOf r) (f : again �
     unfolding bundleRecordFault recordFault firstFault
     bundle-sound n l = rw (sym p ∙ not-false t n, sym (room-is listed h) ∙ le-leb (listed + again) listedMax l)
 
-pub bundle-bad : (r : Bytes) (s : BundlePlace) (t : Bool) → t ≡ bundleInPlace (s .last) r → not t ≡ true → bundleRecordFault s r ≡ some malformed
+pub bundle-bad : (r : Bytes) (s : BundleState) (t : Bool) → t ≡ bundleInPlace (s .last) r → not t ≡ true → bundleRecordFault s r ≡ some malformed
 unfolding bundleRecordFault recordFault firstFault
 bundle-bad r s t p n = rw (sym p ∙ not-true t n)
 
 -- where reading stands after a record, from its two numbers
-pub bundle-next : (s : BundlePlace) (r : Bytes) (last listed : ℕ) → last ≡ orderOf r → listed ≡ listedAfter (s .listedCount) r
-    → _≡_ {A = BundlePlace} (record { last = last; listedCount = listed }) (afterBundleRecord s r)
+pub bundle-next : (s : BundleState) (r : Bytes) (last listed : ℕ) → last ≡ orderOf r → listed ≡ listedAfter (s .listedCount) r
+    → _≡_ {A = BundleState} (record { last = last; listedCount = listed }) (afterBundleRecord s r)
 bundle-next s r last listed e d = rw (e, d)
 
 -- the end of a bundle
-module _ (s : BundlePlace) where
+module _ (s : BundleState) where
   pub end-bad : not (eqb (s .last) policyOrder) ≡ true → some malformed ≡ bundleEnd s
   unfolding bundleEnd
   end-bad h = sym (rw (not-true (eqb (s .last) policyOrder) h))

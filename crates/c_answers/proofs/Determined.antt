@@ -19,7 +19,7 @@ use Rattle.rules.specs.Trim.{TrimReply, trimmed, untrimmed, unread}
 use Rattle.text_rules.specs.Listing.{ListingReply, produced, refusedWith, refusedAt}
 use Rattle.refusals.specs.declared.Refusal.{Refusal}
 use Rattle.refusals.specs.declared.Refusal.the-variants.{BadLength, Malformed, TooMany, NotNarrower, ShortBuffer, OutOfRange, UnknownSuite, OpenArchive, NoSlot, OtherForm}
-use Rattle.refusals.specs.declared.Denial.the-variants.{Early, Unadmitted, Uncertified, Exhausted}
+use Rattle.refusals.specs.declared.Denial.the-variants.{ClockBack, NotAdmitted, NotCertified, Spent}
 use Rattle.refusals.specs.Refusals.{refusalNumber}
 use Rattle.gate_charge.specs.declared.Reply.{Reply}
 use Rattle.gate_charge.specs.declared.Reply.the-variants.{Done, Permit, Refuse, Deny}
@@ -118,19 +118,19 @@ abbrev pub GroupFits : Reply → Type 0
 GroupFits Done = Unit {0}
 GroupFits (Permit group) = group < noGroup
 GroupFits (Refuse r) = Unit {0}
-GroupFits (Deny Early) = Unit {0}
-GroupFits (Deny Unadmitted) = Unit {0}
-GroupFits (Deny (Uncertified group)) = group < noGroup
-GroupFits (Deny (Exhausted group)) = group < noGroup
+GroupFits (Deny ClockBack) = Unit {0}
+GroupFits (Deny NotAdmitted) = Unit {0}
+GroupFits (Deny (NotCertified group)) = group < noGroup
+GroupFits (Deny (Spent group)) = group < noGroup
 
 pub replies-tellable : (r : Reply) → GroupFits r → Tellable (answerAs r)
 replies-tellable Done h = tt
 replies-tellable (Permit group) h = h
 replies-tellable (Refuse r) h = refusal-from-1 r
-replies-tellable (Deny Early) h = lit< tt
-replies-tellable (Deny Unadmitted) h = lit< tt
-replies-tellable (Deny (Uncertified group)) h = (lit< tt, h)
-replies-tellable (Deny (Exhausted group)) h = (lit< tt, h)
+replies-tellable (Deny ClockBack) h = lit< tt
+replies-tellable (Deny NotAdmitted) h = lit< tt
+replies-tellable (Deny (NotCertified group)) h = (lit< tt, h)
+replies-tellable (Deny (Spent group)) h = (lit< tt, h)
 
 abbrev groupBack : ℕ → Option ℕ
 groupBack g = if eqb g noGroup then none else some g

@@ -98,10 +98,10 @@ fn nearest(d: Denial) -> u32
     ensures { λ r. ⌜ r ≡ groupOrNone (denialGroup d) ⌝ }
 {
     match d {
-        Denial::Early => NO_GROUP,
-        Denial::Unadmitted => NO_GROUP,
-        Denial::Uncertified(group) => group_number(group),
-        Denial::Exhausted(group) => group_number(group),
+        Denial::ClockBack => NO_GROUP,
+        Denial::NotAdmitted => NO_GROUP,
+        Denial::NotCertified(group) => group_number(group),
+        Denial::Spent(group) => group_number(group),
     }
 }
 

@@ -19,13 +19,13 @@ use Rattle.rules.specs.Cabinet as rules
 use Rattle.gate.specs.Outcomes.{Settles}
 use Rattle.gate.proofs.Settling.{settles-refused}
 use Rattle.cabinet.specs.declared.Slot.{Slot}
-use Rattle.cabinet.specs.Kept.{slotAs, slotPlace, ifThere}
+use Rattle.cabinet.specs.Kept.{slotAs, slotIndex, ifThere}
 
 -- the place of a slot's number, and of one that is none
-pub place-of : (slot r : ℕ) → slot < slotsMax → r ≡ slot → (r < slotsMax) × (r ≡ slotPlace slot)
+pub place-of : (slot r : ℕ) → slot < slotsMax → r ≡ slot → (r < slotsMax) × (r ≡ slotIndex slot)
 place-of slot r h e = (rw e h, e ∙ sym (rw (lt-ltb slot slotsMax h)))
 
-pub place-past : (slot r : ℕ) → slotsMax ≤ slot → r ≡ 0 → (r < slotsMax) × (r ≡ slotPlace slot)
+pub place-past : (slot r : ℕ) → slotsMax ≤ slot → r ≡ 0 → (r < slotsMax) × (r ≡ slotIndex slot)
 place-past slot r h e = (omega (arith, e), e ∙ sym (rw (le-ltb slot slotsMax h)))
 
 -- a call where there is a slot, and where there is none: that one charges nothing
@@ -68,11 +68,11 @@ put-back c k = ap (λ (ss : List rules.Slot). let d : rules.Cabinet = record { s
 
 -- A call is the gate's own in its slot, or 13.
 in-place : (c : rules.Cabinet) (slot : ℕ) (f : Ledger → Outcome)
-    → rules.asGate c (slotPlace slot) (ifThere (ltb slot slotsMax) (rules.ledgerAt c (slotPlace slot)) (f (rules.ledgerAt c (slotPlace slot)))) ≡ rules.inSlot c slot (f (rules.ledgerAt c slot))
+    → rules.asGate c (slotIndex slot) (ifThere (ltb slot slotsMax) (rules.ledgerAt c (slotIndex slot)) (f (rules.ledgerAt c (slotIndex slot)))) ≡ rules.inSlot c slot (f (rules.ledgerAt c slot))
 in-place c slot f = pick (ltb slot slotsMax) refl
   where
     pick : (b : Bool) → ltb slot slotsMax ≡ b
-        → rules.asGate c (slotPlace slot) (ifThere (ltb slot slotsMax) (rules.ledgerAt c (slotPlace slot)) (f (rules.ledgerAt c (slotPlace slot)))) ≡ rules.inSlot c slot (f (rules.ledgerAt c slot))
+        → rules.asGate c (slotIndex slot) (ifThere (ltb slot slotsMax) (rules.ledgerAt c (slotIndex slot)) (f (rules.ledgerAt c (slotIndex slot)))) ≡ rules.inSlot c slot (f (rules.ledgerAt c slot))
     pick true e = rw e
     pick false e = rw e (ap (λ (d : rules.Cabinet). let r : rules.CabinetOutcome = record { answer = refuse noSlot none; cabinet = d } in r) (put-back c 0))
 
@@ -80,7 +80,7 @@ pub slot-called : (xs : List Slot) (counts counters : List ℕ) (slot at : ℕ) 
     → let c : rules.Cabinet = record { slots = map slotAs xs; counters = counters } in
     let s : Slot = getD xs at (record { counts = []; loaded = 0; last = 0 }) in
     let l : Ledger = record { counts = counts; counters = counters; loaded = s .loaded; last = s .last } in
-    there ≡ ltb slot slotsMax → at ≡ slotPlace slot → counts ≡ s .counts → o ≡ ifThere there l (f l) → r ≡ rules.asGate c at o
+    there ≡ ltb slot slotsMax → at ≡ slotIndex slot → counts ≡ s .counts → o ≡ ifThere there l (f l) → r ≡ rules.asGate c at o
     → r ≡ rules.inSlot c slot (f (rules.ledgerAt c slot))
 slot-called xs counts counters slot at there f o r t a k d p =
     let c : rules.Cabinet = record { slots = map slotAs xs; counters = counters } in

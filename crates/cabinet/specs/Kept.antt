@@ -27,8 +27,8 @@ abbrev pub cabinetOutcomeAs : CabinetOutcome → rules.CabinetOutcome
 cabinetOutcomeAs o = record { answer = answerAs (o .reply); cabinet = cabinetAs (o .cabinet) }
 
 -- the place that a call reads and writes: the slot's, or 0 where there is no such slot
-abbrev pub slotPlace : ℕ → ℕ
-slotPlace slot = if ltb slot slotsMax then slot else 0
+abbrev pub slotIndex : ℕ → ℕ
+slotIndex slot = if ltb slot slotsMax then slot else 0
 
 -- a call on a slot's ledger, where there is such a slot; else 13, and the ledger stands
 abbrev pub ifThere : Bool → Ledger → Outcome → Outcome

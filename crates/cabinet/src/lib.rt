@@ -14,7 +14,7 @@ ghost use Rattle.gate.specs.Outcomes.{narrowedCounts, Settles};
 ghost use Rattle.rules.specs.Acl.{aclOf};
 ghost use Rattle.rules.specs.Request.{requestOf, hintsOf};
 ghost use Rattle.refusals.specs.Refusals.{refusalNumber};
-ghost use Rattle.cabinet.specs.Kept.{slotPlace, ifThere, cabinetAs, cabinetOutcomeAs};
+ghost use Rattle.cabinet.specs.Kept.{slotIndex, ifThere, cabinetAs, cabinetOutcomeAs};
 use gate::Ledger;
 use gate_charge::Reply;
 use refusals::Refusal;
@@ -49,8 +49,8 @@ fn is_slot(slot: usize) -> bool
 
 // The place that a call reads and writes: the slot's, or 0 where there is no such slot, and then what stands there is written back as it is. So a call to
 // no slot goes the way of all others: where two ways met, the whole cabinet would be copied once more.
-fn place(slot: usize) -> usize
-    ensures { λ r. ⌜ (r < slotsMax) × (r ≡ slotPlace slot) ⌝ }
+fn slot_index(slot: usize) -> usize
+    ensures { λ r. ⌜ (r < slotsMax) × (r ≡ slotIndex slot) ⌝ }
 {
     if Cabinet::SLOTS <= slot {
         return 0;
@@ -219,7 +219,7 @@ impl Cabinet {
         ensures { λ r. ⌜ cabinetOutcomeAs r ≡ cabinetRequest (cabinetAs self) slot (now (km0 .entry)) (now (acl .entry)) (now (req .entry)) ⌝ }
     {
         let there = is_slot(slot);
-        let at = place(slot);
+        let at = slot_index(slot);
         let s = self.slots[at];
         let mut counts = counts_of(s);
         let loaded = s.loaded;
@@ -243,7 +243,7 @@ impl Cabinet {
         ensures { λ r. ⌜ cabinetOutcomeAs r ≡ cabinetNarrow (cabinetAs self) slot (now (km0 .entry)) (now (acl .entry)) (now (req .entry)) (now (new .entry)) (now (hints .entry)) ⌝ }
     {
         let there = is_slot(slot);
-        let at = place(slot);
+        let at = slot_index(slot);
         let s = self.slots[at];
         let mut counts = counts_of(s);
         let loaded = s.loaded;
@@ -278,7 +278,7 @@ impl Cabinet {
         ensures { λ r. ⌜ cabinetOutcomeAs r ≡ cabinetExpand (cabinetAs self) slot (now (km0 .entry)) (now (acl .entry)) (now (req .entry)) (now (new .entry)) ⌝ }
     {
         let there = is_slot(slot);
-        let at = place(slot);
+        let at = slot_index(slot);
         let s = self.slots[at];
         let mut counts = counts_of(s);
         let loaded = s.loaded;

@@ -9,19 +9,19 @@ use Rattle.rules.specs.Request.{Certificate}
 use Rattle.rules.specs.Cabinet.{Cabinet, ledgerAt}
 use Rattle.rules.specs.Runs.{RunOutcome}
 use Rattle.rules.specs.Prepared.{Form}
-use Rattle.run_certificates.specs.declared.Seen.{Seen}
+use Rattle.run_certificates.specs.declared.RowSummary.{RowSummary}
 use Rattle.run_certificates.specs.Rows.{Saw}
 use Rattle.runs.specs.Judged.{runSeen, preparedSeen}
 use Rattle.runs.proofs.Seeing.{run-seen, prepared-seen}
 use Rattle.rules.specs.CabinetRuns.{CabinetRan, ranAsGate, runInSlot, cabinetRun, cabinetPreparedRun}
 use Rattle.cabinet_runs.specs.Handed.{notRun}
 
-pub run-seen-at : (c : Cabinet) (slot : ℕ) (km0 acl : Bytes) (row : List Certificate) (s : Seen) (requests buffer : Bytes) → Saw s acl row
+pub run-seen-at : (c : Cabinet) (slot : ℕ) (km0 acl : Bytes) (row : List Certificate) (s : RowSummary) (requests buffer : Bytes) → Saw s acl row
     → runInSlot c slot buffer (runSeen (ledgerAt c slot) km0 acl s requests buffer) ≡ cabinetRun c slot km0 acl row requests buffer
 unfolding cabinetRun
 run-seen-at c slot km0 acl row s requests buffer w = ap (runInSlot c slot buffer) (run-seen (ledgerAt c slot) km0 acl row s requests buffer w)
 
-pub prepared-seen-at : (c : Cabinet) (slot : ℕ) (km0 acl : Bytes) (row : List Certificate) (s : Seen) (f : Form) (requests buffer : Bytes) → Saw s acl row
+pub prepared-seen-at : (c : Cabinet) (slot : ℕ) (km0 acl : Bytes) (row : List Certificate) (s : RowSummary) (f : Form) (requests buffer : Bytes) → Saw s acl row
     → runInSlot c slot buffer (preparedSeen (ledgerAt c slot) km0 acl s f requests buffer) ≡ cabinetPreparedRun c slot km0 acl row f requests buffer
 unfolding cabinetPreparedRun
 prepared-seen-at c slot km0 acl row s f requests buffer w = ap (runInSlot c slot buffer) (prepared-seen (ledgerAt c slot) km0 acl row s f requests buffer w)

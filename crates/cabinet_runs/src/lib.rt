@@ -17,7 +17,7 @@ use cabinet::Slot;
 use gate::Ledger;
 use refusals::Refusal;
 use run_certificates::Certificate;
-use run_certificates::Seen;
+use run_certificates::RowSummary;
 use run_form::Prepared;
 use runs::RunOutcome;
 use runs::RunReply;
@@ -90,7 +90,7 @@ fn run_judged(
     slot: usize,
     km0: &[u8],
     acl: &[u8],
-    seen: Seen,
+    seen: RowSummary,
     requests: &[u8],
     answers: &mut [u8],
 ) -> CabinetRan
@@ -116,7 +116,7 @@ fn prepared_judged(
     slot: usize,
     km0: &[u8],
     acl: &[u8],
-    seen: Seen,
+    seen: RowSummary,
     form: Prepared,
     requests: &[u8],
     answers: &mut [u8],

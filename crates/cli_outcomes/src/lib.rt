@@ -51,10 +51,10 @@ pub fn print_reply(reply: Reply) {
 fn print_denial(why: Denial) {
     cli_printing::print_refusal(refusals::denial_number(why) as u64);
     match why {
-        Denial::Early => {}
-        Denial::Unadmitted => {}
-        Denial::Uncertified(place) => cli_printing::print_spaced(place),
-        Denial::Exhausted(place) => cli_printing::print_spaced(place),
+        Denial::ClockBack => {}
+        Denial::NotAdmitted => {}
+        Denial::NotCertified(place) => cli_printing::print_spaced(place),
+        Denial::Spent(place) => cli_printing::print_spaced(place),
     }
 }
 

@@ -16,7 +16,7 @@ use Rattle.rules.specs.Acl.{Action, permissions, makeBlob, makeArchive, Group, 
 use Rattle.rules.specs.Bundle.{Policy, policyOf, bundleFault}
 use Rattle.rules.proofs.Laws.{never}
 use Rattle.rules.specs.Desk.{Step, KV3, Acceptance, approach1, approach2, actionProtection, softParameters, smallest, officersGroup, keyProtection, recoverableKey, beforeAcl, aclFailure, fullFailure, basicFailure, gradeOf, acceptedUnless, attested, deskFault, desk}
-use Rattle.bundle_facts.specs.Places.{entries, placesOf}
+use Rattle.bundle_facts.specs.Places.{entries, offsetsOf}
 use Rattle.desk_steps.specs.declared.Failure.{Failure}
 use Rattle.desk_steps.specs.declared.Failure.the-variants.{Nothing, At}
 use Rattle.desk_steps.specs.declared.Step as codeStep
@@ -85,7 +85,7 @@ module _ (bundle acl : Bytes) (r s : Bool) (p : r ≡ fits bundleRecords bundle)
   pub table-kept : (places : List ℕ) → places ≡ replicate entries 0 → not (r && s) ≡ true → places ≡ placesRead bundle acl
   table-kept places e h = e ∙ sym (rw (sym lengths ∙ not-true (r && s) h))
 
-  pub table-filled : (places : List ℕ) → places ≡ placesOf bundle → not (r && s) ≡ false → places ≡ placesRead bundle acl
+  pub table-filled : (places : List ℕ) → places ≡ offsetsOf bundle → not (r && s) ≡ false → places ≡ placesRead bundle acl
   table-filled places e h = e ∙ sym (rw (sym lengths ∙ not-false (r && s) h))
 
 -- a refusal is no answer that there is no fault

@@ -13,7 +13,7 @@ use Rattle.rules.specs.Suites.{isSuite}
 use Rattle.rules.specs.Bundle.{policyOf}
 use Rattle.rules.specs.Desk as rules
 use Rattle.refusals.specs.Refusals.{refusalNumber}
-use Rattle.bundle_facts.specs.Places.{entries, placesOf}
+use Rattle.bundle_facts.specs.Places.{entries, offsetsOf}
 use Rattle.desk_steps.specs.declared.Failure.{Failure}
 use Rattle.desk_steps.specs.declared.Failure.the-variants.{Nothing, At}
 use Rattle.desk_steps.specs.Steps.{stepAs}
@@ -75,7 +75,7 @@ suiteFault b = firstFault (unless (isSuite (policyOf b .suite)) numbers.unknownS
 
 -- the table of places after both files were read: that of the bundle where both lengths fit, else still empty
 abbrev pub placesRead : Bytes → Bytes → List ℕ
-placesRead bundle acl = if fits bundleRecords bundle && fits aclRecords acl then placesOf bundle else replicate entries 0
+placesRead bundle acl = if fits bundleRecords bundle && fits aclRecords acl then offsetsOf bundle else replicate entries 0
 
 -- "KV3 (protection at least the policy's); CSRL1", for a key of that protection
 unfoldable pub gradeFailure : List Bytes → ℕ → Option rules.Step

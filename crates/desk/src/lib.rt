@@ -96,7 +96,7 @@ pub fn read_both(places: &mut [usize; bundle_facts::ENTRIES], bundle: &[u8], acl
         & files::whole(record_sizes::ACL_RECORDS, acl)) {
         return Checked::Refused(Refusal::BadLength);
     }
-    bundle_facts::find_places(places, bundle);
+    bundle_facts::find_offsets(places, bundle);
     files::first_fault(
         bundle_reader::bundle_records(bundle),
         files::first_fault(acl_reader::acl_records(acl), suite_known(places, bundle)),

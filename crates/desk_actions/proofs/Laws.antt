@@ -13,7 +13,7 @@ use lib.Seq.{length-take-le, take-take}
 use lib.Pow.{shr-shr, shr-le}
 use lib.Dec.{eqb, ltb}
 use Rattle.rules.specs.Basics.{if_then_else_, Bytes, implies, bit, allBelow, part, number, kind, flag, optional, present, bothSame, unless, firstFault}
-use Rattle.rules.specs.Acl.{blobRuleOf, archiveRuleOf, parametersAt, FileRule, Action, permissions, makeBlob, makeArchive, actionOf}
+use Rattle.rules.specs.Acl.{blobRuleOf, archiveRuleOf, parametersAt, BlobfileRule, Action, permissions, makeBlob, makeArchive, actionOf}
 use Rattle.rules.specs.Bundle.{Policy}
 use Rattle.rules.specs.Suites.{suiteMechanism}
 use Rattle.rules.specs.Desk.{Step, Class, classOf, policyAdmits, ACLV3, WB1, WB2, WB3, WB6, permissionsFailure, blobFailure, isMechanism, softParameters}
@@ -146,7 +146,7 @@ module _ (suite : ℕ) (a : SuiteAnswer) (e : a ≡ calledFor suite) where
   called-under c m n d g = sym (rw (← suite-found suite a e, ← d, g))
 
 -- What is made of an action, by the kind of its record.
-pub by-kind : {A : Type 0} (f : Action → A) (r : Bytes) (file : Option FileRule) (x : A)
+pub by-kind : {A : Type 0} (f : Action → A) (r : Bytes) (file : Option BlobfileRule) (x : A)
     → x ≡ (if eqb (kind r) 3 then f (permissions (number 4 2 r)) else if eqb (kind r) 4 then f (makeBlob (blobRuleOf r) file) else f (makeArchive (archiveRuleOf r) file))
     → x ≡ f (actionOf r file)
 unfolding actionOf

@@ -6,7 +6,7 @@ ghost use Prim.Native.Nat.{_+_, _≤_, _<_};
 ghost use lib.ListN.{length};
 ghost use Rattle.rules.specs.Sizes.{recordBytes, hashBytes};
 ghost use Rattle.rules.specs.Basics.{allBelow, bothSame, part, number, flag, optional};
-ghost use Rattle.rules.specs.Acl.{blobRuleOf, archiveRuleOf, FileRule, makeBlob, actionOf};
+ghost use Rattle.rules.specs.Acl.{blobRuleOf, archiveRuleOf, BlobfileRule, makeBlob, actionOf};
 ghost use Rattle.rules.specs.Suites.{suiteMechanism};
 ghost use Rattle.rules.specs.Desk.{classOf, policyAdmits, permissionsFailure, blobFailure, isMechanism, archiveFailure, failureUnder, actionProtection};
 ghost use Rattle.bundle_facts.specs.Found.{policyAs};
@@ -193,7 +193,7 @@ pub fn archive_steps(policy: Policy, hkre: &[u8], rec: &[u8]) -> Failure
 // The first step that an action fails, under a policy and the keys that are trusted; an empty part for one that is not.
 pub fn action_steps(policy: Policy, hkm: &[u8], hkre: &[u8], rec: &[u8]) -> Failure
     requires { ⌜ length (now rec) ≡ recordBytes ⌝ }
-    ensures { λ r. ⌜ ((file : Option FileRule) → failureAs r ≡ failureUnder (policyAs policy) (given (now (hkm .entry))) (given (now (hkre .entry))) (actionOf (now (rec .entry)) file)) ⌝ }
+    ensures { λ r. ⌜ ((file : Option BlobfileRule) → failureAs r ≡ failureUnder (policyAs policy) (given (now (hkm .entry))) (given (now (hkre .entry))) (actionOf (now (rec .entry)) file)) ⌝ }
 {
     let kind = rec[0];
     if kind == 3 {

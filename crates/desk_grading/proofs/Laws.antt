@@ -11,7 +11,7 @@ use lib.Dec.{eqb}
 use Rattle.rules.specs.Numbers.{notKept}
 use Rattle.rules.specs.Sizes.{hashBytes}
 use Rattle.rules.specs.Basics.{if_then_else_, Bytes, any, kind, flag, part, number, optional, bothSame, orNext, firstFault, records, recordsFrom}
-use Rattle.rules.specs.Acl.{blobRuleOf, archiveRuleOf, FileRule, fileRuleNext, Action, makeBlob, actionOf, actionsOf, Group, groupOf, groupsOf}
+use Rattle.rules.specs.Acl.{blobRuleOf, archiveRuleOf, BlobfileRule, blobfileRuleNext, Action, makeBlob, actionOf, actionsOf, Group, groupOf, groupsOf}
 use Rattle.rules.specs.Bundle.{field, Policy, policyOf}
 use Rattle.rules.specs.Desk.{Step, permissionsFailure, blobFailure, archiveFailure, moduleKey, recoveryKey, failureUnder, officersGroup, aclFailure, actionProtection, smallest, isArchive, keyProtection, recoverableKey}
 use Rattle.rules.proofs.Rows.{rows-at, rows-lent, rows-end, lentRecord, lent-record, kind-at}
@@ -21,7 +21,7 @@ use Rattle.desk_actions.proofs.Laws.{by-kind}
 use Rattle.desk_grading.specs.Grades.{Graded, gradedTogether, noActions, allGraded, actionGraded, actionsGraded, groupGraded, groupsGraded, aclGraded}
 
 -- An action by its kind: what it fails, what it protects by, whether it is for recovery.
-module _ (policy : Policy) (hkm hkre : Option Bytes) (r : Bytes) (file : Option FileRule) (failure : Option Step) where
+module _ (policy : Policy) (hkm hkre : Option Bytes) (r : Bytes) (file : Option BlobfileRule) (failure : Option Step) where
   pub graded-permissions : kind r ≡ 3 → failure ≡ permissionsFailure policy (number 4 2 r)
       → record { failure = failure; protection = notKept; recoverable = false } ≡ actionGraded policy hkm hkre (actionOf r file)
   unfolding actionGraded failureUnder actionProtection
@@ -187,10 +187,10 @@ module _ (officer : Option Bytes) (policy : Policy) (hkm hkre : Option Bytes) wh
 
     -- an action that is checked
     pub left-action : (one next : Graded) → 64 ≤ length s - at → (getD s at 0 ≡ 1 → ⊥) → not checked ≡ false → (64 ≤ length s - at → passedOver (getD s at 0) ≡ false)
-        → ((file : Option FileRule) → one ≡ actionGraded policy hkm hkre (actionOf (lentRecord s at) file)) → next ≡ gradedTogether found one → (r : ℕ) → NextPart s (at + 64) r
+        → ((file : Option BlobfileRule) → one ≡ actionGraded policy hkm hkre (actionOf (lentRecord s at) file)) → next ≡ gradedTogether found one → (r : ℕ) → NextPart s (at + 64) r
         → gradedTogether next (left checked s r) ≡ x
     left-action one next h n t o is e r q =
-        let f = fileRuleNext (records (drop (at + 64) s)) in
+        let f = blobfileRuleNext (records (drop (at + 64) s)) in
         let a = actionGraded policy hkm hkre (actionFrom s at) in
         let k : one ≡ a = is f ∙ ap (λ (b : Bytes). actionGraded policy hkm hkre (actionOf b f)) (lent-record s at) in
         ap (λ (z : Graded). gradedTogether z (left checked s r)) (e ∙ ap (gradedTogether found) k)

@@ -5,7 +5,7 @@ ghost use Prim.Native.Nat.{min};
 ghost use lib.ListN.{length};
 ghost use Rattle.rules.specs.Sizes.{recordBytes};
 ghost use Rattle.rules.specs.Basics.{records};
-ghost use Rattle.rules.specs.Acl.{FileRule, actionOf, aclOf};
+ghost use Rattle.rules.specs.Acl.{BlobfileRule, actionOf, aclOf};
 ghost use Rattle.rules.specs.Bundle.{policyOf};
 ghost use Rattle.bundle_facts.specs.Found.{policyAs};
 ghost use Rattle.bundle_facts.specs.Places.{Found};
@@ -48,7 +48,7 @@ fn joined(a: Grade, b: Grade) -> Grade
 // MakeArchiveBlob makes the key recoverable. The kind is looked at once for all three.
 fn action_grade(policy: Policy, hkm: &[u8], hkre: &[u8], rec: &[u8]) -> Grade
     requires { ⌜ length (now rec) ≡ recordBytes ⌝ }
-    ensures { λ r. ⌜ ((file : Option FileRule) → gradedAs r ≡ actionGraded (policyAs policy) (given (now (hkm .entry))) (given (now (hkre .entry))) (actionOf (now (rec .entry)) file)) ⌝ }
+    ensures { λ r. ⌜ ((file : Option BlobfileRule) → gradedAs r ≡ actionGraded (policyAs policy) (given (now (hkm .entry))) (given (now (hkre .entry))) (actionOf (now (rec .entry)) file)) ⌝ }
 {
     let kind = rec[0];
     if kind == 3 {

@@ -11,9 +11,9 @@ use lib.ListN.{length, drop, getD}
 use lib.Dec.{eqb}
 use lib.Pow.{pow-mono}
 use Rattle.rules.specs.Basics.{Bytes, any, same, bit, part, number, byte, kind, flag, optional, present, matches, records, recordsFrom}
-use Rattle.rules.specs.Acl.{Parameters, parametersOf, blobRuleOf, archiveRuleOf, FileRule, fileRuleNext, actionOf, Action, actionsOf}
-use Rattle.rules.specs.Request.{tokenOf, workingBlobOf, recoveryBlobOf, BlobFile, wantedOf}
-use Rattle.rules.specs.Grant.{tighter, meets, nullKey, admitsDirect, admitsToken, admitsKey, admitsBlob, admitsArchive, admitsFile, admitsUse, admitsWorking, admitsRecovery, admits}
+use Rattle.rules.specs.Acl.{Parameters, parametersOf, blobRuleOf, archiveRuleOf, BlobfileRule, blobfileRuleNext, actionOf, Action, actionsOf}
+use Rattle.rules.specs.Request.{tokenOf, workingBlobOf, recoveryBlobOf, Blobfile, wantedOf}
+use Rattle.rules.specs.Grant.{tighter, meets, nullKey, admitsDirect, admitsToken, admitsKey, admitsBlob, admitsArchive, admitsBlobfile, admitsUse, admitsWorking, admitsRecovery, admits}
 use Rattle.rules.proofs.Rows.{lentRecord, lentRest, lent-record, kind-at}
 use Rattle.acl_groups.specs.Parts.{passedOver, actionFrom, actionsFrom, NextAction}
 use Rattle.acl_groups.proofs.Laws.{acts-group, acts-here, acts-over, acts-end, lent-action}
@@ -73,7 +73,7 @@ high-bit p n h k =
     let z : n / 2 ^ p ≡ 0 = div-eq-of-lt (omega arith) in
     rw z
 
-module _ (p : ℕ) (act : Bytes) (file : Option FileRule) where
+module _ (p : ℕ) (act : Bytes) (file : Option BlobfileRule) where
   pub use-other : (kind act ≡ 3 → ⊥) → false ≡ admitsUse p (actionOf act file)
   unfolding admitsUse actionOf
   use-other n = pick (eqb (kind act) 4) refl
@@ -90,7 +90,7 @@ module _ (p : ℕ) (act : Bytes) (file : Option FileRule) where
   unfolding admitsUse actionOf
   use-bit x r e q d = d ∙ sym (rw (eq-eqb (kind act) 3 e, ← q))
 
-module _ (km0 rec : Bytes) (stored : Option BlobFile) (act : Bytes) (file : Option FileRule) where
+module _ (km0 rec : Bytes) (stored : Option Blobfile) (act : Bytes) (file : Option BlobfileRule) where
   pub working-other : (kind act ≡ 4 → ⊥) → false ≡ admitsWorking km0 (workingBlobOf rec) stored (actionOf act file)
   unfolding admitsWorking actionOf
   working-other n = pick (eqb (kind act) 3) refl
@@ -99,20 +99,20 @@ module _ (km0 rec : Bytes) (stored : Option BlobFile) (act : Bytes) (file : Opti
       pick true e = rw e
       pick false e = rw (e, ne-eqb (kind act) 4 n)
 
-  module _ (t : Bool) (e : kind act ≡ 4) (d : t ≡ admitsFile file stored) where
+  module _ (t : Bool) (e : kind act ≡ 4) (d : t ≡ admitsBlobfile file stored) where
     pub working-elsewhere : not t ≡ true → false ≡ admitsWorking km0 (workingBlobOf rec) stored (actionOf act file)
     unfolding admitsWorking actionOf
     working-elsewhere y =
-        let f : admitsFile file stored ≡ false = sym d ∙ not-true t y in
+        let f : admitsBlobfile file stored ≡ false = sym d ∙ not-true t y in
         sym (rw (ne-eqb (kind act) 3 (λ x. omega arith), eq-eqb (kind act) 4 e, f) (and-false (admitsBlob km0 (blobRuleOf act) (workingBlobOf rec))))
 
     pub working-is : (r : Bool) → not t ≡ false → r ≡ admitsBlob km0 (blobRuleOf act) (workingBlobOf rec) → r ≡ admitsWorking km0 (workingBlobOf rec) stored (actionOf act file)
     unfolding admitsWorking actionOf
     working-is r y q =
-        let f : admitsFile file stored ≡ true = sym d ∙ not-false t y in
+        let f : admitsBlobfile file stored ≡ true = sym d ∙ not-false t y in
         q ∙ sym (rw (ne-eqb (kind act) 3 (λ x. omega arith), eq-eqb (kind act) 4 e, f) (and-true (admitsBlob km0 (blobRuleOf act) (workingBlobOf rec))))
 
-module _ (rec : Bytes) (stored : Option BlobFile) (act : Bytes) (file : Option FileRule) where
+module _ (rec : Bytes) (stored : Option Blobfile) (act : Bytes) (file : Option BlobfileRule) where
   pub recovery-use : kind act ≡ 3 → false ≡ admitsRecovery (recoveryBlobOf rec) stored (actionOf act file)
   unfolding admitsRecovery actionOf
   recovery-use e = sym (rw (eq-eqb (kind act) 3 e))
@@ -121,13 +121,13 @@ module _ (rec : Bytes) (stored : Option BlobFile) (act : Bytes) (file : Option F
   unfolding admitsRecovery actionOf
   recovery-blob e = sym (rw (ne-eqb (kind act) 3 (λ x. omega arith), eq-eqb (kind act) 4 e))
 
-  pub recovery-is : (r t : Bool) → (kind act ≡ 3 → ⊥) → (kind act ≡ 4 → ⊥) → r ≡ admitsArchive (archiveRuleOf act) (recoveryBlobOf rec) → t ≡ admitsFile file stored
+  pub recovery-is : (r t : Bool) → (kind act ≡ 3 → ⊥) → (kind act ≡ 4 → ⊥) → r ≡ admitsArchive (archiveRuleOf act) (recoveryBlobOf rec) → t ≡ admitsBlobfile file stored
       → (r && t) ≡ admitsRecovery (recoveryBlobOf rec) stored (actionOf act file)
   unfolding admitsRecovery actionOf
   recovery-is r t n m q d = rw (q, d) (sym (rw (ne-eqb (kind act) 3 n, ne-eqb (kind act) 4 m)))
 
 -- what a request record asks for, by its kind
-module _ (km0 rec : Bytes) (stored : Option BlobFile) where
+module _ (km0 rec : Bytes) (stored : Option Blobfile) where
   asks-use : kind rec ≡ 6 → (acts : List Action) → any (admitsUse (byte 4 rec)) acts ≡ any (admits km0 (wantedOf rec stored)) acts
   unfolding admits wantedOf any
   asks-use e [] = refl
@@ -136,12 +136,12 @@ module _ (km0 rec : Bytes) (stored : Option BlobFile) where
   pub asks-some-use : (r : Bool) (acts : List Action) → kind rec ≡ 6 → r ≡ any (admitsUse (byte 4 rec)) acts → r ≡ any (admits km0 (wantedOf rec stored)) acts
   asks-some-use r acts e q = q ∙ asks-use e acts
 
-  pub asks-working : (act : Bytes) (file : Option FileRule) (r : Bool) → (kind rec ≡ 6 → ⊥) → kind rec ≡ 7 → r ≡ admitsWorking km0 (workingBlobOf rec) stored (actionOf act file)
+  pub asks-working : (act : Bytes) (file : Option BlobfileRule) (r : Bool) → (kind rec ≡ 6 → ⊥) → kind rec ≡ 7 → r ≡ admitsWorking km0 (workingBlobOf rec) stored (actionOf act file)
       → r ≡ admits km0 (wantedOf rec stored) (actionOf act file)
   unfolding admits wantedOf
   asks-working act file r n e q = q ∙ sym (rw (ne-eqb (kind rec) 6 n, eq-eqb (kind rec) 7 e))
 
-  pub asks-recovery : (act : Bytes) (file : Option FileRule) (r : Bool) → (kind rec ≡ 6 → ⊥) → (kind rec ≡ 7 → ⊥) → r ≡ admitsRecovery (recoveryBlobOf rec) stored (actionOf act file)
+  pub asks-recovery : (act : Bytes) (file : Option BlobfileRule) (r : Bool) → (kind rec ≡ 6 → ⊥) → (kind rec ≡ 7 → ⊥) → r ≡ admitsRecovery (recoveryBlobOf rec) stored (actionOf act file)
       → r ≡ admits km0 (wantedOf rec stored) (actionOf act file)
   unfolding admits wantedOf
   asks-recovery act file r n m q = q ∙ sym (rw (ne-eqb (kind rec) 6 n, ne-eqb (kind rec) 7 m))
@@ -158,7 +158,7 @@ module _ (p : Action → Bool) (s : Bytes) (at : ℕ) (x : Bool) (inv : any p (a
     one-more y = sym (ap (any p) step ∙ rw (sym e ∙ y)) ∙ inv
 
   module _ (t : Bool) (h : 64 ≤ length s - at) (step : 64 ≤ length s - at → actionsOf (records (drop at s)) ≡ actionsFrom s at)
-      (e : t ≡ p (actionOf (lentRecord s at) (fileRuleNext (records (lentRest s (at + 64)))))) where
+      (e : t ≡ p (actionOf (lentRecord s at) (blobfileRuleNext (records (lentRest s (at + 64)))))) where
     pub acts-found : t ≡ true → true ≡ x
     acts-found y = one-found t (step h) (e ∙ ap p (lent-action s at)) y
 
@@ -180,7 +180,7 @@ acts-first p s at e = ap (any p) (e .same)
 
 -- The loop for a use: a record that is no action admits none, and neither does an action of another kind.
 module _ (p : ℕ) (s : Bytes) (at : ℕ) (x : Bool) (inv : any (admitsUse p) (actionsOf (recordsFrom s at)) ≡ x) (t : Bool) (h : 64 ≤ length s - at) (n : getD s at 0 ≡ 1 → ⊥)
-    (e : (file : Option FileRule) → t ≡ admitsUse p (actionOf (lentRecord s at) file)) where
+    (e : (file : Option BlobfileRule) → t ≡ admitsUse p (actionOf (lentRecord s at) file)) where
   kind-is : kind (lentRecord s at) ≡ getD s at 0
   kind-is = ap (λ (r : Bytes). getD r 0 0) (lent-record s at) ∙ kind-at s at
 
@@ -188,7 +188,7 @@ module _ (p : ℕ) (s : Bytes) (at : ℕ) (x : Bool) (inv : any (admitsUse p) (a
   other-none m = e none ∙ sym (use-other p (lentRecord s at) none (λ k. m (sym kind-is ∙ k)))
 
   here : t ≡ admitsUse p (actionFrom s at)
-  here = let f = fileRuleNext (records (drop (at + 64) s)) in e f ∙ ap (λ (r : Bytes). admitsUse p (actionOf r f)) (lent-record s at)
+  here = let f = blobfileRuleNext (records (drop (at + 64) s)) in e f ∙ ap (λ (r : Bytes). admitsUse p (actionOf r f)) (lent-record s at)
 
   pub uses-found : t ≡ true → true ≡ x
   uses-found y = pick (eqb (getD s at 0) 3) refl

@@ -4,8 +4,8 @@ ghost use mathlib.Core.Option.{Option};
 ghost use lib.ListN.{length};
 ghost use Rattle.rules.specs.Sizes.{recordBytes};
 ghost use Rattle.rules.specs.Basics.{any, same, kind, optional, matches, records};
-ghost use Rattle.rules.specs.Acl.{parametersOf, blobRuleOf, archiveRuleOf, FileRule, fileRuleNext, actionOf, actionsOf};
-ghost use Rattle.rules.specs.Request.{tokenOf, workingBlobOf, recoveryBlobOf, blobFileNext, wantedOf};
+ghost use Rattle.rules.specs.Acl.{parametersOf, blobRuleOf, archiveRuleOf, BlobfileRule, blobfileRuleNext, actionOf, actionsOf};
+ghost use Rattle.rules.specs.Request.{tokenOf, workingBlobOf, recoveryBlobOf, blobfileNext, wantedOf};
 ghost use Rattle.rules.specs.Grant.{timeAnswers, tighter, meets, nullKey, admitsDirect, admitsToken, admitsKey, admitsBlob, admitsArchive, admitsUse, admitsWorking, admitsRecovery, admits};
 
 // The null module key: 01, then nineteen zero bytes.
@@ -132,7 +132,7 @@ fn admits_archive(act: &[u8], rec: &[u8]) -> bool
 // Whether an action admits a use of permission p: the bit is set. No number has a bit past the sixteenth.
 fn admits_use(p: u8, act: &[u8]) -> bool
     requires { ⌜ length (now act) ≡ recordBytes ⌝ }
-    ensures { λ r. ⌜ ((file : Option FileRule) → r ≡ admitsUse p (actionOf (now (act .entry)) file)) ⌝ }
+    ensures { λ r. ⌜ ((file : Option BlobfileRule) → r ≡ admitsUse p (actionOf (now (act .entry)) file)) ⌝ }
 {
     if act[0] != 3 {
         return false;
@@ -148,12 +148,12 @@ fn admits_use(p: u8, act: &[u8]) -> bool
 // that costs less.
 fn admits_working(km0: &[u8], rec: &[u8], rest: &[u8], act: &[u8], after: &[u8]) -> bool
     requires { ⌜ (length (now act) ≡ recordBytes) × (length (now rec) ≡ recordBytes) ⌝ }
-    ensures { λ r. ⌜ r ≡ admitsWorking (now (km0 .entry)) (workingBlobOf (now (rec .entry))) (blobFileNext (records (now (rest .entry)))) (actionOf (now (act .entry)) (fileRuleNext (records (now (after .entry))))) ⌝ }
+    ensures { λ r. ⌜ r ≡ admitsWorking (now (km0 .entry)) (workingBlobOf (now (rec .entry))) (blobfileNext (records (now (rest .entry)))) (actionOf (now (act .entry)) (blobfileRuleNext (records (now (after .entry))))) ⌝ }
 {
     if act[0] != 4 {
         return false;
     }
-    if !gate_blobfile::admits_place(rest, after) {
+    if !gate_blobfile::admits_blobfile(rest, after) {
         return false;
     }
     admits_blob(km0, act, rec)
@@ -162,7 +162,7 @@ fn admits_working(km0: &[u8], rec: &[u8], rest: &[u8], act: &[u8], after: &[u8])
 // Whether an action admits a recovery blob.
 fn admits_recovery(rec: &[u8], rest: &[u8], act: &[u8], after: &[u8]) -> bool
     requires { ⌜ (length (now act) ≡ recordBytes) × (length (now rec) ≡ recordBytes) ⌝ }
-    ensures { λ r. ⌜ r ≡ admitsRecovery (recoveryBlobOf (now (rec .entry))) (blobFileNext (records (now (rest .entry)))) (actionOf (now (act .entry)) (fileRuleNext (records (now (after .entry))))) ⌝ }
+    ensures { λ r. ⌜ r ≡ admitsRecovery (recoveryBlobOf (now (rec .entry))) (blobfileNext (records (now (rest .entry)))) (actionOf (now (act .entry)) (blobfileRuleNext (records (now (after .entry))))) ⌝ }
 {
     let kind = act[0];
     if kind == 3 {
@@ -171,13 +171,13 @@ fn admits_recovery(rec: &[u8], rest: &[u8], act: &[u8], after: &[u8]) -> bool
     if kind == 4 {
         return false;
     }
-    admits_archive(act, rec) & gate_blobfile::admits_place(rest, after)
+    admits_archive(act, rec) & gate_blobfile::admits_blobfile(rest, after)
 }
 
 // Whether an action admits the blob that a request record asks for. `rest` follows the request record, `after` the action.
 fn action_admits(km0: &[u8], rec: &[u8], rest: &[u8], act: &[u8], after: &[u8]) -> bool
     requires { ⌜ (length (now act) ≡ recordBytes) × (length (now rec) ≡ recordBytes) × (kind (now rec) ≡ 6 → ⊥) ⌝ }
-    ensures { λ r. ⌜ r ≡ admits (now (km0 .entry)) (wantedOf (now (rec .entry)) (blobFileNext (records (now (rest .entry))))) (actionOf (now (act .entry)) (fileRuleNext (records (now (after .entry))))) ⌝ }
+    ensures { λ r. ⌜ r ≡ admits (now (km0 .entry)) (wantedOf (now (rec .entry)) (blobfileNext (records (now (rest .entry))))) (actionOf (now (act .entry)) (blobfileRuleNext (records (now (after .entry))))) ⌝ }
 {
     if rec[0] == 7 {
         return admits_working(km0, rec, rest, act, after);
@@ -188,7 +188,7 @@ fn action_admits(km0: &[u8], rec: &[u8], rest: &[u8], act: &[u8], after: &[u8]) 
 // Whether a group admits the blob that a request asks for, of the records that follow the group's first one.
 fn admits_some_blob(km0: &[u8], rec: &[u8], rest: &[u8], body: &[u8]) -> bool
     requires { ⌜ (length (now rec) ≡ recordBytes) × (kind (now rec) ≡ 6 → ⊥) ⌝ }
-    ensures { λ r. ⌜ r ≡ any (admits (now (km0 .entry)) (wantedOf (now (rec .entry)) (blobFileNext (records (now (rest .entry)))))) (actionsOf (records (now (body .entry)))) ⌝ }
+    ensures { λ r. ⌜ r ≡ any (admits (now (km0 .entry)) (wantedOf (now (rec .entry)) (blobfileNext (records (now (rest .entry)))))) (actionsOf (records (now (body .entry)))) ⌝ }
 {
     let mut at = acl_groups::next_action(body, 0);
     while record_sizes::RECORD <= body.len() - at {
@@ -227,7 +227,7 @@ fn admits_some_use(p: u8, body: &[u8]) -> bool
 // Whether a group admits what a request asks for. Its kind is looked at once, not for each action. `rest` follows the request record.
 pub fn group_admits(km0: &[u8], rec: &[u8], rest: &[u8], body: &[u8]) -> bool
     requires { ⌜ length (now rec) ≡ recordBytes ⌝ }
-    ensures { λ r. ⌜ r ≡ any (admits (now (km0 .entry)) (wantedOf (now (rec .entry)) (blobFileNext (records (now (rest .entry)))))) (actionsOf (records (now (body .entry)))) ⌝ }
+    ensures { λ r. ⌜ r ≡ any (admits (now (km0 .entry)) (wantedOf (now (rec .entry)) (blobfileNext (records (now (rest .entry)))))) (actionsOf (records (now (body .entry)))) ⌝ }
 {
     if rec[0] == 6 {
         return admits_some_use(rec[4], body);

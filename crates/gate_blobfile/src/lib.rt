@@ -4,16 +4,16 @@ ghost use mathlib.Core.Path.{_≡_};
 ghost use lib.ListN.{length};
 ghost use Rattle.rules.specs.Sizes.{recordBytes};
 ghost use Rattle.rules.specs.Basics.{records};
-ghost use Rattle.rules.specs.Acl.{fileRuleOf, fileRuleNext};
-ghost use Rattle.rules.specs.Request.{blobFileOf, blobFileNext};
-ghost use Rattle.rules.specs.Grant.{admitsDevice, admitsTemplate, admitsFile};
-ghost use Rattle.rules.specs.Narrow.{kept, keptDevices, fileNoWider};
-ghost use Rattle.acl_groups.specs.Parts.{fileIn, blobIn};
+ghost use Rattle.rules.specs.Acl.{blobfileRuleOf, blobfileRuleNext};
+ghost use Rattle.rules.specs.Request.{blobfileOf, blobfileNext};
+ghost use Rattle.rules.specs.Grant.{admitsDevice, admitsTemplate, admitsBlobfile};
+ghost use Rattle.rules.specs.Narrow.{kept, keptDevices, blobfileNoWider};
+ghost use Rattle.acl_groups.specs.Parts.{blobfileRuleIn, blobfileIn};
 
 // Whether the device that a stored blob names is in an action's mask, if it has one.
 fn admits_device(file: &[u8], stored: &[u8]) -> bool
     requires { ⌜ (length (now file) ≡ recordBytes) × (length (now stored) ≡ recordBytes) ⌝ }
-    ensures { λ r. ⌜ r ≡ admitsDevice (fileRuleOf (now (file .entry)) .devices) (blobFileOf (now (stored .entry)) .device) ⌝ }
+    ensures { λ r. ⌜ r ≡ admitsDevice (blobfileRuleOf (now (file .entry)) .devices) (blobfileOf (now (stored .entry)) .device) ⌝ }
 {
     if !record_fields::flag_of(0, file) {
         return true;
@@ -24,7 +24,7 @@ fn admits_device(file: &[u8], stored: &[u8]) -> bool
 // Whether a stored blob has the template of an action, if the action has one.
 fn admits_template(file: &[u8], stored: &[u8]) -> bool
     requires { ⌜ (length (now file) ≡ recordBytes) × (length (now stored) ≡ recordBytes) ⌝ }
-    ensures { λ r. ⌜ r ≡ admitsTemplate (fileRuleOf (now (file .entry)) .template) (blobFileOf (now (stored .entry)) .template) ⌝ }
+    ensures { λ r. ⌜ r ≡ admitsTemplate (blobfileRuleOf (now (file .entry)) .template) (blobfileOf (now (stored .entry)) .template) ⌝ }
 {
     if !record_fields::flag_of(1, file) {
         return true;
@@ -38,7 +38,7 @@ fn admits_template(file: &[u8], stored: &[u8]) -> bool
 // Kind 15 of an action against that of a request; an empty part for one that is not there.
 fn admits_file(file: &[u8], stored: &[u8]) -> bool
     requires { ⌜ ((length (now file) ≡ 0 → ⊥) → length (now file) ≡ recordBytes) × ((length (now stored) ≡ 0 → ⊥) → length (now stored) ≡ recordBytes) ⌝ }
-    ensures { λ r. ⌜ r ≡ admitsFile (fileIn (now (file .entry))) (blobIn (now (stored .entry))) ⌝ }
+    ensures { λ r. ⌜ r ≡ admitsBlobfile (blobfileRuleIn (now (file .entry))) (blobfileIn (now (stored .entry))) ⌝ }
 {
     if file.len() == 0 {
         return stored.len() == 0;
@@ -50,8 +50,8 @@ fn admits_file(file: &[u8], stored: &[u8]) -> bool
 }
 
 // The same, from the records after the request record and the records after the action.
-pub fn admits_place(rest: &[u8], after: &[u8]) -> bool
-    ensures { λ r. ⌜ r ≡ admitsFile (fileRuleNext (records (now (after .entry)))) (blobFileNext (records (now (rest .entry)))) ⌝ }
+pub fn admits_blobfile(rest: &[u8], after: &[u8]) -> bool
+    ensures { λ r. ⌜ r ≡ admitsBlobfile (blobfileRuleNext (records (now (after .entry)))) (blobfileNext (records (now (rest .entry)))) ⌝ }
 {
     admits_file(acl_groups::file_part(after), acl_groups::file_part(rest))
 }
@@ -59,7 +59,7 @@ pub fn admits_place(rest: &[u8], after: &[u8]) -> bool
 // A device mask against the old one: kept, tightened or added.
 fn kept_devices(new: &[u8], old: &[u8]) -> bool
     requires { ⌜ (length (now new) ≡ recordBytes) × (length (now old) ≡ recordBytes) ⌝ }
-    ensures { λ r. ⌜ r ≡ keptDevices (fileRuleOf (now (new .entry)) .devices) (fileRuleOf (now (old .entry)) .devices) ⌝ }
+    ensures { λ r. ⌜ r ≡ keptDevices (blobfileRuleOf (now (new .entry)) .devices) (blobfileRuleOf (now (old .entry)) .devices) ⌝ }
 {
     if !record_fields::flag_of(0, old) {
         return true;
@@ -73,7 +73,7 @@ fn kept_devices(new: &[u8], old: &[u8]) -> bool
 // A template against the old one: kept equal or added.
 fn kept_template(new: &[u8], old: &[u8]) -> bool
     requires { ⌜ (length (now new) ≡ recordBytes) × (length (now old) ≡ recordBytes) ⌝ }
-    ensures { λ r. ⌜ r ≡ kept (fileRuleOf (now (new .entry)) .template) (fileRuleOf (now (old .entry)) .template) ⌝ }
+    ensures { λ r. ⌜ r ≡ kept (blobfileRuleOf (now (new .entry)) .template) (blobfileRuleOf (now (old .entry)) .template) ⌝ }
 {
     if !record_fields::flag_of(1, old) {
         return true;
@@ -85,9 +85,9 @@ fn kept_template(new: &[u8], old: &[u8]) -> bool
 }
 
 // Kind 15 of a new action against that of the old one, as parts: the new one has it exactly if the old one has.
-fn file_no_wider(new: &[u8], old: &[u8]) -> bool
+fn rule_no_wider(new: &[u8], old: &[u8]) -> bool
     requires { ⌜ ((length (now new) ≡ 0 → ⊥) → length (now new) ≡ recordBytes) × ((length (now old) ≡ 0 → ⊥) → length (now old) ≡ recordBytes) ⌝ }
-    ensures { λ r. ⌜ r ≡ fileNoWider (fileIn (now (new .entry))) (fileIn (now (old .entry))) ⌝ }
+    ensures { λ r. ⌜ r ≡ blobfileNoWider (blobfileRuleIn (now (new .entry))) (blobfileRuleIn (now (old .entry))) ⌝ }
 {
     if new.len() == 0 {
         return old.len() == 0;
@@ -99,8 +99,8 @@ fn file_no_wider(new: &[u8], old: &[u8]) -> bool
 }
 
 // The same, from the records that follow two actions.
-pub fn place_no_wider(new: &[u8], old: &[u8]) -> bool
-    ensures { λ r. ⌜ r ≡ fileNoWider (fileRuleNext (records (now (new .entry)))) (fileRuleNext (records (now (old .entry)))) ⌝ }
+pub fn blobfile_no_wider(new: &[u8], old: &[u8]) -> bool
+    ensures { λ r. ⌜ r ≡ blobfileNoWider (blobfileRuleNext (records (now (new .entry)))) (blobfileRuleNext (records (now (old .entry)))) ⌝ }
 {
-    file_no_wider(acl_groups::file_part(new), acl_groups::file_part(old))
+    rule_no_wider(acl_groups::file_part(new), acl_groups::file_part(old))
 }

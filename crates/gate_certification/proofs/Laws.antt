@@ -13,7 +13,7 @@ use lib.Dec.{eqb}
 use Rattle.rules.specs.Sizes.{chainMax}
 use Rattle.rules.specs.Basics.{if_then_else_, Bytes, any, same, bit, part, number, byte, kind, flag, optional, matchesNumber, records, recordsFrom}
 use Rattle.rules.specs.Acl.{groupOf}
-use Rattle.rules.specs.Request.{BlobFile, blobFileNext, wantedOf, Certificate, certificateOf, certificatesOf, Delegation, delegationOf, delegationsOf, Request, requestOf}
+use Rattle.rules.specs.Request.{Blobfile, blobfileNext, wantedOf, Certificate, certificateOf, certificatesOf, Delegation, delegationOf, delegationsOf, Request, requestOf}
 use Rattle.rules.specs.Chain.{serves, holds, chained, delegated, vouched}
 use Rattle.rules.specs.Grant.{certified}
 use Rattle.request_reader.specs.Parts.{Parted}
@@ -103,7 +103,7 @@ module _ (p : Certificate → Bool) (s : Bytes) (at : ℕ) (x : Bool) (inv : any
   certs-none h = sym (ap (λ (l : List Bytes). any p (certificatesOf l)) (rows-end s at h)) ∙ inv
 
 -- what a request record asks for
-module _ (rec : Bytes) (file : Option BlobFile) (k : Bytes) (m : Option ℕ) (cs : List Certificate) (ds : List Delegation) where
+module _ (rec : Bytes) (file : Option Blobfile) (k : Bytes) (m : Option ℕ) (cs : List Certificate) (ds : List Delegation) where
   pub delegated-blob : (byte 0 rec ≡ 6 → ⊥) → false ≡ delegated (wantedOf rec file) k m cs ds
   unfolding delegated wantedOf
   delegated-blob n = pick (eqb (kind rec) 7) refl
@@ -128,8 +128,8 @@ module _ (g : Bytes) (f : Bool) (d : f ≡ flag 0 g) where
     certifier-shown y = sym (rw (sym d ∙ not-false f e, ← p .certificates, sym t ∙ y))
 
     pub certifier-delegates : (x : Bool) → 64 ≤ length s → r ≡ false
-        → ((file : Option BlobFile) → x ≡ delegated (wantedOf (take 64 s) file) (part 4 20 g) (optional (flag 1 g) (number 24 2 g)) (certificatesOf (records (take (at - 64) (drop 64 s)))) (delegationsOf (records (take (length s - at) (drop at s)))))
+        → ((file : Option Blobfile) → x ≡ delegated (wantedOf (take 64 s) file) (part 4 20 g) (optional (flag 1 g) (number 24 2 g)) (certificatesOf (records (take (at - 64) (drop 64 s)))) (delegationsOf (records (take (length s - at) (drop at s)))))
         → x ≡ certified (requestOf s) (groupOf g [])
     unfolding vouched
     certifier-delegates x h y z =
-        z (blobFileNext (records (drop 64 s))) ∙ sym (rw (sym d ∙ not-false f e, ← wanted-first s (drop 64 s) refl h, ← p .certificates, ← p .delegations, sym t ∙ y))
+        z (blobfileNext (records (drop 64 s))) ∙ sym (rw (sym d ∙ not-false f e, ← wanted-first s (drop 64 s) refl h, ← p .certificates, ← p .delegations, sym t ∙ y))

@@ -8,7 +8,7 @@ ghost use lib.ListN.{length};
 ghost use Rattle.rules.specs.Sizes.{recordBytes, hashBytes, chainMax};
 ghost use Rattle.rules.specs.Basics.{if_then_else_, any, part, number, flag, optional, matchesNumber, records};
 ghost use Rattle.rules.specs.Acl.{groupOf};
-ghost use Rattle.rules.specs.Request.{BlobFile, wantedOf, certificateOf, certificatesOf, delegationOf, delegationsOf, requestOf};
+ghost use Rattle.rules.specs.Request.{Blobfile, wantedOf, certificateOf, certificatesOf, delegationOf, delegationsOf, requestOf};
 ghost use Rattle.rules.specs.Chain.{serves, holds, chained, delegated};
 ghost use Rattle.rules.specs.Grant.{certified};
 ghost use Rattle.request_reader.specs.Parts.{Sound};
@@ -199,7 +199,7 @@ fn has_chain(p: u8, group: &[u8], certs: &[u8], dels: &[u8]) -> bool
 // Whether a use is delegated; a blob request is not.
 fn is_delegated(rec: &[u8], group: &[u8], certs: &[u8], dels: &[u8]) -> bool
     requires { ⌜ (length (now rec) ≡ recordBytes) × ((length (now group) ≡ recordBytes) × (length (now dels) ≤ 4032)) ⌝ }
-    ensures { λ r. ⌜ ((file : Option BlobFile) → r ≡ delegated (wantedOf (now (rec .entry)) file) (part 4 hashBytes (now (group .entry))) (optional (flag 1 (now (group .entry))) (number 24 2 (now (group .entry)))) (certificatesOf (records (now (certs .entry)))) (delegationsOf (records (now (dels .entry))))) ⌝ }
+    ensures { λ r. ⌜ ((file : Option Blobfile) → r ≡ delegated (wantedOf (now (rec .entry)) file) (part 4 hashBytes (now (group .entry))) (optional (flag 1 (now (group .entry))) (number 24 2 (now (group .entry)))) (certificatesOf (records (now (certs .entry)))) (delegationsOf (records (now (dels .entry))))) ⌝ }
 {
     if rec[0] != 6 {
         return false;

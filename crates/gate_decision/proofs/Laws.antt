@@ -10,17 +10,17 @@ use lib.ListN.{length, take, drop, getD, List·getD-eq-default}
 use lib.Dec.{ltb}
 use Rattle.rules.specs.Basics.{Bytes, any, same, number, byte, records, recordsFrom}
 use Rattle.rules.specs.Acl.{limitOf, Action, Group, groupOf, groupsOf}
-use Rattle.rules.specs.Request.{Wanted, blobFileNext, wantedOf, Request, requestOf}
+use Rattle.rules.specs.Request.{Wanted, blobfileNext, wantedOf, Request, requestOf}
 use Rattle.rules.specs.Grant.{admits, groupAdmits, certified, counterLeft, limitLeft, unspentWith}
 use Rattle.rules.proofs.Laws.{same-eq}
 use Rattle.rules.proofs.Rows.{wanted-first, rows-lent, rows-end, rows-rest, lentRecord, lentRest, lent-record, lent-rest, kind-at}
-use Rattle.gate_decision.specs.declared.Standing.{Standing}
-use Rattle.gate_decision.specs.declared.Standing.the-variants.{NotAdmitting, Admitting, Certified, Granting}
+use Rattle.gate_decision.specs.declared.GroupResult.{GroupResult}
+use Rattle.gate_decision.specs.declared.GroupResult.the-variants.{NotAdmitting, Admitting, Certified, Granting}
 use Rattle.gate_decision.specs.declared.Nearest.{Nearest}
 use Rattle.refusals.specs.declared.Denial.{Denial}
 use Rattle.gate_decision.specs.declared.Judged.{Judged}
 use Rattle.gate_decision.specs.declared.Judged.the-variants.{Granted, Denied}
-use Rattle.gate_decision.specs.Standings.{isGranting, nearer, denialOf, standingOf, judgedFrom, standingWith, standing, recordStanding, seenAfter, someAfter, heldAfter, Remembered, NextGroup}
+use Rattle.gate_decision.specs.Standings.{isGranting, nearer, denialOf, resultOf, judgedFrom, resultWith, groupResult, recordResult, seenAfter, someAfter, heldAfter, Remembered, NextGroup}
 
 -- a count past a table
 pub past-table : (t : List ℕ) (i : ℕ) → length t ≤ i → 0 ≡ getD t i 0
@@ -61,12 +61,12 @@ module _ (s : Bytes) (at i : ℕ) (inv : groupsOf (recordsFrom s i) ≡ groupsOf
   group-skip h n = sym (ap groupsOf (rows-lent s i h) ∙ rw (lent-record s i, kind-at s i, ne-eqb (getD s i 0) 1 n)) ∙ inv
 
 -- A loop over the groups.
-module _ (f : ℕ → Group → Standing) (s : Bytes) (at : ℕ) (near : Nearest) (place : ℕ) (x : Judged) (inv : judgedFrom f near place (groupsOf (recordsFrom s at)) ≡ x) where
+module _ (f : ℕ → Group → GroupResult) (s : Bytes) (at : ℕ) (near : Nearest) (place : ℕ) (x : Judged) (inv : judgedFrom f near place (groupsOf (recordsFrom s at)) ≡ x) where
   groups-step : 64 ≤ length s - at → getD s at 0 ≡ 1 → groupsOf (recordsFrom s at) ≡ groupOf (lentRecord s at) (recordsFrom s (at + 64)) ∷ groupsOf (recordsFrom s (at + 64))
   unfolding groupsOf
   groups-step h e = ap groupsOf (rows-lent s at h) ∙ rw (lent-record s at, kind-at s at, eq-eqb (getD s at 0) 1 e)
 
-  module _ (h : 64 ≤ length s - at) (e : getD s at 0 ≡ 1) (t : Standing) (d : t ≡ f place (groupOf (lentRecord s at) (recordsFrom s (at + 64)))) (b : Bool) (q : b ≡ isGranting t) where
+  module _ (h : 64 ≤ length s - at) (e : getD s at 0 ≡ 1) (t : GroupResult) (d : t ≡ f place (groupOf (lentRecord s at) (recordsFrom s (at + 64)))) (b : Bool) (q : b ≡ isGranting t) where
     pub groups-grant : b ≡ true → Granted place ≡ x
     unfolding judgedFrom
     groups-grant y =
@@ -77,7 +77,7 @@ module _ (f : ℕ → Group → Standing) (s : Bytes) (at : ℕ) (near : Nearest
     unfolding judgedFrom
     groups-after n y p =
         let g : isGranting (f place (groupOf (lentRecord s at) (recordsFrom s (at + 64)))) ≡ false = sym (ap isGranting d) ∙ sym q ∙ y in
-        let r : nearer near (f place (groupOf (lentRecord s at) (recordsFrom s (at + 64)))) place ≡ n = ap (λ (z : Standing). nearer near z place) (sym d) ∙ sym p in
+        let r : nearer near (f place (groupOf (lentRecord s at) (recordsFrom s (at + 64)))) place ≡ n = ap (λ (z : GroupResult). nearer near z place) (sym d) ∙ sym p in
         rw add-one (sym (ap (judgedFrom f near place) (groups-step h e) ∙ rw (g, r)) ∙ inv)
 
     pub groups-next : (n : Nearest) (r : ℕ) → b ≡ false → n ≡ nearer near t place → groupsOf (records (drop r s)) ≡ groupsOf (records (drop (at + 64) s))
@@ -90,17 +90,17 @@ module _ (f : ℕ → Group → Standing) (s : Bytes) (at : ℕ) (near : Nearest
   groups-done d h e = ap Denied e ∙ sym (ap (λ (l : List Bytes). judgedFrom f near place (groupsOf l)) (rows-end s at h)) ∙ inv
 
 -- the last test that a group passes, as the code asked for it
-pub standing-at : (counts counters : List ℕ) (own elapsed : ℕ) (km0 : Bytes) (q : Request) (place : ℕ) (s : Bytes) (at : ℕ) (t : Standing)
-    → own ≡ getD counts place 0 → t ≡ recordStanding counters own elapsed km0 q (lentRecord s at) (records (lentRest s (at + 64)))
-    → t ≡ standing counts counters elapsed km0 q place (groupOf (lentRecord s at) (recordsFrom s (at + 64)))
-unfolding standing recordStanding
+pub standing-at : (counts counters : List ℕ) (own elapsed : ℕ) (km0 : Bytes) (q : Request) (place : ℕ) (s : Bytes) (at : ℕ) (t : GroupResult)
+    → own ≡ getD counts place 0 → t ≡ recordResult counters own elapsed km0 q (lentRecord s at) (records (lentRest s (at + 64)))
+    → t ≡ groupResult counts counters elapsed km0 q place (groupOf (lentRecord s at) (recordsFrom s (at + 64)))
+unfolding groupResult recordResult
 standing-at counts counters own elapsed km0 q place s at t o e =
     e
-    ∙ ap (λ (n : ℕ). standingWith counters n elapsed km0 q (groupOf (lentRecord s at) (records (lentRest s (at + 64))))) o
-    ∙ ap (λ (l : List Bytes). standingWith counters (getD counts place 0) elapsed km0 q (groupOf (lentRecord s at) l)) (rows-rest s (at + 64))
+    ∙ ap (λ (n : ℕ). resultWith counters n elapsed km0 q (groupOf (lentRecord s at) (records (lentRest s (at + 64))))) o
+    ∙ ap (λ (l : List Bytes). resultWith counters (getD counts place 0) elapsed km0 q (groupOf (lentRecord s at) l)) (rows-rest s (at + 64))
 
 -- a group that admits what the request record and what follows it ask for admits the request
-pub admits-asked : (km0 s : Bytes) (acts : List Action) (r : Bool) → r ≡ any (admits km0 (wantedOf (take 64 s) (blobFileNext (records (take (length s - 64) (drop 64 s)))))) acts → 64 ≤ length s
+pub admits-asked : (km0 s : Bytes) (acts : List Action) (r : Bool) → r ≡ any (admits km0 (wantedOf (take 64 s) (blobfileNext (records (take (length s - 64) (drop 64 s)))))) acts → 64 ≤ length s
     → r ≡ any (admits km0 (requestOf s .wanted)) acts
 admits-asked km0 s acts r e h = e ∙ ap (λ (w : Wanted). any (admits km0 w) acts) (wanted-first s (lentRest s 64) (lent-rest s 64) h)
 
@@ -118,21 +118,21 @@ told-none q old held = record { told = λ e. absurd (never e) }
 
 -- After a group more what is remembered is of that group, if its certification was decided.
 remember : (q : Request) (s : Bytes) (at seen : ℕ) (some held a c u : Bool) → c ≡ certified q (groupOf (lentRecord s at) []) → Remembered q (lentRecord s seen) some held
-    → Remembered q (lentRecord s (seenAfter (standingOf a c u) seen at)) (someAfter (standingOf a c u) some) (heldAfter (standingOf a c u) held)
+    → Remembered q (lentRecord s (seenAfter (resultOf a c u) seen at)) (someAfter (resultOf a c u) some) (heldAfter (resultOf a c u) held)
 remember q s at seen some held false c u e m = m
 remember q s at seen some held true false u e m = record { told = λ y. e }
 remember q s at seen some held true true false e m = record { told = λ y. e }
 remember q s at seen some held true true true e m = record { told = λ y. e }
 
-pub told-next : (counters : List ℕ) (own elapsed : ℕ) (km0 : Bytes) (q : Request) (s : Bytes) (at seen : ℕ) (some held : Bool) (rest : List Bytes) (t : Standing)
-    → Remembered q (lentRecord s seen) some held → t ≡ recordStanding counters own elapsed km0 q (lentRecord s at) rest
+pub told-next : (counters : List ℕ) (own elapsed : ℕ) (km0 : Bytes) (q : Request) (s : Bytes) (at seen : ℕ) (some held : Bool) (rest : List Bytes) (t : GroupResult)
+    → Remembered q (lentRecord s seen) some held → t ≡ recordResult counters own elapsed km0 q (lentRecord s at) rest
     → (r : ℕ) (b h : Bool) → r ≡ seenAfter t seen at → b ≡ someAfter t some → h ≡ heldAfter t held → Remembered q (lentRecord s r) b h
-unfolding recordStanding
+unfolding recordResult
 told-next counters own elapsed km0 q s at seen some held rest t m d r b h e f g =
     let w = groupOf (lentRecord s at) rest in
     rw (e, f, g, d) (remember q s at seen some held (groupAdmits km0 q w) (certified q w) (unspentWith counters own elapsed (w .limits)) refl m)
 
-pub seen-before : (t : Standing) (seen at r : ℕ) → seen ≤ at → r ≡ seenAfter t seen at → r ≤ at
+pub seen-before : (t : GroupResult) (seen at r : ℕ) → seen ≤ at → r ≡ seenAfter t seen at → r ≤ at
 seen-before NotAdmitting seen at r h e = omega arith
 seen-before Admitting seen at r h e = omega arith
 seen-before Certified seen at r h e = omega arith

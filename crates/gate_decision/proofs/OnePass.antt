@@ -12,20 +12,20 @@ use Rattle.rules.specs.Ledger.{Ledger}
 use Rattle.rules.specs.Grant.{groupAdmits, certified, unspent}
 use Rattle.rules.specs.Gate.{Lowest, notFound, group, lowest, Judgement, granted, admitsCertified, grants, orElse, judge}
 use Rattle.rules.proofs.Judging.{ungranted}
-use Rattle.gate_decision.specs.declared.Standing.{Standing}
+use Rattle.gate_decision.specs.declared.GroupResult.{GroupResult}
 use Rattle.gate_decision.specs.declared.Nearest.{Nearest}
 use Rattle.gate_decision.specs.declared.Nearest.the-variants as near
 use Rattle.gate_decision.specs.declared.Judged.{Judged}
-use Rattle.refusals.specs.declared.Denial.the-variants.{Early, Uncertified, Exhausted}
+use Rattle.refusals.specs.declared.Denial.the-variants.{ClockBack, NotCertified, Spent}
 use Rattle.gate_decision.specs.declared.Judged.the-variants.{Granted, Denied}
-use Rattle.gate_decision.specs.Standings.{standingOf, denialOf, judgedFrom, standing, judgedFor, ledgerOfTables}
+use Rattle.gate_decision.specs.Standings.{resultOf, denialOf, judgedFrom, groupResult, judgedFor, ledgerOfTables}
 
 -- why no group grants, by the nearest before and the lowest groups from there on
 abbrev combined : Nearest → Lowest → Lowest → Judged
 combined near.Nothing c a = judgedFor (ungranted c a)
-combined (near.Admitting k) notFound a = Denied (Uncertified k)
-combined (near.Admitting k) (group p g) a = Denied (Exhausted p)
-combined (near.Certified k) c a = Denied (Exhausted k)
+combined (near.Admitting k) notFound a = Denied (NotCertified k)
+combined (near.Admitting k) (group p g) a = Denied (Spent p)
+combined (near.Certified k) c a = Denied (Spent k)
 
 -- a denial, unless a group grants
 abbrev unless-granted : Judged → Lowest → Judged
@@ -43,8 +43,8 @@ first-serves k g (group p h) a = refl
 
 -- the last test that a group passes, by three tests of it, and the three searches
 module _ (admitting certifying : Group → Bool) (left : ℕ → Group → Bool) where
-  abbrev by : ℕ → Group → Standing
-  by place g = standingOf (admitting g) (certifying g) (left place g)
+  abbrev by : ℕ → Group → GroupResult
+  by place g = resultOf (admitting g) (certifying g) (left place g)
 
   abbrev searched : Nearest → ℕ → List Group → Judged
   searched n place gs =
@@ -87,9 +87,9 @@ module _ (admitting certifying : Group → Bool) (left : ℕ → Group → Bool)
 
 -- one pass over the groups, for the ledger and the request
 module _ (l : Ledger) (km0 : Bytes) (q : Request) where
-  pub judged-is : (gs : List Group) → judgedFrom (standing (l .counts) (l .counters) (q .time - l .loaded) km0 q) near.Nothing 0 gs
+  pub judged-is : (gs : List Group) → judgedFrom (groupResult (l .counts) (l .counters) (q .time - l .loaded) km0 q) near.Nothing 0 gs
       ≡ judgedFor (orElse (lowest (grants l km0 q) 0 gs) granted (ungranted (lowest (λ place. admitsCertified km0 q) 0 gs) (lowest (λ place. groupAdmits km0 q) 0 gs)))
-  unfolding standing
+  unfolding groupResult
   judged-is gs = one-pass (groupAdmits km0 q) (certified q) (λ k. unspent l k q) near.Nothing 0 gs ∙ settle (lowest (grants l km0 q) 0 gs) _
     where
       settle : (g : Lowest) (j : Judgement) → unless-granted (judgedFor j) g ≡ judgedFor (orElse g granted j)
@@ -98,21 +98,21 @@ module _ (l : Ledger) (km0 : Bytes) (q : Request) where
 
 -- the clock: `if t < loaded`, `if t < last`
 module _ (counts counters : List ℕ) (loaded last t : ℕ) (km0 : Bytes) (gs : List Group) (q : Request) (e : t ≡ q .time) where
-  pub early-loaded : t < loaded → Denied Early ≡ judgedFor (judge (ledgerOfTables counts counters loaded last) km0 gs q)
+  pub early-loaded : t < loaded → Denied ClockBack ≡ judgedFor (judge (ledgerOfTables counts counters loaded last) km0 gs q)
   unfolding judge
   early-loaded h = sym (rw (← e, lt-ltb t loaded h))
 
-  pub early-last : t < last → Denied Early ≡ judgedFor (judge (ledgerOfTables counts counters loaded last) km0 gs q)
+  pub early-last : t < last → Denied ClockBack ≡ judgedFor (judge (ledgerOfTables counts counters loaded last) km0 gs q)
   unfolding judge
   early-last h = pick (ltb t loaded) refl
     where
-      pick : (b : Bool) → ltb t loaded ≡ b → Denied Early ≡ judgedFor (judge (ledgerOfTables counts counters loaded last) km0 gs q)
+      pick : (b : Bool) → ltb t loaded ≡ b → Denied ClockBack ≡ judgedFor (judge (ledgerOfTables counts counters loaded last) km0 gs q)
       pick true d = sym (rw (← e, d))
       pick false d = sym (rw (← e, d, lt-ltb t last h))
 
-  pub in-time : (r : Judged) → loaded ≤ t → last ≤ t → r ≡ judgedFrom (standing counts counters (t - loaded) km0 q) near.Nothing 0 gs
+  pub in-time : (r : Judged) → loaded ≤ t → last ≤ t → r ≡ judgedFrom (groupResult counts counters (t - loaded) km0 q) near.Nothing 0 gs
       → r ≡ judgedFor (judge (ledgerOfTables counts counters loaded last) km0 gs q)
   unfolding judge
   in-time r h k d =
-      let x : judgedFrom (standing counts counters (t - loaded) km0 q) near.Nothing 0 gs ≡ judgedFrom (standing counts counters (q .time - loaded) km0 q) near.Nothing 0 gs = ap (λ (n : ℕ). judgedFrom (standing counts counters (n - loaded) km0 q) near.Nothing 0 gs) e in
+      let x : judgedFrom (groupResult counts counters (t - loaded) km0 q) near.Nothing 0 gs ≡ judgedFrom (groupResult counts counters (q .time - loaded) km0 q) near.Nothing 0 gs = ap (λ (n : ℕ). judgedFrom (groupResult counts counters (n - loaded) km0 q) near.Nothing 0 gs) e in
       d ∙ x ∙ judged-is (ledgerOfTables counts counters loaded last) km0 q gs ∙ sym (rw (← e, le-ltb t loaded h, le-ltb t last k))

@@ -10,29 +10,29 @@ use Rattle.rules.specs.Request.{Request}
 use Rattle.rules.specs.Ledger.{Ledger}
 use Rattle.rules.specs.Grant.{groupAdmits, certified, unspentWith}
 use Rattle.rules.specs.Gate.{Denial, early, unadmitted, uncertified, exhausted, Judgement, granted, denied}
-use Rattle.gate_decision.specs.declared.Standing.{Standing}
-use Rattle.gate_decision.specs.declared.Standing.the-variants.{NotAdmitting, Admitting, Certified, Granting}
+use Rattle.gate_decision.specs.declared.GroupResult.{GroupResult}
+use Rattle.gate_decision.specs.declared.GroupResult.the-variants.{NotAdmitting, Admitting, Certified, Granting}
 use Rattle.gate_decision.specs.declared.Nearest.{Nearest}
 use Rattle.gate_decision.specs.declared.Nearest.the-variants as near
 use Rattle.refusals.specs.declared.Denial as code
-use Rattle.refusals.specs.declared.Denial.the-variants.{Early, Unadmitted, Uncertified, Exhausted}
+use Rattle.refusals.specs.declared.Denial.the-variants.{ClockBack, NotAdmitted, NotCertified, Spent}
 use Rattle.gate_decision.specs.declared.Judged.{Judged}
 use Rattle.gate_decision.specs.declared.Judged.the-variants.{Granted, Denied}
 
 -- the last test that a group passes: it admits, is certified, is unspent
-abbrev pub standingOf : Bool → Bool → Bool → Standing
-standingOf admitting certifying left =
+abbrev pub resultOf : Bool → Bool → Bool → GroupResult
+resultOf admitting certifying left =
     if admitting then (if certifying then (if left then Granting else Certified) else Admitting) else NotAdmitting
 
 -- "group with all three"
-abbrev pub isGranting : Standing → Bool
+abbrev pub isGranting : GroupResult → Bool
 isGranting NotAdmitting = false
 isGranting Admitting = false
 isGranting Certified = false
 isGranting Granting = true
 
 -- the nearest that came so far, with one group more
-abbrev pub nearer : Nearest → Standing → ℕ → Nearest
+abbrev pub nearer : Nearest → GroupResult → ℕ → Nearest
 nearer n NotAdmitting place = n
 nearer near.Nothing Admitting place = near.Admitting place
 nearer (near.Admitting k) Admitting place = near.Admitting k
@@ -44,43 +44,43 @@ nearer n Granting place = n
 
 -- why no group grants, by the nearest
 abbrev pub denialOf : Nearest → code.Denial
-denialOf near.Nothing = Unadmitted
-denialOf (near.Admitting k) = Uncertified k
-denialOf (near.Certified k) = Exhausted k
+denialOf near.Nothing = NotAdmitted
+denialOf (near.Admitting k) = NotCertified k
+denialOf (near.Certified k) = Spent k
 
 -- the judgement of groups numbered from `place`, after those whose nearest is given
-unfoldable pub judgedFrom : (ℕ → Group → Standing) → Nearest → ℕ → List Group → Judged
-judgedFrom standing n place [] = Denied (denialOf n)
-judgedFrom standing n place (g ∷ gs) =
-    if isGranting (standing place g) then Granted place else judgedFrom standing (nearer n (standing place g) place) (suc place) gs
+unfoldable pub judgedFrom : (ℕ → Group → GroupResult) → Nearest → ℕ → List Group → Judged
+judgedFrom groupResult n place [] = Denied (denialOf n)
+judgedFrom groupResult n place (g ∷ gs) =
+    if isGranting (groupResult place g) then Granted place else judgedFrom groupResult (nearer n (groupResult place g) place) (suc place) gs
 
 -- the last test that a group passes for a request, by the ledger's named counters, its own count and the seconds since load
-abbrev pub standingWith : List ℕ → ℕ → ℕ → Bytes → Request → Group → Standing
-standingWith counters own elapsed km0 q g = standingOf (groupAdmits km0 q g) (certified q g) (unspentWith counters own elapsed (g .limits))
+abbrev pub resultWith : List ℕ → ℕ → ℕ → Bytes → Request → Group → GroupResult
+resultWith counters own elapsed km0 q g = resultOf (groupAdmits km0 q g) (certified q g) (unspentWith counters own elapsed (g .limits))
 
 -- the same for the group at an index, whose own count is in the table
-unfoldable pub standing : List ℕ → List ℕ → ℕ → Bytes → Request → ℕ → Group → Standing
-standing counts counters elapsed km0 q place g = standingWith counters (getD counts place 0) elapsed km0 q g
+unfoldable pub groupResult : List ℕ → List ℕ → ℕ → Bytes → Request → ℕ → Group → GroupResult
+groupResult counts counters elapsed km0 q place g = resultWith counters (getD counts place 0) elapsed km0 q g
 
 -- the same for a group given by its first record and those that follow
-unfoldable pub recordStanding : List ℕ → ℕ → ℕ → Bytes → Request → Bytes → List Bytes → Standing
-recordStanding counters own elapsed km0 q r rest = standingWith counters own elapsed km0 q (groupOf r rest)
+unfoldable pub recordResult : List ℕ → ℕ → ℕ → Bytes → Request → Bytes → List Bytes → GroupResult
+recordResult counters own elapsed km0 q r rest = resultWith counters own elapsed km0 q (groupOf r rest)
 
 -- What the loop remembers of the last group whose certification was decided: its offset, whether there was one, and whether it is certified; after
 -- one group more, by the last test that this group passes.
-abbrev pub seenAfter : Standing → ℕ → ℕ → ℕ
+abbrev pub seenAfter : GroupResult → ℕ → ℕ → ℕ
 seenAfter NotAdmitting seen at = seen
 seenAfter Admitting seen at = at
 seenAfter Certified seen at = at
 seenAfter Granting seen at = at
 
-abbrev pub someAfter : Standing → Bool → Bool
+abbrev pub someAfter : GroupResult → Bool → Bool
 someAfter NotAdmitting some = some
 someAfter Admitting some = true
 someAfter Certified some = true
 someAfter Granting some = true
 
-abbrev pub heldAfter : Standing → Bool → Bool
+abbrev pub heldAfter : GroupResult → Bool → Bool
 heldAfter NotAdmitting held = held
 heldAfter Admitting held = false
 heldAfter Certified held = true
@@ -92,10 +92,10 @@ pub record Remembered (q : Request) (r : Bytes) (some held : Bool) : Type 0 wher
 
 -- the denial and the judgement of the definitions, as the code answers them
 abbrev pub denialFor : Denial → code.Denial
-denialFor early = Early
-denialFor unadmitted = Unadmitted
-denialFor (uncertified place g) = Uncertified place
-denialFor (exhausted place g) = Exhausted place
+denialFor early = ClockBack
+denialFor unadmitted = NotAdmitted
+denialFor (uncertified place g) = NotCertified place
+denialFor (exhausted place g) = Spent place
 
 abbrev pub judgedFor : Judgement → Judged
 judgedFor (granted place g) = Granted place

@@ -10,7 +10,7 @@ ghost use Rattle.rules.specs.Acl.{limitOf, limitsOf, groupOf, aclOf};
 ghost use Rattle.rules.specs.Request.{requestOf};
 ghost use Rattle.rules.specs.Grant.{certified, counterLeft, limitLeft, limitsLeft, unspentWith};
 ghost use Rattle.rules.specs.Gate.{judge};
-ghost use Rattle.gate_decision.specs.Standings.{isGranting, nearer, denialOf, judgedFrom, standing, recordStanding, seenAfter, someAfter, heldAfter, Remembered, judgedFor, ledgerOfTables, NextGroup};
+ghost use Rattle.gate_decision.specs.Standings.{isGranting, nearer, denialOf, judgedFrom, groupResult, recordResult, seenAfter, someAfter, heldAfter, Remembered, judgedFor, ledgerOfTables, NextGroup};
 ghost use Rattle.request_reader.specs.Parts.{Sound};
 use refusals::Denial;
 
@@ -18,7 +18,7 @@ use refusals::Denial;
 const FULL: u32 = 4294967295;
 
 // How far a group comes: it does not admit; it admits; it admits and is certified; it admits, is certified and unspent.
-enum Standing {
+enum GroupResult {
     NotAdmitting,
     Admitting,
     Certified,
@@ -111,7 +111,7 @@ fn certified_as(group: &[u8], req: &[u8], last: &[u8], some: bool, held: bool) -
 }
 
 // How far a group comes with a request: its first record, the records that follow it, and its own count.
-fn group_standing(
+fn group_result(
     counters: &[u32],
     own: u32,
     elapsed: u64,
@@ -122,74 +122,74 @@ fn group_standing(
     last: &[u8],
     some: bool,
     held: bool,
-) -> Standing
+) -> GroupResult
     requires { ⌜ Sound (now req) × (length (now group) ≡ recordBytes) × Remembered (requestOf (now req)) (now last) some held ⌝ }
-    ensures { λ r. ⌜ r ≡ recordStanding (now (counters .entry)) own elapsed (now (km0 .entry)) (requestOf (now (req .entry))) (now (group .entry)) (records (now (body .entry))) ⌝ }
+    ensures { λ r. ⌜ r ≡ recordResult (now (counters .entry)) own elapsed (now (km0 .entry)) (requestOf (now (req .entry))) (now (group .entry)) (records (now (body .entry))) ⌝ }
 {
     let rest = &req[record_sizes::RECORD..];
     if !gate_admission::group_admits(km0, &req[0..record_sizes::RECORD], rest, body) {
-        return Standing::NotAdmitting;
+        return GroupResult::NotAdmitting;
     }
     if !certified_as(group, req, last, some, held) {
-        return Standing::Admitting;
+        return GroupResult::Admitting;
     }
     if !is_unspent(counters, own, elapsed, body) {
-        return Standing::Certified;
+        return GroupResult::Certified;
     }
-    Standing::Granting
+    GroupResult::Granting
 }
 
 // The offset of the last group whose certification was decided, after the group at the byte `at`.
-fn seen_after(s: Standing, seen: usize, at: usize) -> usize
+fn seen_after(s: GroupResult, seen: usize, at: usize) -> usize
     ensures { λ r. ⌜ r ≡ seenAfter s seen at ⌝ }
 {
     match s {
-        Standing::NotAdmitting => seen,
-        Standing::Admitting => at,
-        Standing::Certified => at,
-        Standing::Granting => at,
+        GroupResult::NotAdmitting => seen,
+        GroupResult::Admitting => at,
+        GroupResult::Certified => at,
+        GroupResult::Granting => at,
     }
 }
 
 // Whether the certification of any group was decided, after one group more.
-fn some_after(s: Standing, some: bool) -> bool
+fn some_after(s: GroupResult, some: bool) -> bool
     ensures { λ r. ⌜ r ≡ someAfter s some ⌝ }
 {
     match s {
-        Standing::NotAdmitting => some,
-        Standing::Admitting => true,
-        Standing::Certified => true,
-        Standing::Granting => true,
+        GroupResult::NotAdmitting => some,
+        GroupResult::Admitting => true,
+        GroupResult::Certified => true,
+        GroupResult::Granting => true,
     }
 }
 
 // Whether the last group whose certification was decided is certified, after one group more.
-fn held_after(s: Standing, held: bool) -> bool
+fn held_after(s: GroupResult, held: bool) -> bool
     ensures { λ r. ⌜ r ≡ heldAfter s held ⌝ }
 {
     match s {
-        Standing::NotAdmitting => held,
-        Standing::Admitting => false,
-        Standing::Certified => true,
-        Standing::Granting => true,
+        GroupResult::NotAdmitting => held,
+        GroupResult::Admitting => false,
+        GroupResult::Certified => true,
+        GroupResult::Granting => true,
     }
 }
 
 // Whether a group that passed these tests grants the request.
-fn grants(s: Standing) -> bool
+fn grants(s: GroupResult) -> bool
     ensures { λ r. ⌜ r ≡ isGranting s ⌝ }
 {
     match s {
-        Standing::NotAdmitting => false,
-        Standing::Admitting => false,
-        Standing::Certified => false,
-        Standing::Granting => true,
+        GroupResult::NotAdmitting => false,
+        GroupResult::Admitting => false,
+        GroupResult::Certified => false,
+        GroupResult::Granting => true,
     }
 }
 
 // The nearest with a group more that admits.
 fn near_admitting(n: Nearest, place: usize) -> Nearest
-    ensures { λ r. ⌜ r ≡ nearer n Standing.Admitting place ⌝ }
+    ensures { λ r. ⌜ r ≡ nearer n GroupResult.Admitting place ⌝ }
 {
     match n {
         Nearest::Nothing => Nearest::Admitting(place),
@@ -200,7 +200,7 @@ fn near_admitting(n: Nearest, place: usize) -> Nearest
 
 // The nearest with a group more that admits and is certified.
 fn near_certified(n: Nearest, place: usize) -> Nearest
-    ensures { λ r. ⌜ r ≡ nearer n Standing.Certified place ⌝ }
+    ensures { λ r. ⌜ r ≡ nearer n GroupResult.Certified place ⌝ }
 {
     match n {
         Nearest::Nothing => Nearest::Certified(place),
@@ -210,14 +210,14 @@ fn near_certified(n: Nearest, place: usize) -> Nearest
 }
 
 // The nearest with a group more.
-fn near_with(n: Nearest, s: Standing, place: usize) -> Nearest
+fn near_with(n: Nearest, s: GroupResult, place: usize) -> Nearest
     ensures { λ r. ⌜ r ≡ nearer n s place ⌝ }
 {
     match s {
-        Standing::NotAdmitting => n,
-        Standing::Admitting => near_admitting(n, place),
-        Standing::Certified => near_certified(n, place),
-        Standing::Granting => n,
+        GroupResult::NotAdmitting => n,
+        GroupResult::Admitting => near_admitting(n, place),
+        GroupResult::Certified => near_certified(n, place),
+        GroupResult::Granting => n,
     }
 }
 
@@ -226,9 +226,9 @@ fn why_not(n: Nearest) -> Denial
     ensures { λ r. ⌜ r ≡ denialOf n ⌝ }
 {
     match n {
-        Nearest::Nothing => Denial::Unadmitted,
-        Nearest::Admitting(k) => Denial::Uncertified(k),
-        Nearest::Certified(k) => Denial::Exhausted(k),
+        Nearest::Nothing => Denial::NotAdmitted,
+        Nearest::Admitting(k) => Denial::NotCertified(k),
+        Nearest::Certified(k) => Denial::Spent(k),
     }
 }
 
@@ -258,7 +258,7 @@ fn judge_groups(
     acl: &[u8],
 ) -> Judged
     requires { ⌜ Sound (now req) ⌝ }
-    ensures { λ r. ⌜ r ≡ judgedFrom (standing (now (counts .entry)) (now (counters .entry)) elapsed (now (km0 .entry)) (requestOf (now (req .entry)))) Nearest.Nothing 0 (aclOf (now (acl .entry))) ⌝ }
+    ensures { λ r. ⌜ r ≡ judgedFrom (groupResult (now (counts .entry)) (now (counters .entry)) elapsed (now (km0 .entry)) (requestOf (now (req .entry)))) Nearest.Nothing 0 (aclOf (now (acl .entry))) ⌝ }
 {
     let mut near = Nearest::Nothing;
     let mut place = 0;
@@ -271,7 +271,7 @@ fn judge_groups(
         let group = &acl[at..at + record_sizes::RECORD];
         let body = &acl[at + record_sizes::RECORD..];
         let last = &acl[seen..seen + record_sizes::RECORD];
-        let s = group_standing(
+        let s = group_result(
             counters,
             own,
             elapsed,
@@ -312,10 +312,10 @@ pub fn judge_request<'a>(
 {
     let time = request_reader::time(req);
     if time < loaded {
-        return Judged::Denied(Denial::Early);
+        return Judged::Denied(Denial::ClockBack);
     }
     if time < last {
-        return Judged::Denied(Denial::Early);
+        return Judged::Denied(Denial::ClockBack);
     }
     judge_groups(counts, counters, time - loaded, km0, req, acl)
 }

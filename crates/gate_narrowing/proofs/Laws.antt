@@ -11,7 +11,7 @@ use lib.ListN.{length, take, drop, getD, getElem?, length-drop, drop-of-length-l
 use lib.Seq.{drop-cons, drop-drop, drop-nil, take-all}
 use lib.Dec.{ltb}
 use Rattle.rules.specs.Basics.{if_then_else_, Bytes, any, all, allZero, records, recordsFrom}
-use Rattle.rules.specs.Acl.{fileRuleNext, Action, actionOf, actionsOf, Limit, limitOf, limitsOf}
+use Rattle.rules.specs.Acl.{blobfileRuleNext, Action, actionOf, actionsOf, Limit, limitOf, limitsOf}
 use Rattle.rules.specs.Narrow.{noWider, noWiderThan, actionsNoWider, isAnswered}
 use Rattle.rules.proofs.Rows.{lentRecord, lentRest}
 use Rattle.acl_groups.specs.Parts.{actionFrom, actionsFrom, NextAction}
@@ -124,11 +124,11 @@ pub hint-nothing : (n : Action) (old : Bytes) (place : ℕ) → length old - pla
 hint-nothing n old place h = (sym (ap (noWiderThan n) (in-none old place h)), λ e. absurd (false≢true e))
 
 pub hint-compared : (new : Bytes) (at : ℕ) (old : Bytes) (place : ℕ) (r : Bool) → 64 ≤ length old - place
-    → r ≡ noWider (actionOf (lentRecord new at) (fileRuleNext (records (lentRest new (at + 64))))) (actionOf (lentRecord old place) (fileRuleNext (records (lentRest old (place + 64)))))
+    → r ≡ noWider (actionOf (lentRecord new at) (blobfileRuleNext (records (lentRest new (at + 64))))) (actionOf (lentRecord old place) (blobfileRuleNext (records (lentRest old (place + 64)))))
     → (r ≡ noWiderThan (actionFrom new at) (actionIn old place)) × (r ≡ true → 64 ≤ length old - place)
 hint-compared new at old place r h e = (
   e
-      ∙ ap (λ (a : Action). noWider a (actionOf (lentRecord old place) (fileRuleNext (records (lentRest old (place + 64)))))) (lent-action new at)
+      ∙ ap (λ (a : Action). noWider a (actionOf (lentRecord old place) (blobfileRuleNext (records (lentRest old (place + 64)))))) (lent-action new at)
       ∙ ap (noWider (actionFrom new at)) (lent-action old place)
       ∙ sym (ap (noWiderThan (actionFrom new at)) (in-some old place h)),
   λ t. h,

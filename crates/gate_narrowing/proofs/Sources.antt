@@ -15,7 +15,7 @@ use Rattle.rules.specs.Request.{Hint, hintOf, hintsOf}
 use Rattle.rules.specs.Narrow.{narrowsSource, narrowsFrom}
 use Rattle.rules.proofs.Laws.{chunks-length}
 use Rattle.rules.proofs.Rows.{rows-start, rows-at, rows-lent, rows-end, rows-rest, lentRecord, lent-record, lentRest, kind-at, no-rows}
-use Rattle.acl_groups.specs.Parts.{groupPlace, GroupAt}
+use Rattle.acl_groups.specs.Parts.{groupOffset, GroupAt}
 use Rattle.gate_narrowing.specs.Groups.{recordsNarrow}
 
 -- the first of what is left after some
@@ -56,12 +56,12 @@ module _ (old : Bytes) (low from w place : ℕ) (inv : groupsOf (recordsFrom old
   left-next r d = d .same ∙ ap (drop 1) left-from ∙ drop-drop 1 w (groupsOf (records old))
 
 -- a group's offset is no earlier than where the search for it begins
-place-later : (g : ℕ) (rs : List Bytes) (at end : ℕ) → at + length rs * 64 ≤ end → at ≤ groupPlace g rs at end
-unfolding groupPlace
+place-later : (g : ℕ) (rs : List Bytes) (at end : ℕ) → at + length rs * 64 ≤ end → at ≤ groupOffset g rs at end
+unfolding groupOffset
 place-later g [] at end h = omega arith
 place-later g (r ∷ rs) at end h = pick (eqb (kind r) 1) refl (eqb g 0) refl (place-later g rs (at + 64) end (omega arith)) (place-later (g - 1) rs (at + 64) end (omega arith))
   where
-    pick : (b : Bool) → eqb (kind r) 1 ≡ b → (c : Bool) → eqb g 0 ≡ c → at + 64 ≤ groupPlace g rs (at + 64) end → at + 64 ≤ groupPlace (g - 1) rs (at + 64) end → at ≤ groupPlace g (r ∷ rs) at end
+    pick : (b : Bool) → eqb (kind r) 1 ≡ b → (c : Bool) → eqb g 0 ≡ c → at + 64 ≤ groupOffset g rs (at + 64) end → at + 64 ≤ groupOffset (g - 1) rs (at + 64) end → at ≤ groupOffset g (r ∷ rs) at end
     pick true e true d p q = rw (e, d) (omega arith)
     pick true e false d p q = rw (e, d) (omega arith)
     pick false e c d p q = rw e (omega arith)
@@ -70,7 +70,7 @@ pub group-later : (s : Bytes) (at g r : ℕ) → GroupAt s at g r → at ≤ len
 unfolding records
 group-later s at g r e h =
     let n : length (records (drop at s)) ≡ length (drop at s) / 64 = chunks-length (length (drop at s) / 64) (drop at s) in
-    let p : at ≤ groupPlace g (records (drop at s)) at (length s) = place-later g (records (drop at s)) at (length s) (omega (arith, n, length-drop at s)) in
+    let p : at ≤ groupOffset g (records (drop at s)) at (length s) = place-later g (records (drop at s)) at (length s) (omega (arith, n, length-drop at s)) in
     rw (e .exact) p
 
 -- the hints from a place on: shut, so that a search reads the file and the place off it

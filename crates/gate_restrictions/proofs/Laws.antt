@@ -7,8 +7,8 @@ use borrow.Author.Tests.{eq-eqb, ne-eqb, eqb-true, eqb-false, not-true, not-fals
 use lib.ListN.{take, drop}
 use lib.Dec.{eqb}
 use Rattle.rules.specs.Basics.{Bytes, implies, within, part, number, kind, flag, optional}
-use Rattle.rules.specs.Acl.{blobRuleOf, archiveRuleOf, FileRule, permissions, makeBlob, makeArchive, actionOf}
-use Rattle.rules.specs.Narrow.{keptBy, kept, keptNumber, blobNoWider, archiveNoWider, fileNoWider, noWider}
+use Rattle.rules.specs.Acl.{blobRuleOf, archiveRuleOf, BlobfileRule, permissions, makeBlob, makeArchive, actionOf}
+use Rattle.rules.specs.Narrow.{keptBy, kept, keptNumber, blobNoWider, archiveNoWider, blobfileNoWider, noWider}
 use Rattle.record_fields.proofs.Laws.{lent}
 use Rattle.gate_restrictions.specs.Certifiers.{certifierKept}
 
@@ -24,20 +24,20 @@ module _ {A : Type 0} (test : A → A → Bool) (has had : Bool) (n o : A) where
   kept-compared r e d p = p ∙ sym (rw (not-false had e, not-false has d))
 
 -- An action by its kind.
-action-3 : (r : Bytes) (file : Option FileRule) → kind r ≡ 3 → actionOf r file ≡ permissions (number 4 2 r)
+action-3 : (r : Bytes) (file : Option BlobfileRule) → kind r ≡ 3 → actionOf r file ≡ permissions (number 4 2 r)
 unfolding actionOf
 action-3 r file e = rw (eq-eqb (kind r) 3 e)
 
-action-4 : (r : Bytes) (file : Option FileRule) → kind r ≡ 4 → actionOf r file ≡ makeBlob (blobRuleOf r) file
+action-4 : (r : Bytes) (file : Option BlobfileRule) → kind r ≡ 4 → actionOf r file ≡ makeBlob (blobRuleOf r) file
 unfolding actionOf
 action-4 r file e = rw e
 
-action-5 : (r : Bytes) (file : Option FileRule) → (kind r ≡ 3 → ⊥) → (kind r ≡ 4 → ⊥) → actionOf r file ≡ makeArchive (archiveRuleOf r) file
+action-5 : (r : Bytes) (file : Option BlobfileRule) → (kind r ≡ 3 → ⊥) → (kind r ≡ 4 → ⊥) → actionOf r file ≡ makeArchive (archiveRuleOf r) file
 unfolding actionOf
 action-5 r file f g = rw (ne-eqb (kind r) 3 f, ne-eqb (kind r) 4 g)
 
 -- an action against one of another kind
-module _ (n : Bytes) (nf : Option FileRule) (o : Bytes) (of : Option FileRule) where
+module _ (n : Bytes) (nf : Option BlobfileRule) (o : Bytes) (of : Option BlobfileRule) where
   pub bits-against : kind n ≡ 3 → (kind o ≡ 3 → ⊥) → false ≡ noWider (actionOf n nf) (actionOf o of)
   unfolding noWider
   bits-against e f = pick (eqb (kind o) 4) refl
@@ -63,13 +63,13 @@ module _ (n : Bytes) (nf : Option FileRule) (o : Bytes) (of : Option FileRule) w
     unfolding noWider
     archive-against-blob e = sym (rw (action-5 n nf f g, action-4 o of e))
 
-    pub archives-compared : (r t : Bool) → (kind o ≡ 3 → ⊥) → (kind o ≡ 4 → ⊥) → r ≡ archiveNoWider (archiveRuleOf n) (archiveRuleOf o) → t ≡ fileNoWider nf of
+    pub archives-compared : (r t : Bool) → (kind o ≡ 3 → ⊥) → (kind o ≡ 4 → ⊥) → r ≡ archiveNoWider (archiveRuleOf n) (archiveRuleOf o) → t ≡ blobfileNoWider nf of
         → (r && t) ≡ noWider (actionOf n nf) (actionOf o of)
     unfolding noWider
     archives-compared r t h k e d = rw (e, d) (sym (rw (action-5 n nf f g, action-5 o of h k)))
 
   -- two actions with their blobfile records
-  pub rules-compared : (r t : Bool) → ((f g : Option FileRule) → (r && fileNoWider f g) ≡ noWider (actionOf n f) (actionOf o g)) → t ≡ fileNoWider nf of → (r && t) ≡ noWider (actionOf n nf) (actionOf o of)
+  pub rules-compared : (r t : Bool) → ((f g : Option BlobfileRule) → (r && blobfileNoWider f g) ≡ noWider (actionOf n f) (actionOf o g)) → t ≡ blobfileNoWider nf of → (r && t) ≡ noWider (actionOf n nf) (actionOf o of)
   rules-compared r t e d = ap (λ (b : Bool). r && b) d ∙ e nf of
 
   -- two OpPermissions actions, then two blob actions of one kind, with their blobfile records
@@ -77,7 +77,7 @@ module _ (n : Bytes) (nf : Option FileRule) (o : Bytes) (of : Option FileRule) w
   unfolding noWider
   bits-compared x y r e d p q f = f ∙ rw (p, q) (sym (rw (action-3 n nf e, action-3 o of d)))
 
-  pub blobs-compared : (r t : Bool) → kind n ≡ 4 → kind o ≡ 4 → r ≡ blobNoWider (blobRuleOf n) (blobRuleOf o) → t ≡ fileNoWider nf of → (r && t) ≡ noWider (actionOf n nf) (actionOf o of)
+  pub blobs-compared : (r t : Bool) → kind n ≡ 4 → kind o ≡ 4 → r ≡ blobNoWider (blobRuleOf n) (blobRuleOf o) → t ≡ blobfileNoWider nf of → (r && t) ≡ noWider (actionOf n nf) (actionOf o of)
   unfolding noWider
   blobs-compared r t e d f g = rw (f, g) (sym (rw (action-4 n nf e, action-4 o of d)))
 

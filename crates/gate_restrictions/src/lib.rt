@@ -7,9 +7,9 @@ ghost use mathlib.Core.Bool.{_&&_};
 ghost use lib.ListN.{length};
 ghost use Rattle.rules.specs.Sizes.{recordBytes, hashBytes};
 ghost use Rattle.rules.specs.Basics.{implies, part, kind, flag, optional, records};
-ghost use Rattle.rules.specs.Acl.{parametersOf, blobRuleOf, archiveRuleOf, FileRule, fileRuleNext, actionOf};
+ghost use Rattle.rules.specs.Acl.{parametersOf, blobRuleOf, archiveRuleOf, BlobfileRule, blobfileRuleNext, actionOf};
 ghost use Rattle.gate_restrictions.specs.Certifiers.{certifierKept};
-ghost use Rattle.rules.specs.Narrow.{kept, keptNumber, keptParameters, blobNoWider, archiveNoWider, fileNoWider, noWider};
+ghost use Rattle.rules.specs.Narrow.{kept, keptNumber, keptParameters, blobNoWider, archiveNoWider, blobfileNoWider, noWider};
 
 // A hash against the old one: kept equal or added.
 fn kept_hash(has: bool, new: &[u8], had: bool, old: &[u8]) -> bool
@@ -110,7 +110,7 @@ fn archive_no_wider(new: &[u8], old: &[u8]) -> bool
 // kind 4 is decoded as one of kind 5.
 fn rule_no_wider(new: &[u8], old: &[u8]) -> bool
     requires { ⌜ (length (now new) ≡ recordBytes) × (length (now old) ≡ recordBytes) × (kind (now new) ≡ 3 → ⊥) ⌝ }
-    ensures { λ r. ⌜ ((f g : Option FileRule) → (r && fileNoWider f g) ≡ noWider (actionOf (now (new .entry)) f) (actionOf (now (old .entry)) g)) ⌝ }
+    ensures { λ r. ⌜ ((f g : Option BlobfileRule) → (r && blobfileNoWider f g) ≡ noWider (actionOf (now (new .entry)) f) (actionOf (now (old .entry)) g)) ⌝ }
 {
     let kind = new[0];
     let was = old[0];
@@ -132,7 +132,7 @@ fn rule_no_wider(new: &[u8], old: &[u8]) -> bool
 // An action against another: of the same kind and no wider. `after` and `behind` follow the new and the old action.
 pub fn action_no_wider(new: &[u8], after: &[u8], old: &[u8], behind: &[u8]) -> bool
     requires { ⌜ (length (now new) ≡ recordBytes) × (length (now old) ≡ recordBytes) ⌝ }
-    ensures { λ r. ⌜ r ≡ noWider (actionOf (now (new .entry)) (fileRuleNext (records (now (after .entry))))) (actionOf (now (old .entry)) (fileRuleNext (records (now (behind .entry))))) ⌝ }
+    ensures { λ r. ⌜ r ≡ noWider (actionOf (now (new .entry)) (blobfileRuleNext (records (now (after .entry))))) (actionOf (now (old .entry)) (blobfileRuleNext (records (now (behind .entry))))) ⌝ }
 {
     if new[0] == 3 {
         if old[0] != 3 {
@@ -140,7 +140,7 @@ pub fn action_no_wider(new: &[u8], after: &[u8], old: &[u8], behind: &[u8]) -> b
         }
         return record_fields::subset16(record_fields::be16(new, 4), record_fields::be16(old, 4));
     }
-    rule_no_wider(new, old) & gate_blobfile::place_no_wider(after, behind)
+    rule_no_wider(new, old) & gate_blobfile::blobfile_no_wider(after, behind)
 }
 
 // A group's certifier and mechanism against its source's.

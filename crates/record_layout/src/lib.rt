@@ -5,7 +5,7 @@ ghost use Prim.Native.Nat.{_+_, _≤_, _<_};
 ghost use lib.ListN.{length};
 ghost use Rattle.rules.specs.Sizes.{recordBytes};
 ghost use Rattle.rules.specs.Basics.{within};
-ghost use Rattle.rules.specs.Layout.{header, zeroUnless, mechanismAt, tokenParametersIf, certifierMechanism, counterOfSort, groupLaidOut, limitLaidOut, permissionsLaidOut, blobActionLaidOut, archiveActionLaidOut, useLaidOut, blobRequestLaidOut, recoveryLaidOut, certificateLaidOut, factLaidOut, signatureLaidOut, policyLaidOut, hintLaidOut, delegationLaidOut, fileLaidOut, fileRequestLaidOut};
+ghost use Rattle.rules.specs.Layout.{header, zeroUnless, mechanismAt, tokenParametersIf, certifierMechanism, counterOfSort, groupLaidOut, limitLaidOut, permissionsLaidOut, blobActionLaidOut, archiveActionLaidOut, useLaidOut, blobRequestLaidOut, recoveryLaidOut, certificateLaidOut, factLaidOut, signatureLaidOut, policyLaidOut, hintLaidOut, delegationLaidOut, blobfileLaidOut, blobfileRequestLaidOut};
 
 // Flags of byte 3: none is set but those listed.
 fn low_flags(flags: u8, listed: u16) -> bool
@@ -251,7 +251,7 @@ pub fn delegation(s: &[u8]) -> bool
 // Kind 15, blobfile, in an ACL.
 pub fn file(s: &[u8]) -> bool
     requires { ⌜ length (now s) ≡ recordBytes ⌝ }
-    ensures { λ r. ⌜ r ≡ fileLaidOut (now (s .entry)) ⌝ }
+    ensures { λ r. ⌜ r ≡ blobfileLaidOut (now (s .entry)) ⌝ }
 {
     if !plain_header(3, s) {
         return false;
@@ -268,7 +268,7 @@ pub fn file(s: &[u8]) -> bool
 // A record of kind 15 in a request: it states exactly one device.
 pub fn file_request(s: &[u8]) -> bool
     requires { ⌜ length (now s) ≡ recordBytes ⌝ }
-    ensures { λ r. ⌜ r ≡ fileRequestLaidOut (now (s .entry)) ⌝ }
+    ensures { λ r. ⌜ r ≡ blobfileRequestLaidOut (now (s .entry)) ⌝ }
 {
     file(s) & record_fields::flag_of(0, s) & record_fields::one_bit(record_fields::be32(s, 4))
 }

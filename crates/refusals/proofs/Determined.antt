@@ -8,7 +8,7 @@ use Rattle.rules.specs.Basics.{if_then_else_}
 use Rattle.refusals.specs.declared.Refusal.{Refusal}
 use Rattle.refusals.specs.declared.Refusal.the-variants.{BadLength, Malformed, TooMany, NotNarrower, ShortBuffer, OutOfRange, UnknownSuite, OpenArchive, NoSlot, OtherForm}
 use Rattle.refusals.specs.declared.Denial.{Denial}
-use Rattle.refusals.specs.declared.Denial.the-variants.{Early, Unadmitted, Uncertified, Exhausted}
+use Rattle.refusals.specs.declared.Denial.the-variants.{ClockBack, NotAdmitted, NotCertified, Spent}
 use Rattle.refusals.specs.Refusals.{refusalNumber, denialNumber, denialGroup}
 
 -- the refusal of each number
@@ -40,14 +40,14 @@ refusal-back OtherForm = refl
 
 -- the denial of each number, with its group
 abbrev pub denialBack : ℕ → Option ℕ → Denial
-denialBack n none = if eqb n 4 then Early else Unadmitted
-denialBack n (some place) = if eqb n 6 then Uncertified place else Exhausted place
+denialBack n none = if eqb n 4 then ClockBack else NotAdmitted
+denialBack n (some place) = if eqb n 6 then NotCertified place else Spent place
 
 pub denial-back : (d : Denial) → denialBack (denialNumber d) (denialGroup d) ≡ d
-denial-back Early = refl
-denial-back Unadmitted = refl
-denial-back (Uncertified place) = refl
-denial-back (Exhausted place) = refl
+denial-back ClockBack = refl
+denial-back NotAdmitted = refl
+denial-back (NotCertified place) = refl
+denial-back (Spent place) = refl
 
 -- the numbers of denials: 4 to 7, which no refusal has
 abbrev pub denies : ℕ → Bool
@@ -66,7 +66,7 @@ refusal-not-denied NoSlot = refl
 refusal-not-denied OtherForm = refl
 
 pub denial-denied : (d : Denial) → denies (denialNumber d) ≡ true
-denial-denied Early = refl
-denial-denied Unadmitted = refl
-denial-denied (Uncertified place) = refl
-denial-denied (Exhausted place) = refl
+denial-denied ClockBack = refl
+denial-denied NotAdmitted = refl
+denial-denied (NotCertified place) = refl
+denial-denied (Spent place) = refl

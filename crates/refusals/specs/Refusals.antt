@@ -5,7 +5,7 @@ use Rattle.rules.specs.Numbers as numbers
 use Rattle.refusals.specs.declared.Refusal.{Refusal}
 use Rattle.refusals.specs.declared.Refusal.the-variants.{BadLength, Malformed, TooMany, NotNarrower, ShortBuffer, OutOfRange, UnknownSuite, OpenArchive, NoSlot, OtherForm}
 use Rattle.refusals.specs.declared.Denial.{Denial}
-use Rattle.refusals.specs.declared.Denial.the-variants.{Early, Unadmitted, Uncertified, Exhausted}
+use Rattle.refusals.specs.declared.Denial.the-variants.{ClockBack, NotAdmitted, NotCertified, Spent}
 
 -- "Refusal numbers": all but 4 to 7
 abbrev pub refusalNumber : Refusal → ℕ
@@ -22,14 +22,14 @@ refusalNumber OtherForm = numbers.otherForm
 
 -- "Refusal numbers": 4 to 7
 abbrev pub denialNumber : Denial → ℕ
-denialNumber Early = numbers.clockBack
-denialNumber Unadmitted = numbers.notAdmitted
-denialNumber (Uncertified place) = numbers.notCertified
-denialNumber (Exhausted place) = numbers.spent
+denialNumber ClockBack = numbers.clockBack
+denialNumber NotAdmitted = numbers.notAdmitted
+denialNumber (NotCertified place) = numbers.notCertified
+denialNumber (Spent place) = numbers.spent
 
 -- "Refusal 6 shall carry the lowest group that admits; refusal 7 the lowest that admits and is certified."; "Refusal 5 stays bare."
 abbrev pub denialGroup : Denial → Option ℕ
-denialGroup Early = none
-denialGroup Unadmitted = none
-denialGroup (Uncertified place) = some place
-denialGroup (Exhausted place) = some place
+denialGroup ClockBack = none
+denialGroup NotAdmitted = none
+denialGroup (NotCertified place) = some place
+denialGroup (Spent place) = some place

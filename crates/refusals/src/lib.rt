@@ -20,10 +20,10 @@ pub enum Refusal {
 // Why no group grants: the time goes back; none admits; none that admits is certified, with the lowest that admits; none of those is unspent, with the
 // lowest that admits and is certified. denialNumber gives its number in document 01's table, denialGroup the group that came nearest.
 pub enum Denial {
-    Early,
-    Unadmitted,
-    Uncertified(usize),
-    Exhausted(usize),
+    ClockBack,
+    NotAdmitted,
+    NotCertified(usize),
+    Spent(usize),
 }
 
 // The number of a refusal in document 01's table.
@@ -49,9 +49,9 @@ pub fn denial_number(d: Denial) -> u8
     ensures { λ n. ⌜ n ≡ denialNumber d ⌝ }
 {
     match d {
-        Denial::Early => 4,
-        Denial::Unadmitted => 5,
-        Denial::Uncertified(_) => 6,
-        Denial::Exhausted(_) => 7,
+        Denial::ClockBack => 4,
+        Denial::NotAdmitted => 5,
+        Denial::NotCertified(_) => 6,
+        Denial::Spent(_) => 7,
     }
 }

@@ -12,8 +12,8 @@ use borrow.Author.Tests.{eq-eqb, ne-eqb, eqb-true, not-true, not-false}
 use Rattle.rules.specs.Sizes.{certificatesMax, delegationsMax}
 use Rattle.rules.specs.Numbers.{malformed, tooMany}
 use Rattle.rules.specs.Basics.{if_then_else_, Bytes, number, kind, flag, unless, records, orNext, firstFault, recordFault, scan, recordsFrom}
-use Rattle.rules.specs.Request.{Certificate, certificateOf, certificatesOf, delegationsOf, certificateRecord, delegationRecord, PresentedCounts, certificateFault, delegationFault, presentedRecordFault, afterPresented, presentedEnd, presentedFault, fileRequestRecord, fileNext, presentedAfter, requestFault, requestFrom, requestOf, hintRecord, hintFault}
-use Rattle.rules.specs.Layout.{delegationLaidOut, fileRequestLaidOut}
+use Rattle.rules.specs.Request.{Certificate, certificateOf, certificatesOf, delegationsOf, certificateRecord, delegationRecord, PresentedCounts, certificateFault, delegationFault, presentedRecordFault, afterPresented, presentedEnd, presentedFault, blobfileRequestRecord, blobfileFollows, presentedAfter, requestFault, requestFrom, requestOf, hintRecord, hintFault}
+use Rattle.rules.specs.Layout.{delegationLaidOut, blobfileRequestLaidOut}
 use Rattle.rules.proofs.Laws.{and-left, and-right, not-both, unless-passed, orNext-first, orNext-next, fault-none-every}
 use Rattle.request_reader.specs.Following.{followingFault}
 use Rattle.request_reader.specs.Parts.{Parted}
@@ -53,16 +53,16 @@ module _ (r s : Bytes) (f : Bool) (e : f ≡ flag 6 r) where
   following-plain x n p = p ∙ sym (rw (sym e ∙ not-true f n))
 
   pub following-missing : not f ≡ false → length s < 64 → some malformed ≡ followingFault r (records s)
-  unfolding followingFault fileNext
+  unfolding followingFault blobfileFollows
   following-missing n h = sym (ap (followingFault r) (no-rows s h) ∙ rw (sym e ∙ not-false f n))
 
-  module _ (n : not f ≡ false) (h : 64 ≤ length s) (b : Bool) (d : b ≡ fileRequestRecord (take 64 s)) where
+  module _ (n : not f ≡ false) (h : 64 ≤ length s) (b : Bool) (d : b ≡ blobfileRequestRecord (take 64 s)) where
     pub following-bad : not b ≡ true → some malformed ≡ followingFault r (records s)
-    unfolding followingFault fileNext
+    unfolding followingFault blobfileFollows
     following-bad k = sym (ap (followingFault r) (request-rows s h) ∙ rw (sym e ∙ not-false f n, sym d ∙ not-true b k))
 
     pub following-file : (x : Option ℕ) → not b ≡ false → x ≡ presentedFault (records (take (length s - 64) (drop 64 s))) → x ≡ followingFault r (records s)
-    unfolding followingFault fileNext
+    unfolding followingFault blobfileFollows
     following-file x k p = p ∙ sym (ap (followingFault r) (request-rows s h) ∙ rw (sym e ∙ not-false f n, sym d ∙ not-false b k))
 
 -- The turns of the loop over certificates and delegations, after n of the one and m of the other.
@@ -200,17 +200,17 @@ delegations-after n m (x ∷ xs) r ys e d =
 
 -- the same where a record of kind 15 comes first
 delegations-follow : (q : Bytes) (xs : List Bytes) (r : Bytes) (ys : List Bytes) → followingFault q (xs ++ r ∷ ys) ≡ none → eqb (kind r) 14 ≡ false → delegationsOf (xs ++ r ∷ ys) ≡ delegationsOf ys
-unfolding followingFault presentedFault fileNext fileRequestRecord delegationsOf
+unfolding followingFault presentedFault blobfileFollows blobfileRequestRecord delegationsOf
 delegations-follow q xs r ys e d = pick (flag 6 q) xs refl e
   where
     pick : (b : Bool) (zs : List Bytes) → flag 6 q ≡ b → followingFault q (zs ++ r ∷ ys) ≡ none → delegationsOf (zs ++ r ∷ ys) ≡ delegationsOf ys
     pick false zs k f = delegations-after 0 0 zs r ys (rw k at f) d .1
     pick true [] k f = rw d
     pick true (z ∷ zs) k f =
-        let g : orNext (unless (fileRequestRecord z) malformed) (presentedFault (zs ++ r ∷ ys)) ≡ none = rw k at f in
-        let t = and-left (eqb (kind z) 15) (fileRequestLaidOut z) (unless-passed (fileRequestRecord z) malformed (orNext-first _ _ g)) in
+        let g : orNext (unless (blobfileRequestRecord z) malformed) (presentedFault (zs ++ r ∷ ys)) ≡ none = rw k at f in
+        let t = and-left (eqb (kind z) 15) (blobfileRequestLaidOut z) (unless-passed (blobfileRequestRecord z) malformed (orNext-first _ _ g)) in
         let o : eqb (kind z) 14 ≡ false = rw (eqb-true (kind z) 15 t) in
-        rw o (delegations-after 0 0 zs r ys (orNext-next (unless (fileRequestRecord z) malformed) _ g) d .1)
+        rw o (delegations-after 0 0 zs r ys (orNext-next (unless (blobfileRequestRecord z) malformed) _ g) d .1)
 
 -- the records after the first, before a place and from there on
 module _ (s : Bytes) (at : ℕ) (h : 64 ≤ at) (m : at % 64 ≡ 0) (l : at ≤ length s) where

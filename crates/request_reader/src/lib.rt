@@ -3,7 +3,7 @@ ghost use mathlib.Core.Path.{_≡_};
 ghost use lib.ListN.{length};
 ghost use Rattle.rules.specs.Sizes.{recordBytes};
 ghost use Rattle.rules.specs.Basics.{records};
-ghost use Rattle.rules.specs.Request.{requestLaidOut, standsAlone, fileRequestRecord, useOf, certificateRecord, delegationRecord, presentedFault, requestFault, requestOf, hintRecord, hintsFault};
+ghost use Rattle.rules.specs.Request.{requestLaidOut, standsAlone, blobfileRequestRecord, useOf, certificateRecord, delegationRecord, presentedFault, requestFault, requestOf, hintRecord, hintsFault};
 ghost use Rattle.files.specs.Faults.{faultAs};
 ghost use Rattle.request_reader.specs.Following.{followingFault};
 ghost use Rattle.request_reader.specs.Parts.{Sound, Parted};
@@ -37,9 +37,9 @@ pub fn stands_alone(rec: &[u8]) -> bool
 }
 
 // Whether a record is a well-formed one of kind 15, as a request has it.
-pub fn file_record(rec: &[u8]) -> bool
+pub fn blobfile_record(rec: &[u8]) -> bool
     requires { ⌜ length (now rec) ≡ recordBytes ⌝ }
-    ensures { λ r. ⌜ r ≡ fileRequestRecord (now (rec .entry)) ⌝ }
+    ensures { λ r. ⌜ r ≡ blobfileRequestRecord (now (rec .entry)) ⌝ }
 {
     (rec[0] == 15) & record_layout::file_request(rec)
 }
@@ -110,7 +110,7 @@ fn following_records(rec: &[u8], rest: &[u8]) -> Checked
     if rest.len() < record_sizes::RECORD {
         return Checked::Refused(Refusal::Malformed);
     }
-    if !file_record(&rest[0..record_sizes::RECORD]) {
+    if !blobfile_record(&rest[0..record_sizes::RECORD]) {
         return Checked::Refused(Refusal::Malformed);
     }
     presented_records(&rest[record_sizes::RECORD..])

@@ -16,7 +16,7 @@ use Rattle.rules.specs.Sizes.{groupsMax, limitsMax, actionsMax, counters
 use Rattle.rules.specs.Numbers.{malformed, tooMany}
 use Rattle.rules.specs.Basics.{Bytes, any, Every, numberFrom, part, byte, kind, recordFault, scan, records}
 use Rattle.rules.specs.Layout.{counterUnder, counterOfSort, limitUnder, limitLaidOut}
-use Rattle.rules.specs.Acl.{Limit, limitOf, limitsOf, actionsOf, groupOf, groupsOf, aclOf, AclPlace, limitKey, among, limitInPlace, inPlace, hasRoomUnder, hasRoom, afterRecord, recordFaultUnder, aclRecordFault, aclEnd, aclStart, aclFaultUnder, aclFault}
+use Rattle.rules.specs.Acl.{Limit, limitOf, limitsOf, actionsOf, groupOf, groupsOf, aclOf, AclState, limitKey, among, limitInPlace, inPlace, hasRoomUnder, hasRoom, afterRecord, recordFaultUnder, aclRecordFault, aclEnd, aclStart, aclFaultUnder, aclFault}
 use Rattle.rules.proofs.Laws.{never, and-left, and-right, and-both, not-both, or-right, every-at, unless-passed, orNext-first, orNext-next, fault-none-every}
 use Rattle.rules.proofs.Rows.{records-sized}
 use Rattle.rules.proofs.Places.{limit-placed, same-count}
@@ -25,21 +25,21 @@ use Rattle.rules.specs.Fits.{LimitFits, Apart, GroupFits, AclFits}
 ruleset conj = (and-left, and-right, and-both)
 
 -- reading goes on without fault from a place
-abbrev Reads : AclPlace → List Bytes → Type 0
+abbrev Reads : AclState → List Bytes → Type 0
 Reads s rs = scan aclRecordFault afterRecord aclEnd s rs ≡ none
 
 abbrev Whole : List Bytes → Type 0
 Whole rs = Every (λ r. length r ≡ 64) rs
 
 -- a record without fault is in place, and there is room for it
-good-record : (s : AclPlace) (r : Bytes) → aclRecordFault s r ≡ none → (inPlace s r ≡ true) × (hasRoom s r ≡ true)
+good-record : (s : AclState) (r : Bytes) → aclRecordFault s r ≡ none → (inPlace s r ≡ true) × (hasRoom s r ≡ true)
 unfolding recordFaultUnder recordFault
 good-record s r e =
     let w = fault-none-every _ e in
     (unless-passed (inPlace s r) malformed (w .0), unless-passed (hasRoom s r) tooMany (w .1 .0))
 
 -- reading goes on after a record without fault
-first-record : (s : AclPlace) (r : Bytes) (rs : List Bytes) → Reads s (r ∷ rs) → (inPlace s r ≡ true) × (hasRoom s r ≡ true) × Reads (afterRecord s r) rs
+first-record : (s : AclState) (r : Bytes) (rs : List Bytes) → Reads s (r ∷ rs) → (inPlace s r ≡ true) × (hasRoom s r ≡ true) × Reads (afterRecord s r) rs
 unfolding scan
 first-record s r rs e =
     let g = good-record s r (orNext-first (aclRecordFault s r) _ e) in
@@ -72,7 +72,7 @@ Fresh keys [] = Unit {0}
 Fresh keys (m ∷ ms) = (among (keyOf m) keys ≡ false) × Fresh (keys ++ (keyOf m ∷ [])) ms
 
 -- what a limit record in its place says
-limit-record : (s : AclPlace) (r : Bytes) → kind r ≡ 2 → inPlace s r ≡ true → hasRoom s r ≡ true
+limit-record : (s : AclState) (r : Bytes) → kind r ≡ 2 → inPlace s r ≡ true → hasRoom s r ≡ true
     → LimitFits (limitOf r) × (among (limitKey r) (s .limits) ≡ false) × (length (s .limits) < limitsMax)
 unfolding hasRoomUnder limitInPlace
 limit-record s r q e d =
@@ -82,12 +82,12 @@ limit-record s r q e d =
     (limit-fits r (and-left _ _ a), not-true _ c, ltb-true (length (s .limits)) limitsMax (rw q at d))
 
 -- the state after a limit
-after-limit : (s : AclPlace) (r : Bytes) → kind r ≡ 2 → (afterRecord s r .limits ≡ s .limits ++ (limitKey r ∷ [])) × (afterRecord s r .actions ≡ s .actions)
+after-limit : (s : AclState) (r : Bytes) → kind r ≡ 2 → (afterRecord s r .limits ≡ s .limits ++ (limitKey r ∷ [])) × (afterRecord s r .actions ≡ s .actions)
 unfolding afterRecord
 after-limit s r q = rw q (refl, refl)
 
 -- the limits read from a place on, after those that are read already
-limits-fit : (s : AclPlace) (rs : List Bytes) → Whole rs → Reads s rs → length (s .limits) ≤ limitsMax
+limits-fit : (s : AclState) (rs : List Bytes) → Whole rs → Reads s rs → length (s .limits) ≤ limitsMax
     → (length (s .limits) + length (limitsOf rs) ≤ limitsMax) × Every LimitFits (limitsOf rs) × Fresh (s .limits) (limitsOf rs)
 unfolding limitsOf
 limits-fit s [] w e h = (omega arith, tt, tt)
@@ -110,20 +110,20 @@ limits-fit s (r ∷ rs) w e h = pick (eqb (kind r) 2) refl (limits-fit (afterRec
     pick false q f = rw q (omega arith, tt, tt)
 
 -- the actions of a group, likewise
-after-action : (s : AclPlace) (r : Bytes) → eqb (kind r) 1 ≡ false → eqb (kind r) 2 ≡ false → eqb (kind r) 15 ≡ false → afterRecord s r .actions ≡ s .actions + 1
+after-action : (s : AclState) (r : Bytes) → eqb (kind r) 1 ≡ false → eqb (kind r) 2 ≡ false → eqb (kind r) 15 ≡ false → afterRecord s r .actions ≡ s .actions + 1
 unfolding afterRecord
 after-action s r p q t = rw (p, q, t)
 
-action-room : (s : AclPlace) (r : Bytes) → eqb (kind r) 1 ≡ false → eqb (kind r) 2 ≡ false → eqb (kind r) 15 ≡ false → hasRoom s r ≡ true → s .actions < actionsMax
+action-room : (s : AclState) (r : Bytes) → eqb (kind r) 1 ≡ false → eqb (kind r) 2 ≡ false → eqb (kind r) 15 ≡ false → hasRoom s r ≡ true → s .actions < actionsMax
 unfolding hasRoomUnder
 action-room s r p q t e = ltb-true (s .actions) actionsMax (rw (p, q, t) at e)
 
 -- "Kind 15 does not count as an action."
-after-file : (s : AclPlace) (r : Bytes) → eqb (kind r) 1 ≡ false → eqb (kind r) 2 ≡ false → eqb (kind r) 15 ≡ true → afterRecord s r .actions ≡ s .actions
+after-file : (s : AclState) (r : Bytes) → eqb (kind r) 1 ≡ false → eqb (kind r) 2 ≡ false → eqb (kind r) 15 ≡ true → afterRecord s r .actions ≡ s .actions
 unfolding afterRecord
 after-file s r p q t = rw (p, q, t)
 
-actions-fit : (s : AclPlace) (rs : List Bytes) → Reads s rs → s .actions ≤ actionsMax → s .actions + length (actionsOf rs) ≤ actionsMax
+actions-fit : (s : AclState) (rs : List Bytes) → Reads s rs → s .actions ≤ actionsMax → s .actions + length (actionsOf rs) ≤ actionsMax
 unfolding actionsOf
 actions-fit s [] e h = omega arith
 actions-fit s (r ∷ rs) e h = pick (eqb (kind r) 1) refl (eqb (kind r) 2) refl (eqb (kind r) 15) refl (first-record s r rs e) (actions-fit (afterRecord s r) rs)
@@ -196,16 +196,16 @@ limits-apart ms f h i j m n l d e s = pick (eqb (m .sort) 2) refl
         absurd (differ (x ∙ sym y))
 
 -- the state after a group record
-after-group : (s : AclPlace) (r : Bytes) → eqb (kind r) 1 ≡ true → (afterRecord s r .groups ≡ s .groups + 1) × (afterRecord s r .limits ≡ []) × (afterRecord s r .actions ≡ 0)
+after-group : (s : AclState) (r : Bytes) → eqb (kind r) 1 ≡ true → (afterRecord s r .groups ≡ s .groups + 1) × (afterRecord s r .limits ≡ []) × (afterRecord s r .actions ≡ 0)
 unfolding afterRecord
 after-group s r q = rw q (refl, refl, refl)
 
-group-room : (s : AclPlace) (r : Bytes) → eqb (kind r) 1 ≡ true → hasRoom s r ≡ true → s .groups < groupsMax
+group-room : (s : AclState) (r : Bytes) → eqb (kind r) 1 ≡ true → hasRoom s r ≡ true → s .groups < groupsMax
 unfolding hasRoomUnder
 group-room s r q e = ltb-true (s .groups) groupsMax (rw q at e)
 
 -- a group whose record was read just before the rest
-group-fits : (s : AclPlace) (r : Bytes) (rs : List Bytes) → s .limits ≡ [] → s .actions ≡ 0 → Whole rs → Reads s rs → GroupFits (groupOf r rs)
+group-fits : (s : AclState) (r : Bytes) (rs : List Bytes) → s .limits ≡ [] → s .actions ≡ 0 → Whole rs → Reads s rs → GroupFits (groupOf r rs)
 group-fits s r rs p q w e =
     let n : length (s .limits) ≡ 0 = ap length p in
     let l = limits-fit s rs w e (omega arith) in
@@ -217,7 +217,7 @@ group-fits s r rs p q w e =
       apart = limits-apart (limitsOf rs) (l .1) (rw p at (l .2));
     }
 
-groups-fit : (s : AclPlace) (rs : List Bytes) → Whole rs → Reads s rs → s .groups ≤ groupsMax → (s .groups + length (groupsOf rs) ≤ groupsMax) × Every GroupFits (groupsOf rs)
+groups-fit : (s : AclState) (rs : List Bytes) → Whole rs → Reads s rs → s .groups ≤ groupsMax → (s .groups + length (groupsOf rs) ≤ groupsMax) × Every GroupFits (groupsOf rs)
 unfolding groupsOf
 groups-fit s [] w e h = (omega arith, tt)
 groups-fit s (r ∷ rs) w e h = pick (eqb (kind r) 1) refl (first-record s r rs e) (groups-fit (afterRecord s r) rs (w .1))

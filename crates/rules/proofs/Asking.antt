@@ -12,8 +12,8 @@ use borrow.Author.Tests.{eqb-false, not-true, leb-true, lt-ltb}
 use Rattle.rules.specs.Sizes.{recordBytes, hashBytes, aclRecords, certificatesMax, requestRecords, answerBytes}
 use Rattle.rules.specs.Numbers.{badLength, malformed, tooMany, shortBuffer}
 use Rattle.rules.specs.Basics.{Bytes, all, Every, number, kind, orNext, firstFault, recordFault, scan, records, fits}
-use Rattle.rules.specs.Acl.{announcesFile, aclOf, aclFault}
-use Rattle.rules.specs.Request.{Certificate, certificatesOf, delegationsOf, blobFileNext, requestFrom, requestLaidOut, standsAlone, requestRecordFault, certificateFault, presentedRecordFault, afterPresented, presentedEnd, presentedFault, fileRequestRecord, fileNext, requestFault}
+use Rattle.rules.specs.Acl.{announcesBlobfile, aclOf, aclFault}
+use Rattle.rules.specs.Request.{Certificate, certificatesOf, delegationsOf, blobfileNext, requestFrom, requestLaidOut, standsAlone, requestRecordFault, certificateFault, presentedRecordFault, afterPresented, presentedEnd, presentedFault, blobfileRequestRecord, blobfileFollows, requestFault}
 use Rattle.rules.specs.Ledger.{Ledger}
 use Rattle.rules.specs.Gate.{Outcome, judge, permitted, outcomeUnless, settle, request}
 use Rattle.rules.specs.Written.{certificateBytes}
@@ -61,17 +61,17 @@ row-back [] d = (refl, refl)
 row-back (c ∷ cs) d = let i = row-back cs (d .1) in (rw (kind-9 c, certificate-read c (d .0), i .0), rw (kind-9 c, i .1))
 
 -- no record of kind 15 comes next
-no-file : (row : List Certificate) → (fileNext (map certificateBytes row) ≡ false) × (blobFileNext (map certificateBytes row) ≡ none)
-unfolding fileNext fileRequestRecord blobFileNext
+no-file : (row : List Certificate) → (blobfileFollows (map certificateBytes row) ≡ false) × (blobfileNext (map certificateBytes row) ≡ none)
+unfolding blobfileFollows blobfileRequestRecord blobfileNext
 no-file [] = (refl, refl)
 no-file (c ∷ cs) = (rw (kind-9 c), rw (kind-9 c))
 
 -- The file's fault is the request record's own: one that announces a record of kind 15 is malformed here.
 pub row-fault : (r : Bytes) (row : List Certificate) → Every Decoded row → length row ≤ certificatesMax → all mechanismNamed row ≡ true → requestFault requestLaidOut (r ∷ map certificateBytes row) ≡ requestRecordFault r
 unfolding requestFault requestRecordFault standsAlone presentedFault firstFault
-row-fault r row d few m = pick (requestLaidOut r) refl (announcesFile r) refl
+row-fault r row d few m = pick (requestLaidOut r) refl (announcesBlobfile r) refl
   where
-    pick : (a : Bool) → requestLaidOut r ≡ a → (b : Bool) → announcesFile r ≡ b → requestFault requestLaidOut (r ∷ map certificateBytes row) ≡ requestRecordFault r
+    pick : (a : Bool) → requestLaidOut r ≡ a → (b : Bool) → announcesBlobfile r ≡ b → requestFault requestLaidOut (r ∷ map certificateBytes row) ≡ requestRecordFault r
     pick false e b f = rw e
     pick true e true f = rw (e, f, no-file row .0)
     pick true e false f = rw (e, f, row-sound 0 row d (omega arith) m)

@@ -11,7 +11,7 @@ use borrow.Author.Tests.{eqb-true}
 use Rattle.rules.specs.Sizes.{permissionsMax}
 use Rattle.rules.specs.Basics.{Bytes, any}
 use Rattle.rules.specs.Acl.{Action, permissions, makeBlob, makeArchive, Group}
-use Rattle.rules.specs.Request.{WorkingBlob, RecoveryBlob, BlobFile}
+use Rattle.rules.specs.Request.{WorkingBlob, RecoveryBlob, Blobfile}
 use Rattle.rules.specs.Grant.{admitsWorking, admitsRecovery}
 use Rattle.rules.specs.Desk.{isArchive}
 use Rattle.rules.specs.Prepared.{isBlobAction, Form, useSet, useSets, formOf, sameForm}
@@ -40,13 +40,13 @@ any-part p q (x ∷ xs) f = pick (p x) refl (q x) refl (any-part p q xs f)
     pick false d true e g = absurd (false≢true (sym d ∙ f x e))
     pick false d false e g = rw (d, e) g
 
-pub working-part : (km0 : Bytes) (w : WorkingBlob) (f : Option BlobFile) (a : Action) → admitsWorking km0 w f a ≡ true → isBlobAction a ≡ true
+pub working-part : (km0 : Bytes) (w : WorkingBlob) (f : Option Blobfile) (a : Action) → admitsWorking km0 w f a ≡ true → isBlobAction a ≡ true
 unfolding admitsWorking
 working-part km0 w f (permissions bits) e = e
 working-part km0 w f (makeBlob b r) e = refl
 working-part km0 w f (makeArchive a r) e = e
 
-pub recovery-part : (w : RecoveryBlob) (f : Option BlobFile) (a : Action) → admitsRecovery w f a ≡ true → isArchive a ≡ true
+pub recovery-part : (w : RecoveryBlob) (f : Option Blobfile) (a : Action) → admitsRecovery w f a ≡ true → isArchive a ≡ true
 unfolding admitsRecovery
 recovery-part w f (permissions bits) e = e
 recovery-part w f (makeBlob b r) e = e

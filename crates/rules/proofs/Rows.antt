@@ -11,7 +11,7 @@ use lib.ListN.{length, take, drop, getD, length-drop}
 use lib.Seq.{drop-drop, take-all, length-take-le, getD-take, getD-drop}
 use Rattle.rules.specs.Numbers.{malformed, tooMany}
 use Rattle.rules.specs.Basics.{Bytes, Every, part, chunks, records, recordsFrom, orNext, firstFault, recordFault, eachFault, scan}
-use Rattle.rules.specs.Request.{wantedOf, blobFileNext, requestFrom, requestOf}
+use Rattle.rules.specs.Request.{wantedOf, blobfileNext, requestFrom, requestOf}
 
 pub rows-start : (s : Bytes) → recordsFrom s 0 ≡ records s
 unfolding recordsFrom
@@ -32,10 +32,10 @@ unfolding records chunks
 no-rows s h = ap (λ (n : ℕ). chunks n s) (no-fuel (length s) h)
 
 -- what a request file asks for, by its first record and what follows it
-pub wanted-first : (s rest : Bytes) → rest ≡ drop 64 s → 64 ≤ length s → wantedOf (take 64 s) (blobFileNext (records rest)) ≡ requestOf s .wanted
+pub wanted-first : (s rest : Bytes) → rest ≡ drop 64 s → 64 ≤ length s → wantedOf (take 64 s) (blobfileNext (records rest)) ≡ requestOf s .wanted
 unfolding requestFrom
 wanted-first s rest p h =
-    ap (λ (r : Bytes). wantedOf (take 64 s) (blobFileNext (records r))) p ∙ sym (ap (λ (l : List Bytes). requestFrom l .wanted) (first s h))
+    ap (λ (r : Bytes). wantedOf (take 64 s) (blobfileNext (records r))) p ∙ sym (ap (λ (l : List Bytes). requestFrom l .wanted) (first s h))
 
 -- one record, and the rest
 pub rows-at : (s : Bytes) (at : ℕ) → 64 ≤ length s - at → recordsFrom s at ≡ part at 64 s ∷ recordsFrom s (at + 64)

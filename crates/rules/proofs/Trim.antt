@@ -13,11 +13,11 @@ use Rattle.rules.specs.Sizes.{actionsMax}
 use Rattle.rules.specs.Numbers.{shortBuffer}
 use Rattle.rules.specs.Basics.{Bytes, Every, number, kind, firstFault, scan, records, recordsFrom}
 use Rattle.rules.specs.Layout.{header, permissionsLaidOut}
-use Rattle.rules.specs.Acl.{AclPlace, hasRoomUnder, afterRecord, aclRecordFault}
+use Rattle.rules.specs.Acl.{AclState, hasRoomUnder, afterRecord, aclRecordFault}
 use Rattle.rules.specs.Written.{bigEndian, hintBytes}
 use Rattle.rules.specs.Bundle.{policyOf}
 use Rattle.rules.specs.Desk.{Step, beforeAcl, deskFault}
-use Rattle.rules.specs.Trim.{roomy, keptBits, withBits, isChecked, actionPasses, stays, trimmedRecord, keptBefore, trimmedFrom, keptPlaces, hintsFrom, untrimmed, unread, trimFault}
+use Rattle.rules.specs.Trim.{roomy, keptBits, withBits, isChecked, actionPasses, stays, trimmedRecord, keptBefore, trimmedFrom, keptIndices, hintsFrom, untrimmed, unread, trimFault}
 use Rattle.rules.proofs.Laws.{orNext-first, orNext-next}
 use Rattle.rules.proofs.Rows.{rows-lent, rows-end, lentRecord}
 use Rattle.rules.proofs.Joined.{Whole}
@@ -92,17 +92,17 @@ trimmed-few b checked kept (r ∷ rs) =
     pick false p false q false y false v f = let l = f checked false in rw (p, q, y, v) (omega arith)
 
 -- a group has at most 8 actions
-pub few-places : (b : List Bytes) (checked : Bool) (place : ℕ) (s : AclPlace) (rs : List Bytes) → aclFrom s rs ≡ none → s .actions ≤ actionsMax → s .actions + length (keptPlaces b checked place rs) ≤ actionsMax
-unfolding scan keptPlaces afterRecord hasRoomUnder
+pub few-places : (b : List Bytes) (checked : Bool) (place : ℕ) (s : AclState) (rs : List Bytes) → aclFrom s rs ≡ none → s .actions ≤ actionsMax → s .actions + length (keptIndices b checked place rs) ≤ actionsMax
+unfolding scan keptIndices afterRecord hasRoomUnder
 few-places b checked place s [] e h = omega arith
 few-places b checked place s (r ∷ rs) e h =
     pick (eqb (kind r) 1) refl (eqb (kind r) 2) refl (eqb (kind r) 15) refl (stays b checked r) refl (orNext-first (aclRecordFault s r) _ e)
     (λ k. few-places b checked k (afterRecord s r) rs (orNext-next (aclRecordFault s r) _ e))
   where
     Rest : Type 0
-    Rest = (k : ℕ) → afterRecord s r .actions ≤ actionsMax → afterRecord s r .actions + length (keptPlaces b checked k rs) ≤ actionsMax
+    Rest = (k : ℕ) → afterRecord s r .actions ≤ actionsMax → afterRecord s r .actions + length (keptIndices b checked k rs) ≤ actionsMax
 
-    pick : (x : Bool) → eqb (kind r) 1 ≡ x → (y : Bool) → eqb (kind r) 2 ≡ y → (t : Bool) → eqb (kind r) 15 ≡ t → (z : Bool) → stays b checked r ≡ z → aclRecordFault s r ≡ none → Rest → s .actions + length (keptPlaces b checked place (r ∷ rs)) ≤ actionsMax
+    pick : (x : Bool) → eqb (kind r) 1 ≡ x → (y : Bool) → eqb (kind r) 2 ≡ y → (t : Bool) → eqb (kind r) 15 ≡ t → (z : Bool) → stays b checked r ≡ z → aclRecordFault s r ≡ none → Rest → s .actions + length (keptIndices b checked place (r ∷ rs)) ≤ actionsMax
     pick true p y q t u z v d f = rw p (omega arith)
     pick false p true q t u z v d f = rw (p, q) (rw (same p q) at (f place (rw (same p q) h)))
       where
@@ -120,30 +120,30 @@ few-places b checked place s (r ∷ rs) e h =
         below : s .actions < actionsMax
         below = ltb-true (s .actions) actionsMax (rw (p, q, u) at (record-has-room s r d))
 
-        kept : (z : Bool) → stays b checked r ≡ z → s .actions + length (keptPlaces b checked place (r ∷ rs)) ≤ actionsMax
+        kept : (z : Bool) → stays b checked r ≡ z → s .actions + length (keptIndices b checked place (r ∷ rs)) ≤ actionsMax
         kept true v = let l = f (place + 1) (omega (arith, one, below)) in rw (p, q, u, v) (omega (arith, one))
         kept false v = let l = f (place + 1) (omega (arith, one, below)) in rw (p, q, u, v) (omega (arith, one))
 
 -- after a group's record reading has met no action of it
-pub fresh-group : (s : AclPlace) (r : Bytes) → eqb (kind r) 1 ≡ true → afterRecord s r .actions ≡ 0
+pub fresh-group : (s : AclState) (r : Bytes) → eqb (kind r) 1 ≡ true → afterRecord s r .actions ≡ 0
 unfolding afterRecord
 fresh-group s r p = rw p
 
-pub group-places : (b : List Bytes) (s : AclPlace) (r : Bytes) (rs : List Bytes) → eqb (kind r) 1 ≡ true → aclFrom (afterRecord s r) rs ≡ none → length (keptPlaces b (isChecked b r) 0 rs) ≤ actionsMax
+pub group-places : (b : List Bytes) (s : AclState) (r : Bytes) (rs : List Bytes) → eqb (kind r) 1 ≡ true → aclFrom (afterRecord s r) rs ≡ none → length (keptIndices b (isChecked b r) 0 rs) ≤ actionsMax
 group-places b s r rs p e = let z = fresh-group s r p in let l = few-places b (isChecked b r) 0 (afterRecord s r) rs e (omega arith) in omega arith
 
 -- a kept action's old place is below 8
-pub places-below : (b : List Bytes) (checked : Bool) (place : ℕ) (s : AclPlace) (rs : List Bytes) → aclFrom s rs ≡ none → place ≡ s .actions → Every (λ p. p < actionsMax) (keptPlaces b checked place rs)
-unfolding scan keptPlaces afterRecord hasRoomUnder
+pub places-below : (b : List Bytes) (checked : Bool) (place : ℕ) (s : AclState) (rs : List Bytes) → aclFrom s rs ≡ none → place ≡ s .actions → Every (λ p. p < actionsMax) (keptIndices b checked place rs)
+unfolding scan keptIndices afterRecord hasRoomUnder
 places-below b checked place s [] e h = tt
 places-below b checked place s (r ∷ rs) e h =
     pick (eqb (kind r) 1) refl (eqb (kind r) 2) refl (eqb (kind r) 15) refl (stays b checked r) refl (orNext-first (aclRecordFault s r) _ e)
     (λ k. places-below b checked k (afterRecord s r) rs (orNext-next (aclRecordFault s r) _ e))
   where
     Rest : Type 0
-    Rest = (k : ℕ) → k ≡ afterRecord s r .actions → Every (λ p. p < actionsMax) (keptPlaces b checked k rs)
+    Rest = (k : ℕ) → k ≡ afterRecord s r .actions → Every (λ p. p < actionsMax) (keptIndices b checked k rs)
 
-    pick : (x : Bool) → eqb (kind r) 1 ≡ x → (y : Bool) → eqb (kind r) 2 ≡ y → (t : Bool) → eqb (kind r) 15 ≡ t → (z : Bool) → stays b checked r ≡ z → aclRecordFault s r ≡ none → Rest → Every (λ p. p < actionsMax) (keptPlaces b checked place (r ∷ rs))
+    pick : (x : Bool) → eqb (kind r) 1 ≡ x → (y : Bool) → eqb (kind r) 2 ≡ y → (t : Bool) → eqb (kind r) 15 ≡ t → (z : Bool) → stays b checked r ≡ z → aclRecordFault s r ≡ none → Rest → Every (λ p. p < actionsMax) (keptIndices b checked place (r ∷ rs))
     pick true p y q t u z v d f = rw p tt
     pick false p true q t u z v d f = rw (p, q) (f place (h ∙ sym same))
       where
@@ -161,7 +161,7 @@ places-below b checked place s (r ∷ rs) e h =
         below : place < actionsMax
         below = let l = ltb-true (s .actions) actionsMax (rw (p, q, u) at (record-has-room s r d)) in omega arith
 
-        kept : (z : Bool) → stays b checked r ≡ z → Every (λ p. p < actionsMax) (keptPlaces b checked place (r ∷ rs))
+        kept : (z : Bool) → stays b checked r ≡ z → Every (λ p. p < actionsMax) (keptIndices b checked place (r ∷ rs))
         kept true v = rw (p, q, u, v) (below, f (place + 1) next)
         kept false v = rw (p, q, u, v) (f (place + 1) next)
 
@@ -173,35 +173,35 @@ module _ (b : List Bytes) (checked kept : Bool) (s : Bytes) (at : ℕ) where
 
 -- The places that a group's hint names.
 module _ (b : List Bytes) (checked : Bool) (place : ℕ) (s : Bytes) (at : ℕ) where
-  pub places-group : 64 ≤ length s - at → eqb (kind (lentRecord s at)) 1 ≡ true → keptPlaces b checked place (recordsFrom s at) ≡ []
-  unfolding keptPlaces
-  places-group h p = ap (keptPlaces b checked place) (rows-lent s at h) ∙ rw p
+  pub places-group : 64 ≤ length s - at → eqb (kind (lentRecord s at)) 1 ≡ true → keptIndices b checked place (recordsFrom s at) ≡ []
+  unfolding keptIndices
+  places-group h p = ap (keptIndices b checked place) (rows-lent s at h) ∙ rw p
 
-  pub places-limit : 64 ≤ length s - at → eqb (kind (lentRecord s at)) 1 ≡ false → eqb (kind (lentRecord s at)) 2 ≡ true → keptPlaces b checked place (recordsFrom s at) ≡ keptPlaces b checked place (recordsFrom s (at + 64))
-  unfolding keptPlaces
-  places-limit h p q = ap (keptPlaces b checked place) (rows-lent s at h) ∙ rw (p, q)
+  pub places-limit : 64 ≤ length s - at → eqb (kind (lentRecord s at)) 1 ≡ false → eqb (kind (lentRecord s at)) 2 ≡ true → keptIndices b checked place (recordsFrom s at) ≡ keptIndices b checked place (recordsFrom s (at + 64))
+  unfolding keptIndices
+  places-limit h p q = ap (keptIndices b checked place) (rows-lent s at h) ∙ rw (p, q)
 
-  pub places-file : 64 ≤ length s - at → eqb (kind (lentRecord s at)) 1 ≡ false → eqb (kind (lentRecord s at)) 2 ≡ false → eqb (kind (lentRecord s at)) 15 ≡ true → keptPlaces b checked place (recordsFrom s at) ≡ keptPlaces b checked place (recordsFrom s (at + 64))
-  unfolding keptPlaces
-  places-file h p q u = ap (keptPlaces b checked place) (rows-lent s at h) ∙ rw (p, q, u)
+  pub places-file : 64 ≤ length s - at → eqb (kind (lentRecord s at)) 1 ≡ false → eqb (kind (lentRecord s at)) 2 ≡ false → eqb (kind (lentRecord s at)) 15 ≡ true → keptIndices b checked place (recordsFrom s at) ≡ keptIndices b checked place (recordsFrom s (at + 64))
+  unfolding keptIndices
+  places-file h p q u = ap (keptIndices b checked place) (rows-lent s at h) ∙ rw (p, q, u)
 
   pub places-stays : 64 ≤ length s - at → eqb (kind (lentRecord s at)) 1 ≡ false → eqb (kind (lentRecord s at)) 2 ≡ false → eqb (kind (lentRecord s at)) 15 ≡ false → stays b checked (lentRecord s at) ≡ true
-      → keptPlaces b checked place (recordsFrom s at) ≡ place ∷ keptPlaces b checked (place + 1) (recordsFrom s (at + 64))
-  unfolding keptPlaces
-  places-stays h p q u r = ap (keptPlaces b checked place) (rows-lent s at h) ∙ rw (p, q, u, r)
+      → keptIndices b checked place (recordsFrom s at) ≡ place ∷ keptIndices b checked (place + 1) (recordsFrom s (at + 64))
+  unfolding keptIndices
+  places-stays h p q u r = ap (keptIndices b checked place) (rows-lent s at h) ∙ rw (p, q, u, r)
 
   pub places-goes : 64 ≤ length s - at → eqb (kind (lentRecord s at)) 1 ≡ false → eqb (kind (lentRecord s at)) 2 ≡ false → eqb (kind (lentRecord s at)) 15 ≡ false → stays b checked (lentRecord s at) ≡ false
-      → keptPlaces b checked place (recordsFrom s at) ≡ keptPlaces b checked (place + 1) (recordsFrom s (at + 64))
-  unfolding keptPlaces
-  places-goes h p q u r = ap (keptPlaces b checked place) (rows-lent s at h) ∙ rw (p, q, u, r)
+      → keptIndices b checked place (recordsFrom s at) ≡ keptIndices b checked (place + 1) (recordsFrom s (at + 64))
+  unfolding keptIndices
+  places-goes h p q u r = ap (keptIndices b checked place) (rows-lent s at h) ∙ rw (p, q, u, r)
 
-  pub places-end : length s - at < 64 → keptPlaces b checked place (recordsFrom s at) ≡ []
-  unfolding keptPlaces
-  places-end h = ap (keptPlaces b checked place) (rows-end s at h)
+  pub places-end : length s - at < 64 → keptIndices b checked place (recordsFrom s at) ≡ []
+  unfolding keptIndices
+  places-end h = ap (keptIndices b checked place) (rows-end s at h)
 
 -- The hints' records.
 module _ (b : List Bytes) (place : ℕ) (s : Bytes) (at : ℕ) where
-  pub hints-group : 64 ≤ length s - at → eqb (kind (lentRecord s at)) 1 ≡ true → hintsFrom b place (recordsFrom s at) ≡ hintBytes place (keptPlaces b (isChecked b (lentRecord s at)) 0 (recordsFrom s (at + 64))) ∷ hintsFrom b (place + 1) (recordsFrom s (at + 64))
+  pub hints-group : 64 ≤ length s - at → eqb (kind (lentRecord s at)) 1 ≡ true → hintsFrom b place (recordsFrom s at) ≡ hintBytes place (keptIndices b (isChecked b (lentRecord s at)) 0 (recordsFrom s (at + 64))) ∷ hintsFrom b (place + 1) (recordsFrom s (at + 64))
   unfolding hintsFrom
   hints-group h p = ap (hintsFrom b place) (rows-lent s at h) ∙ rw p
 

@@ -13,7 +13,7 @@ use borrow.Author.Tests.{ne-eqb}
 use Rattle.rules.specs.Sizes.{recordBytes, hashBytes, actionsMax}
 use Rattle.rules.specs.Basics.{Bytes, Every, chunks, records, joined, allZero, numberFrom, allBelow, within, part, number, kind}
 use Rattle.rules.specs.Layout.{header, zeroUnless, mechanismAt, tokenParametersAt, tokenParametersIf, blobRequestLaidOut, certificateLaidOut, hintLaidOut}
-use Rattle.rules.specs.Acl.{Parameters, parametersOf, parametersAt, announcesFile}
+use Rattle.rules.specs.Acl.{Parameters, parametersOf, parametersAt, announcesBlobfile}
 use Rattle.rules.specs.Request.{Token, WorkingBlob, workingBlob, Certificate, wantedOf, certificateOf, requestLaidOut, standsAlone, certificateRecord, hintOf, hintRecord}
 use Rattle.rules.specs.Written.{Octets, bigEndian, parametersBytes, tokenBytes, tokenFlag, blobRequestBytes, certificateBytes, hintBytes}
 use Rattle.rules.proofs.Joined.{Whole}
@@ -137,7 +137,7 @@ blob-laid-out-as key (some t) time k h =
     rw (c, laid-blank key (tokenBytes (some t)) 1 time k l)
 
 -- no record of kind 15 follows
-blob-alone-as : (key : Bytes) (t : Option Token) (time : ℕ) → announcesFile (laid key (tokenBytes t) (tokenFlag t) time) ≡ false
+blob-alone-as : (key : Bytes) (t : Option Token) (time : ℕ) → announcesBlobfile (laid key (tokenBytes t) (tokenFlag t) time) ≡ false
 unfolding numberFrom
 blob-alone-as key none time = refl
 blob-alone-as key (some t) time = refl

@@ -108,9 +108,9 @@ unfoldable pub delegationLaidOut : Bytes → Bool
 delegationLaidOut r = header 0 r && blank 46 18 r
 
 -- 15 blobfile (document 02, request i): "a device mask (4-7, flag 0) and an ACL template hash (8-27, flag 1)". An ACL may have any mask.
-unfoldable pub fileLaidOut : Bytes → Bool
-fileLaidOut r = header (bits (0 ∷ 1 ∷ [])) r && zeroUnless 0 4 4 r && zeroUnless 1 8 hashBytes r && blank 28 36 r
+unfoldable pub blobfileLaidOut : Bytes → Bool
+blobfileLaidOut r = header (bits (0 ∷ 1 ∷ [])) r && zeroUnless 0 4 4 r && zeroUnless 1 8 hashBytes r && blank 28 36 r
 
 -- 15 in a request: it "states exactly one device and, if used, the template"
-unfoldable pub fileRequestLaidOut : Bytes → Bool
-fileRequestLaidOut r = fileLaidOut r && flag 0 r && eqb (bitCount 32 (number 4 4 r)) 1
+unfoldable pub blobfileRequestLaidOut : Bytes → Bool
+blobfileRequestLaidOut r = blobfileLaidOut r && flag 0 r && eqb (bitCount 32 (number 4 4 r)) 1

@@ -6,7 +6,7 @@ use mathlib.Core.Bool.{Bool, true, false, _&&_}
 use lib.ListN.{getElem?}
 use lib.Dec.{eqb, leb}
 use Rattle.rules.specs.Basics.{Bytes, implies, any, all, allZero, same, within}
-use Rattle.rules.specs.Acl.{Parameters, BlobRule, ArchiveRule, FileRule, Action, permissions, makeBlob, makeArchive, Limit, Group}
+use Rattle.rules.specs.Acl.{Parameters, BlobRule, ArchiveRule, BlobfileRule, Action, permissions, makeBlob, makeArchive, Limit, Group}
 use Rattle.rules.specs.Request.{Hint}
 use Rattle.rules.specs.Grant.{tighter}
 
@@ -47,11 +47,11 @@ abbrev pub keptDevices : Option ℕ → Option ℕ → Bool
 keptDevices new old = keptBy (within 32) new old
 
 -- "A narrowing keeps flag 6 as it is, may add or tighten the mask or add a template, never drop either."
-abbrev pub fileNoWider : Option FileRule → Option FileRule → Bool
-fileNoWider none none = true
-fileNoWider none (some o) = false
-fileNoWider (some n) none = false
-fileNoWider (some n) (some o) = keptDevices (n .devices) (o .devices) && kept (n .template) (o .template)
+abbrev pub blobfileNoWider : Option BlobfileRule → Option BlobfileRule → Bool
+blobfileNoWider none none = true
+blobfileNoWider none (some o) = false
+blobfileNoWider (some n) none = false
+blobfileNoWider (some n) (some o) = keptDevices (n .devices) (o .devices) && kept (n .template) (o .template)
 
 -- "each action is of the hinted action's kind and no wider: subset of permission bits"
 unfoldable pub noWider : Action → Action → Bool
@@ -59,11 +59,11 @@ noWider (permissions n) (permissions o) = within 16 n o
 noWider (permissions n) (makeBlob o h) = false
 noWider (permissions n) (makeArchive o h) = false
 noWider (makeBlob n f) (permissions o) = false
-noWider (makeBlob n f) (makeBlob o h) = blobNoWider n o && fileNoWider f h
+noWider (makeBlob n f) (makeBlob o h) = blobNoWider n o && blobfileNoWider f h
 noWider (makeBlob n f) (makeArchive o h) = false
 noWider (makeArchive n f) (permissions o) = false
 noWider (makeArchive n f) (makeBlob o h) = false
-noWider (makeArchive n f) (makeArchive o h) = archiveNoWider n o && fileNoWider f h
+noWider (makeArchive n f) (makeArchive o h) = archiveNoWider n o && blobfileNoWider f h
 
 -- an action against the one that its hint names; "one naming nothing gives 8"
 abbrev pub noWiderThan : Action → Option Action → Bool

@@ -61,20 +61,20 @@ trimmedFrom b checked kept (r ∷ rs) =
 
 -- "naming each kept .. action by its old place": the places of a group's actions that stay, of the records up to the next group; `place` is the next
 -- action's
-unfoldable pub keptPlaces : List Bytes → Bool → ℕ → List Bytes → List ℕ
-keptPlaces b checked place [] = []
-keptPlaces b checked place (r ∷ rs) =
+unfoldable pub keptIndices : List Bytes → Bool → ℕ → List Bytes → List ℕ
+keptIndices b checked place [] = []
+keptIndices b checked place (r ∷ rs) =
     if eqb (kind r) 1 then []
-    else if eqb (kind r) 2 then keptPlaces b checked place rs
-    else if eqb (kind r) 15 then keptPlaces b checked place rs
-    else if stays b checked r then place ∷ keptPlaces b checked (place + 1) rs
-    else keptPlaces b checked (place + 1) rs
+    else if eqb (kind r) 2 then keptIndices b checked place rs
+    else if eqb (kind r) 15 then keptIndices b checked place rs
+    else if stays b checked r then place ∷ keptIndices b checked (place + 1) rs
+    else keptIndices b checked (place + 1) rs
 
 -- the hints' records, "naming each kept group .. by its old place": `place` is the next group's
 unfoldable pub hintsFrom : List Bytes → ℕ → List Bytes → List Bytes
 hintsFrom b place [] = []
 hintsFrom b place (r ∷ rs) =
-    if eqb (kind r) 1 then hintBytes place (keptPlaces b (isChecked b r) 0 rs) ∷ hintsFrom b (place + 1) rs
+    if eqb (kind r) 1 then hintBytes place (keptIndices b (isChecked b r) 0 rs) ∷ hintsFrom b (place + 1) rs
     else hintsFrom b place rs
 
 -- the trimmed ACL's bytes

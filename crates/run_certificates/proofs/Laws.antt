@@ -12,7 +12,7 @@ use Rattle.rules.specs.Acl.{aclOf}
 use Rattle.rules.specs.Runs.{mechanismNamed, Decoded}
 use Rattle.rules.specs.Request as rules
 use Rattle.run_certificates.specs.declared.Certificate.{Certificate}
-use Rattle.run_certificates.specs.declared.Seen.{Seen}
+use Rattle.run_certificates.specs.declared.RowSummary.{RowSummary}
 use Rattle.run_certificates.specs.Rows.{certificateAs, rowAs, certifiedSet, readableOf, Saw}
 use Rattle.run_certificates.proofs.Lent.{blank}
 
@@ -64,13 +64,13 @@ all-decoded [] e = tt
 all-decoded (y ∷ ys) e = (e .0, all-decoded ys (e .1))
 
 -- what a run knows of its row, from the answers of the calls
-pub saw : (r : Seen) (acl file : Bytes) (ys : List Certificate) (f : Bool) (c : ℕ) → r ≡ record { count = length ys; named = f; certified = c } → f ≡ all mechanismNamed (rowAs ys) → file ≡ readableOf acl (length ys)
+pub saw : (r : RowSummary) (acl file : Bytes) (ys : List Certificate) (f : Bool) (c : ℕ) → r ≡ record { count = length ys; named = f; certified = c } → f ≡ all mechanismNamed (rowAs ys) → file ≡ readableOf acl (length ys)
     → c ≡ certifiedSet (rowAs ys) (take setBits (aclOf file)) → Every (λ (d : Certificate). length (d .hash) ≡ hashBytes) ys → Saw r acl (rowAs ys)
 saw r acl file ys f c e named-is file-is c-is sized =
     let n : length (rowAs ys) ≡ length ys = length-map ys certificateAs in
     record {
-      count-is = ap (λ (s : Seen). s .count) e ∙ sym n;
-      named-is = ap (λ (s : Seen). s .named) e ∙ named-is;
-      certified-is = ap (λ (s : Seen). s .certified) e ∙ c-is ∙ ap (λ (z : Bytes). certifiedSet (rowAs ys) (take setBits (aclOf z))) (file-is ∙ ap (readableOf acl) (sym n));
+      count-is = ap (λ (s : RowSummary). s .count) e ∙ sym n;
+      named-is = ap (λ (s : RowSummary). s .named) e ∙ named-is;
+      certified-is = ap (λ (s : RowSummary). s .certified) e ∙ c-is ∙ ap (λ (z : Bytes). certifiedSet (rowAs ys) (take setBits (aclOf z))) (file-is ∙ ap (readableOf acl) (sym n));
       decoded = all-decoded ys sized;
     }

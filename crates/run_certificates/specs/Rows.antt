@@ -13,7 +13,7 @@ use Rattle.rules.specs.Request as rules
 use Rattle.rules.specs.Chain.{serves}
 use Rattle.rules.specs.Runs.{mechanismNamed, Decoded}
 use Rattle.run_certificates.specs.declared.Certificate.{Certificate}
-use Rattle.run_certificates.specs.declared.Seen.{Seen}
+use Rattle.run_certificates.specs.declared.RowSummary.{RowSummary}
 
 -- a certificate of the code, as the definitions have it
 abbrev pub certificateAs : Certificate → rules.Certificate
@@ -60,7 +60,7 @@ unfoldable pub readableOf : Bytes → ℕ → Bytes
 readableOf acl count = if fits aclRecords acl && leb count certificatesMax then acl else []
 
 -- what a run knows of its row; the Rattle type sees to the last
-pub record Saw (s : Seen) (acl : Bytes) (row : List rules.Certificate) : Type 0 where
+pub record Saw (s : RowSummary) (acl : Bytes) (row : List rules.Certificate) : Type 0 where
   pub count-is : s .count ≡ length row
   pub named-is : s .named ≡ all mechanismNamed row
   pub certified-is : s .certified ≡ certifiedSet row (take setBits (aclOf (readableOf acl (length row))))

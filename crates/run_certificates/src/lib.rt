@@ -169,7 +169,7 @@ fn certified_groups(acl: &[u8], row: &[Certificate]) -> u64
 }
 
 // What a run knows of its row: how many certificates it has, whether every one names a mechanism, and the groups that they certify.
-pub struct Seen {
+pub struct RowSummary {
     pub count: usize,
     pub named: bool,
     pub certified: u64,
@@ -187,10 +187,10 @@ fn readable<'a>(acl: &'a [u8], count: usize) -> &'a [u8]
 }
 
 // What was read, as one value.
-fn noted(count: usize, named: bool, certified: u64) -> Seen
+fn noted(count: usize, named: bool, certified: u64) -> RowSummary
     ensures { λ r. ⌜ r ≡ record { count = count; named = named; certified = certified } ⌝ }
 {
-    Seen {
+    RowSummary {
         count: count,
         named: named,
         certified: certified,
@@ -198,7 +198,7 @@ fn noted(count: usize, named: bool, certified: u64) -> Seen
 }
 
 // The row is read once for a run, and the ACL's groups with it.
-pub fn read_row(acl: &[u8], row: &[Certificate]) -> Seen
+pub fn read_row(acl: &[u8], row: &[Certificate]) -> RowSummary
     ensures { λ r. ⌜ Saw r (now (acl .entry)) (rowAs (now (row .entry))) ⌝ }
 {
     let count = row.len();

@@ -15,7 +15,7 @@ use Rattle.rules.specs.Sizes.{groupsMax, setBits}
 use Rattle.rules.specs.Basics.{if_then_else_, Bytes, any, kind, byte, number, part, setOf, records}
 use Rattle.rules.specs.Layout.{useLaidOut}
 use Rattle.rules.specs.Acl.{Action, limitsOf, actionsOf, Group, groupOf, aclOf}
-use Rattle.rules.specs.Request.{Wanted, workingBlob, recoveryBlob, WorkingBlob, RecoveryBlob, BlobFile, workingBlobOf, recoveryBlobOf, wantedOf, requestLaidOut}
+use Rattle.rules.specs.Request.{Wanted, workingBlob, recoveryBlob, WorkingBlob, RecoveryBlob, Blobfile, workingBlobOf, recoveryBlobOf, wantedOf, requestLaidOut}
 use Rattle.rules.specs.Ledger.{Ledger}
 use Rattle.rules.specs.Grant.{admits}
 use Rattle.rules.specs.Desk.{isArchive}
@@ -28,10 +28,10 @@ use Rattle.run_decision.specs.GroupSets.{firstIn, judgedBySets, unspentA
 use Rattle.run_decision.proofs.GroupSets.{first-done}
 use Rattle.rules.proofs.Forms.{form-use, any-part, working-part, recovery-part}
 use Rattle.rules.proofs.AclSizes.{acl-fits}
-use Rattle.run_form.specs.Places.{Inside, Bodies}
+use Rattle.run_form.specs.Places.{Inside, Offsets}
 use Rattle.gate_decision.specs.declared.Judged.{Judged}
 use Rattle.gate_decision.specs.declared.Judged.the-variants.{Denied}
-use Rattle.refusals.specs.declared.Denial.the-variants.{Early}
+use Rattle.refusals.specs.declared.Denial.the-variants.{ClockBack}
 use Rattle.gate_decision.specs.Standings.{judgedFor, ledgerOfTables}
 use Rattle.run_decision.specs.Members.{leftAt, admitsAt, membersIn}
 use Rattle.run_decision.specs.Deciding.{Ready, admittingSet, candidates, setJudge}
@@ -39,7 +39,7 @@ use Rattle.run_decision.specs.Deciding.{Ready, admittingSet, candidates,
 ruleset conj = (and-left, and-right)
 
 -- The group at a place, by the table.
-module _ (acl : Bytes) (bodies : List ℕ) (b : Bodies acl bodies) where
+module _ (acl : Bytes) (bodies : List ℕ) (b : Offsets acl bodies) where
   at-place : (k : ℕ) → k < length (aclOf acl) → getElem? (aclOf acl) k ≡ some (groupOf (part (getD bodies k 0 - 64) 64 acl) (records (drop (getD bodies k 0) acl)))
   at-place k h = b .filled k h .there
 
@@ -79,11 +79,11 @@ admitting-below km0 w gs a e = rw e (set-bits (λ g. any (admits km0 w) (g .acti
 
 -- The judgement, by the code's tests of the time.
 module _ (counts counters : List ℕ) (loaded last : ℕ) (km0 : Bytes) (gs : List Group) (c : ℕ) (r : Bytes) (time : ℕ) (e : time ≡ number 56 8 r) where
-  pub judged-early : time < loaded → Denied Early ≡ judgedFor (setJudge (ledgerOfTables counts counters loaded last) km0 gs c r)
+  pub judged-early : time < loaded → Denied ClockBack ≡ judgedFor (setJudge (ledgerOfTables counts counters loaded last) km0 gs c r)
   unfolding setJudge
   judged-early h = sym (rw (← e, lt-ltb time loaded h))
 
-  pub judged-late : loaded ≤ time → time < last → Denied Early ≡ judgedFor (setJudge (ledgerOfTables counts counters loaded last) km0 gs c r)
+  pub judged-late : loaded ≤ time → time < last → Denied ClockBack ≡ judgedFor (setJudge (ledgerOfTables counts counters loaded last) km0 gs c r)
   unfolding setJudge
   judged-late k h = sym (rw (← e, le-ltb time loaded k, lt-ltb time last h))
 
@@ -113,11 +113,11 @@ members-set test p u (g ∷ gs) (suc w) h f =
     let t : test 0 ≡ u g = f 0 g refl in
     rw (set-rest (p g) (setOf p gs), digit-odd (p g) (setOf p gs), digit-bit (p g), t, i)
 
-working-admits : (km0 : Bytes) (w : WorkingBlob) (f : Option BlobFile) (a : Action) → admits km0 (workingBlob w f) a ≡ true → isBlobAction a ≡ true
+working-admits : (km0 : Bytes) (w : WorkingBlob) (f : Option Blobfile) (a : Action) → admits km0 (workingBlob w f) a ≡ true → isBlobAction a ≡ true
 unfolding admits
 working-admits km0 w f a e = working-part km0 w f a e
 
-recovery-admits : (km0 : Bytes) (w : RecoveryBlob) (f : Option BlobFile) (a : Action) → admits km0 (recoveryBlob w f) a ≡ true → isArchive a ≡ true
+recovery-admits : (km0 : Bytes) (w : RecoveryBlob) (f : Option Blobfile) (a : Action) → admits km0 (recoveryBlob w f) a ≡ true → isArchive a ≡ true
 unfolding admits
 recovery-admits km0 w f a e = recovery-part w f a e
 

@@ -16,7 +16,7 @@ use lib.Pow.{pow-pos, pow-mono}
 use Rattle.rules.specs.Sizes.{groupsMax}
 use Rattle.rules.specs.Basics.{if_then_else_, Bytes, Every, any, records}
 use Rattle.rules.specs.Acl.{limitsOf, actionsOf, Group}
-use Rattle.rules.specs.Request.{blobFileNext, wantedOf}
+use Rattle.rules.specs.Request.{blobfileNext, wantedOf}
 use Rattle.rules.specs.Grant.{admits, unspentWith}
 use Rattle.rules.specs.Gate.{notFound}
 use Rattle.rules.proofs.Rows.{lentRest, lent-rest, no-rows}
@@ -24,7 +24,7 @@ use Rattle.run_decision.proofs.GroupSets.{two, halved, still-even, firs
 use Rattle.run_decision.specs.GroupSets.{firstIn, placed, judgedBySets}
 use Rattle.run_form.specs.Places.{Inside}
 use Rattle.gate_decision.specs.declared.Judged.the-variants.{Granted, Denied}
-use Rattle.refusals.specs.declared.Denial.the-variants.{Unadmitted, Uncertified, Exhausted}
+use Rattle.refusals.specs.declared.Denial.the-variants.{NotAdmitted, NotCertified, Spent}
 use Rattle.gate_decision.specs.Standings.{judgedFor}
 use Rattle.run_decision.specs.Members.{leftAt, admitsAt, membersIn}
 
@@ -181,8 +181,8 @@ left-lent counts counters elapsed acl bodies k own at r a b e = e ∙ rw (lent-r
 
 -- whether a group admits; nothing follows the request record
 pub admits-lent : (km0 rec acl : Bytes) (bodies : List ℕ) (k at : ℕ) (r : Bool) → at ≡ getD bodies k 0
-    → r ≡ any (admits km0 (wantedOf rec (blobFileNext (records [])))) (actionsOf (records (lentRest acl at))) → r ≡ admitsAt km0 (wantedOf rec none) acl bodies k
-unfolding admitsAt blobFileNext
+    → r ≡ any (admits km0 (wantedOf rec (blobfileNext (records [])))) (actionsOf (records (lentRest acl at))) → r ≡ admitsAt km0 (wantedOf rec none) acl bodies k
+unfolding admitsAt blobfileNext
 admits-lent km0 rec acl bodies k at r b e = e ∙ rw (no-rows [] (omega arith), lent-rest acl at, b)
 
 pub both-within : (gs : List Group) (a c : ℕ) → length gs ≤ groupsMax → a < 2 ^ length gs → bitAnd a c < 2 ^ groupsMax
@@ -193,20 +193,20 @@ module _ (gs : List Group) (a c : ℕ) (left : ℕ → Bool) (fit : length gs �
   none-there : placed gs 64 ≡ notFound
   none-there = placed-past gs 64 (omega arith)
 
-  pub judged-none : a < 1 → Denied Unadmitted ≡ judgedFor (judgedBySets gs a c left)
+  pub judged-none : a < 1 → Denied NotAdmitted ≡ judgedFor (judgedBySets gs a c left)
   unfolding judgedBySets
   judged-none h =
       let z : a ≡ 0 = omega arith in
       sym (rw (z, and-zero-l c, trailing-of-zero 64, first-done left 64, none-there))
 
   module _ (h : a < 2 ^ length gs) where
-    pub judged-uncertified : (k : ℕ) → 1 ≤ a → bitAnd a c < 1 → k ≡ trailingZeros 64 a → Denied (Uncertified k) ≡ judgedFor (judgedBySets gs a c left)
+    pub judged-uncertified : (k : ℕ) → 1 ≤ a → bitAnd a c < 1 → k ≡ trailingZeros 64 a → Denied (NotCertified k) ≡ judgedFor (judgedBySets gs a c left)
     unfolding judgedBySets
     judged-uncertified k p b e =
         let z : bitAnd a c ≡ 0 = omega arith in
         let m : trailingZeros 64 a < length gs = member-below 64 (length gs) a (omega arith) h (omega arith) in
         let g = placed-there gs (trailingZeros 64 a) m in
-        ap (λ (n : ℕ). Denied (Uncertified n)) e ∙ sym (rw (z, trailing-of-zero 64, first-done left 64, none-there, g .2))
+        ap (λ (n : ℕ). Denied (NotCertified n)) e ∙ sym (rw (z, trailing-of-zero 64, first-done left 64, none-there, g .2))
 
     both-below : bitAnd a c < 2 ^ length gs
     both-below = let l = and-le-l a c in omega arith
@@ -215,11 +215,11 @@ module _ (gs : List Group) (a c : ℕ) (left : ℕ → Bool) (fit : length gs �
       member : trailingZeros 64 (bitAnd a c) < length gs
       member = member-below 64 (length gs) (bitAnd a c) (omega arith) both-below (omega arith)
 
-      pub judged-exhausted : (j : ℕ) → 64 ≤ k → j ≡ trailingZeros 64 (bitAnd a c) → Denied (Exhausted j) ≡ judgedFor (judgedBySets gs a c left)
+      pub judged-exhausted : (j : ℕ) → 64 ≤ k → j ≡ trailingZeros 64 (bitAnd a c) → Denied (Spent j) ≡ judgedFor (judgedBySets gs a c left)
       unfolding judgedBySets
       judged-exhausted j f d =
           let g = placed-there gs (trailingZeros 64 (bitAnd a c)) member in
-          ap (λ (n : ℕ). Denied (Exhausted n)) d ∙ sym (rw (none, g .2))
+          ap (λ (n : ℕ). Denied (Spent n)) d ∙ sym (rw (none, g .2))
         where
           past : (firstIn left 64 (bitAnd a c) < length gs) ⊎ (firstIn left 64 (bitAnd a c) ≡ 64) → firstIn left 64 (bitAnd a c) ≡ 64
           past (inl q) = absurd (omega arith)

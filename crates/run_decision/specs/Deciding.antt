@@ -13,12 +13,12 @@ use Rattle.rules.specs.Gate.{Outcome, early, Judgement, denied, tooEarly, permi
 use Rattle.rules.specs.Runs.{requestWith}
 use Rattle.rules.specs.Prepared.{formOf}
 use Rattle.run_decision.specs.GroupSets.{judgedBySets, unspentAt}
-use Rattle.run_form.specs.Places.{Bodies}
+use Rattle.run_form.specs.Places.{Offsets}
 
 -- What a run knows of its ACL, of the table of its groups and of the form: the ACL is without fault, and table and form are those made of it.
 pub record Ready (acl : Bytes) (bodies uses : List ℕ) (working recovery : ℕ) : Type 0 where
   pub sound : aclFault (records acl) ≡ none
-  pub places : Bodies acl bodies
+  pub places : Offsets acl bodies
   pub uses-is : uses ≡ formOf (aclOf acl) .uses
   pub working-is : working ≡ formOf (aclOf acl) .working
   pub recovery-is : recovery ≡ formOf (aclOf acl) .recovery

@@ -196,14 +196,14 @@ fn judge_sets(
 {
     if admitting < 1 {
         return Chosen {
-            judged: Judged::Denied(Denial::Unadmitted),
+            judged: Judged::Denied(Denial::NotAdmitted),
             still: unspent,
         };
     }
     let both = admitting & certified;
     if both < 1 {
         return Chosen {
-            judged: Judged::Denied(Denial::Uncertified(lowest(admitting))),
+            judged: Judged::Denied(Denial::NotCertified(lowest(admitting))),
             still: unspent,
         };
     }
@@ -219,7 +219,7 @@ fn judge_sets(
     let k = first.place;
     if record_sizes::GROUPS <= k {
         return Chosen {
-            judged: Judged::Denied(Denial::Exhausted(lowest(both))),
+            judged: Judged::Denied(Denial::Spent(lowest(both))),
             still: first.still,
         };
     }
@@ -288,13 +288,13 @@ pub fn judge_record(
     let time = record_fields::be64(rec, 56);
     if time < loaded {
         return Chosen {
-            judged: Judged::Denied(Denial::Early),
+            judged: Judged::Denied(Denial::ClockBack),
             still: unspent,
         };
     }
     if time < last {
         return Chosen {
-            judged: Judged::Denied(Denial::Early),
+            judged: Judged::Denied(Denial::ClockBack),
             still: unspent,
         };
     }

@@ -15,7 +15,7 @@ use lib.Bits.{bitOr}
 use lib.Pow.{pow-mono}
 use Rattle.rules.specs.Sizes.{permissionsMax, setBits}
 use Rattle.rules.specs.Basics.{if_then_else_, Bytes, Every, any, bit, kind, number, setOf, same, recordsFrom}
-use Rattle.rules.specs.Acl.{Action, permissions, makeBlob, makeArchive, fileRuleNext, actionOf, actionsOf, Group, groupOf, groupsOf, aclOf}
+use Rattle.rules.specs.Acl.{Action, permissions, makeBlob, makeArchive, blobfileRuleNext, actionOf, actionsOf, Group, groupOf, groupsOf, aclOf}
 use Rattle.rules.specs.Grant.{admitsUse}
 use Rattle.rules.specs.Desk.{isArchive}
 use Rattle.rules.specs.Prepared.{isBlobAction, useSet, useSets, formOf}
@@ -159,7 +159,7 @@ module _ (acl : Bytes) (k : ℕ) (pos : 0 < k) (inside : k * 64 ≤ length acl) 
 
   -- the action of a record: whether a record of kind 15 follows makes no difference to a form
   abbrev action-here : Action
-  action-here = actionOf here (fileRuleNext (recordsFrom acl (k * 64)))
+  action-here = actionOf here (blobfileRuleNext (recordsFrom acl (k * 64)))
 
   actions-skip : (kind here ≡ 1 → ⊥) → passedOver (kind here) ≡ true → actionsFrom acl (k - 1) ≡ actionsFrom acl k
   unfolding actionsFrom actionsOf

@@ -14,7 +14,7 @@ use Rattle.rules.specs.Sizes.{groupsMax}
 use Rattle.rules.specs.Basics.{Bytes, Every, part, records, recordsFrom}
 use Rattle.rules.specs.Acl.{groupOf, groupsOf, aclOf}
 use Rattle.rules.proofs.Rows.{rows-start, rows-at, rows-end, kind-at}
-use Rattle.run_form.specs.Places.{bodiesFrom, Inside, BodyAt, Bodies}
+use Rattle.run_form.specs.Places.{offsetsFrom, Inside, OffsetAt, Offsets}
 
 -- Where filling stands: g groups are found, the others are those of the records from the byte `at` on.
 pub record Filling (acl : Bytes) (bodies : List ℕ) (g at : ℕ) : Type 0 where
@@ -22,7 +22,7 @@ pub record Filling (acl : Bytes) (bodies : List ℕ) (g at : ℕ) : Type 0 where
   pub few : length (aclOf acl) ≤ groupsMax
   pub inside : Inside acl bodies
   pub left : drop g (aclOf acl) ≡ groupsOf (recordsFrom acl at)
-  pub filled : (k : ℕ) → k < g → BodyAt acl k (getD bodies k 0)
+  pub filled : (k : ℕ) → k < g → OffsetAt acl k (getD bodies k 0)
 
 pub filling-start : (acl : Bytes) (bodies : List ℕ) → length bodies ≡ groupsMax → Inside acl bodies → length (aclOf acl) ≤ groupsMax → Filling acl bodies 0 0
 filling-start acl bodies n i f =
@@ -50,7 +50,7 @@ pub filling-sized : (bodies next : List ℕ) (g b : ℕ) → length bodies ≡ g
 filling-sized bodies next g b n e = ap length e ∙ length-set bodies g b ∙ n
 
 module _ (acl : Bytes) (bodies : List ℕ) (g at : ℕ) (f : Filling acl bodies g at) where
-  pub filling-done : length acl - at < 64 → Bodies acl bodies
+  pub filling-done : length acl - at < 64 → Offsets acl bodies
   unfolding groupsOf
   filling-done h =
       let e : drop g (aclOf acl) ≡ [] = f .left ∙ ap groupsOf (rows-end acl at h) in
@@ -83,7 +83,7 @@ module _ (acl : Bytes) (bodies : List ℕ) (g at : ℕ) (f : Filling acl bodies 
     pub filling-room : g < groupsMax
     filling-room = let a = found .0 in let b = f .few in omega arith
 
-    body-here : BodyAt acl g (at + 64)
+    body-here : OffsetAt acl g (at + 64)
     unfolding recordsFrom
     body-here = let m : at + 64 - 64 ≡ at = omega arith in record { after = omega arith; there = found .1 .0 ∙ ap (λ (n : ℕ). some (groupOf (part n 64 acl) (records (drop (at + 64) acl)))) (sym m) }
 
@@ -98,7 +98,7 @@ module _ (acl : Bytes) (bodies : List ℕ) (g at : ℕ) (f : Filling acl bodies 
           filled = λ k l. pick k l (eqb k g) refl;
         })
       where
-        pick : (k : ℕ) → k < g + 1 → (b : Bool) → eqb k g ≡ b → BodyAt acl k (getD (set bodies g (at + 64)) k 0)
+        pick : (k : ℕ) → k < g + 1 → (b : Bool) → eqb k g ≡ b → OffsetAt acl k (getD (set bodies g (at + 64)) k 0)
         pick k l true q =
             let i : k ≡ g = eqb-true k g q in
             rw (i, getD-set-same bodies g (at + 64) 0 (let a = filling-room in let b = f .sized in omega arith)) body-here
@@ -107,18 +107,18 @@ module _ (acl : Bytes) (bodies : List ℕ) (g at : ℕ) (f : Filling acl bodies 
             rw (getD-set-other bodies g k (at + 64) 0 n) (f .filled k (omega arith))
 
 -- The table as it is put: what is left of the records leads to the whole file's.
-pub put-start : (acl : Bytes) (bodies : List ℕ) → bodiesFrom bodies 0 0 (recordsFrom acl 0) ≡ bodiesFrom bodies 0 0 (records acl)
-put-start acl bodies = ap (bodiesFrom bodies 0 0) (rows-start acl)
+pub put-start : (acl : Bytes) (bodies : List ℕ) → offsetsFrom bodies 0 0 (recordsFrom acl 0) ≡ offsetsFrom bodies 0 0 (records acl)
+put-start acl bodies = ap (offsetsFrom bodies 0 0) (rows-start acl)
 
-module _ (acl : Bytes) (bodies whole : List ℕ) (g at : ℕ) (p : bodiesFrom bodies g at (recordsFrom acl at) ≡ whole) where
+module _ (acl : Bytes) (bodies whole : List ℕ) (g at : ℕ) (p : offsetsFrom bodies g at (recordsFrom acl at) ≡ whole) where
   pub put-done : length acl - at < 64 → bodies ≡ whole
-  unfolding bodiesFrom
-  put-done h = sym (ap (bodiesFrom bodies g at) (rows-end acl at h)) ∙ p
+  unfolding offsetsFrom
+  put-done h = sym (ap (offsetsFrom bodies g at) (rows-end acl at h)) ∙ p
 
-  pub put-skip : 64 ≤ length acl - at → (getD acl at 0 ≡ 1 → ⊥) → bodiesFrom bodies g (at + 64) (recordsFrom acl (at + 64)) ≡ whole
-  unfolding bodiesFrom
-  put-skip h n = sym (ap (bodiesFrom bodies g at) (rows-at acl at h) ∙ rw (kind-at acl at, ne-eqb (getD acl at 0) 1 n)) ∙ p
+  pub put-skip : 64 ≤ length acl - at → (getD acl at 0 ≡ 1 → ⊥) → offsetsFrom bodies g (at + 64) (recordsFrom acl (at + 64)) ≡ whole
+  unfolding offsetsFrom
+  put-skip h n = sym (ap (offsetsFrom bodies g at) (rows-at acl at h) ∙ rw (kind-at acl at, ne-eqb (getD acl at 0) 1 n)) ∙ p
 
-  pub put-next : (next : List ℕ) (n : ℕ) → 64 ≤ length acl - at → getD acl at 0 ≡ 1 → next ≡ set bodies g (at + 64) → n ≡ g + 1 → bodiesFrom next n (at + 64) (recordsFrom acl (at + 64)) ≡ whole
-  unfolding bodiesFrom
-  put-next next n h e a b = rw (a, b) (sym (ap (bodiesFrom bodies g at) (rows-at acl at h) ∙ rw (kind-at acl at, eq-eqb (getD acl at 0) 1 e)) ∙ p)
+  pub put-next : (next : List ℕ) (n : ℕ) → 64 ≤ length acl - at → getD acl at 0 ≡ 1 → next ≡ set bodies g (at + 64) → n ≡ g + 1 → offsetsFrom next n (at + 64) (recordsFrom acl (at + 64)) ≡ whole
+  unfolding offsetsFrom
+  put-next next n h e a b = rw (a, b) (sym (ap (offsetsFrom bodies g at) (rows-at acl at h) ∙ rw (kind-at acl at, eq-eqb (getD acl at 0) 1 e)) ∙ p)

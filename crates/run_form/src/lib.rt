@@ -10,7 +10,7 @@ ghost use Rattle.rules.specs.Acl.{aclOf};
 ghost use Rattle.rules.specs.Prepared.{formOf, unprepared, prepare, sameForm};
 ghost use Rattle.refusals.specs.Refusals.{refusalNumber};
 ghost use Rattle.run_form.specs.Forms.{formAs, preparationAs, preparationFor, doubled};
-ghost use Rattle.run_form.specs.Places.{bodiesFrom, Inside, Bodies};
+ghost use Rattle.run_form.specs.Places.{offsetsFrom, Inside, Offsets};
 use files::Checked;
 use refusals::Refusal;
 
@@ -155,7 +155,7 @@ pub fn prepare(acl: &[u8]) -> Preparation
 }
 
 // A place of the table, and the number of the next one.
-fn put_body(bodies: &mut [usize; record_sizes::GROUPS], g: usize, at: usize) -> usize
+fn put_offset(bodies: &mut [usize; record_sizes::GROUPS], g: usize, at: usize) -> usize
     requires { ⌜ (length (now bodies) ≡ groupsMax) × (g < groupsMax) ⌝ }
     ensures { λ r. ⌜ (now (bodies .exit) ≡ set (now (bodies .entry)) g at) × (r ≡ g + 1) ⌝ }
 {
@@ -164,9 +164,9 @@ fn put_body(bodies: &mut [usize; record_sizes::GROUPS], g: usize, at: usize) -> 
 }
 
 // The table of those places. Places past the last group stay.
-pub fn fill_bodies(bodies: &mut [usize; record_sizes::GROUPS], acl: &[u8])
+pub fn fill_offsets(bodies: &mut [usize; record_sizes::GROUPS], acl: &[u8])
     requires { ⌜ (length (now bodies) ≡ groupsMax) × Inside (now acl) (now bodies) × (length (aclOf (now acl)) ≤ groupsMax) ⌝ }
-    ensures { λ _. ⌜ Bodies (now (acl .entry)) (now (bodies .exit)) × (now (bodies .exit) ≡ bodiesFrom (now (bodies .entry)) 0 0 (records (now (acl .entry)))) ⌝ }
+    ensures { λ _. ⌜ Offsets (now (acl .entry)) (now (bodies .exit)) × (now (bodies .exit) ≡ offsetsFrom (now (bodies .entry)) 0 0 (records (now (acl .entry)))) ⌝ }
 {
     let mut g = 0;
     let mut at = 0;
@@ -175,7 +175,7 @@ pub fn fill_bodies(bodies: &mut [usize; record_sizes::GROUPS], acl: &[u8])
             at += record_sizes::RECORD;
             continue;
         }
-        g = put_body(bodies, g, at + record_sizes::RECORD);
+        g = put_offset(bodies, g, at + record_sizes::RECORD);
         at += record_sizes::RECORD;
     }
 }

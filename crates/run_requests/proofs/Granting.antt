@@ -15,7 +15,7 @@ use Rattle.rules.specs.Sizes.{fullCount, groupsMax, setBits}
 use Rattle.rules.specs.Numbers.{malformed, noGroup}
 use Rattle.rules.specs.Basics.{if_then_else_, Bytes, Every, kind, flag, number, records, holdsAt}
 use Rattle.rules.specs.Layout.{useLaidOut}
-use Rattle.rules.specs.Acl.{Limit, limitsOf, Group, announcesFile, aclOf}
+use Rattle.rules.specs.Acl.{Limit, limitsOf, Group, announcesBlobfile, aclOf}
 use Rattle.rules.specs.Request.{wantedOf, requestLaidOut, standsAlone, requestRecordFault}
 use Rattle.rules.specs.Ledger.{Ledger, raised, raisedBy, charge}
 use Rattle.rules.specs.Grant.{limitsLeft, unspent}
@@ -31,11 +31,11 @@ use Rattle.gate_charge.specs.Charges.{Chargeable}
 use Rattle.gate_charge.proofs.Granting.{limits-room}
 use Rattle.gate_decision.specs.declared.Judged.{Judged}
 use Rattle.gate_decision.specs.declared.Judged.the-variants.{Granted, Denied}
-use Rattle.refusals.specs.declared.Denial.the-variants.{Early}
+use Rattle.refusals.specs.declared.Denial.the-variants.{ClockBack}
 use Rattle.gate_decision.specs.Standings.{denialFor, judgedFor, ledgerOfTables}
 use Rattle.run_decision.specs.Deciding.{Ready, admittingSet, setJudge, askSets}
 use Rattle.run_decision.proofs.Deciding.{place-group, ready-few}
-use Rattle.run_requests.specs.Answers.{grantedPlace, judgedNumber, placeOr, deniedGroup, shownGroup, IsOutcome}
+use Rattle.run_requests.specs.Answers.{grantedIndex, judgedNumber, placeOr, deniedGroup, shownGroup, IsOutcome}
 
 -- what a walk finds passes
 first-true : (test : ℕ → Bool) (w n : ℕ) → firstIn test w n < w → test (firstIn test w n) ≡ true
@@ -135,7 +135,7 @@ module _ (l : Ledger) (km0 : Bytes) (gs : List Group) (c : ℕ) (r : Bytes) (fit
 
       pick : (b : Bool) → tooEarly l (requestWith r []) ≡ b
           → (g : Group) × (setJudge l km0 gs c r ≡ granted k g) × (getElem? gs k ≡ some g) × (unspent l k (requestWith r []) g ≡ true)
-      pick true q = let n : Granted k ≡ Denied Early = rw q at e in absurd (none-granted k early n)
+      pick true q = let n : Granted k ≡ Denied ClockBack = rw q at e in absurd (none-granted k early n)
       pick false q = rw q (found (placed gs (trailingZeros setBits both)) (placed gs (trailingZeros setBits (admittingSet km0 (wantedOf r none) gs))) (getElem? gs f) refl (rw q at e))
 
 -- every element, and one of them
@@ -153,7 +153,7 @@ module _ (counts counters : List ℕ) (loaded last : ℕ) (km0 acl : Bytes) (bod
   fits = let h = ready-few acl bodies uses working recovery ready in omega arith
 
   -- the code's answer is of a group that grants
-  granting : (j : Judged) (k : ℕ) → j ≡ judgedFor (setJudge tables km0 (aclOf acl) c r) → k ≡ grantedPlace j → k < groupsMax → Granted k ≡ judgedFor (setJudge tables km0 (aclOf acl) c r)
+  granting : (j : Judged) (k : ℕ) → j ≡ judgedFor (setJudge tables km0 (aclOf acl) c r) → k ≡ grantedIndex j → k < groupsMax → Granted k ≡ judgedFor (setJudge tables km0 (aclOf acl) c r)
   granting (Granted i) k e p h = ap Granted p ∙ e
   granting (Denied d) k e p h = absurd (omega arith)
 
@@ -164,7 +164,7 @@ module _ (counts counters : List ℕ) (loaded last : ℕ) (km0 acl : Bytes) (bod
       let b = ready-few acl bodies uses working recovery ready in
       omega arith
 
-  module _ (j : Judged) (k : ℕ) (told : j ≡ judgedFor (setJudge tables km0 (aclOf acl) c r)) (place-is : k ≡ grantedPlace j) (below : k < groupsMax) where
+  module _ (j : Judged) (k : ℕ) (told : j ≡ judgedFor (setJudge tables km0 (aclOf acl) c r)) (place-is : k ≡ grantedIndex j) (below : k < groupsMax) where
     e : Granted k ≡ judgedFor (setJudge tables km0 (aclOf acl) c r)
     e = granting j k told place-is below
 
@@ -194,7 +194,7 @@ module _ (counts counters : List ℕ) (loaded last : ℕ) (km0 acl : Bytes) (bod
         rw (laid-out, g .1, a, m, x, y, z, s) (record { ledger = refl; answer = refl })
 
   pub answered-denied : (j : Judged) (laid : Bool) (k m i n place after : ℕ) → j ≡ judgedFor (setJudge tables km0 (aclOf acl) c r) → laid ≡ standsAlone r → not laid ≡ false
-      → k ≡ grantedPlace j → groupsMax ≤ k → m ≡ judgedNumber j → i ≡ deniedGroup j → n ≡ m → place ≡ shownGroup i → after ≡ last
+      → k ≡ grantedIndex j → groupsMax ≤ k → m ≡ judgedNumber j → i ≡ deniedGroup j → n ≡ m → place ≡ shownGroup i → after ≡ last
       → IsOutcome (askSets km0 (aclOf acl) c tables r) counts counters loaded n place after
   unfolding askSets requestRecordFault bytesOfAnswer shownGroup
   answered-denied j laid k m i n place after e t h a past w v x y z =
@@ -223,7 +223,7 @@ module _ (counts counters : List ℕ) (loaded last : ℕ) (km0 acl : Bytes) (bod
       pick (granted p g) d u q f =
           let s : Granted p ≡ judgedFor (setJudge tables km0 (aclOf acl) c r) = sym (ap judgedFor d) in
           let b = granted-below p s in
-          let i : k ≡ p = a ∙ ap grantedPlace (e ∙ sym s) in
+          let i : k ≡ p = a ∙ ap grantedIndex (e ∙ sym s) in
           absurd (omega arith)
       pick (denied d) w u q f = rw (q ∙ number-same d, f ∙ near-same d u) (record { ledger = refl; answer = refl })
 
@@ -241,7 +241,7 @@ use-alone r laid announced e p q = rw (p, q, eq-eqb (kind r) 6 e)
 
 pub is-laid-out : (r : Bytes) (laid : Bool) → laid ≡ standsAlone r → not laid ≡ false → requestLaidOut r ≡ true
 unfolding standsAlone
-is-laid-out r laid t h = and-left (requestLaidOut r) (not (announcesFile r)) (sym t ∙ not-false laid h)
+is-laid-out r laid t h = and-left (requestLaidOut r) (not (announcesBlobfile r)) (sym t ∙ not-false laid h)
 
 -- a group as an answer shows it
 pub shown-below : (k : ℕ) → k < groupsMax → k ≡ shownGroup k

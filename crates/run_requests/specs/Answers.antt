@@ -15,9 +15,9 @@ use Rattle.gate_decision.specs.declared.Judged.the-variants.{Granted, Denied}
 use Rattle.gate_decision.specs.Standings.{ledgerOfTables}
 
 -- the group that grants, by the code's answer; past the last place where none does
-abbrev pub grantedPlace : Judged → ℕ
-grantedPlace (Granted k) = k
-grantedPlace (Denied d) = groupsMax
+abbrev pub grantedIndex : Judged → ℕ
+grantedIndex (Granted k) = k
+grantedIndex (Denied d) = groupsMax
 
 -- the number of a judgement; a group that grants has none
 abbrev pub judgedNumber : Judged → ℕ

@@ -20,7 +20,7 @@ ghost use Rattle.run_decision.specs.Members.{leftAt};
 ghost use Rattle.run_decision.specs.Opening.{OpenFrom, Closes, OpenAt};
 ghost use Rattle.refusals.specs.Refusals.{denialGroup};
 ghost use Rattle.gate_charge.specs.Charges.{Chargeable};
-ghost use Rattle.run_requests.specs.Answers.{grantedPlace, judgedNumber, placeOr, deniedGroup, shownGroup, IsOutcome};
+ghost use Rattle.run_requests.specs.Answers.{grantedIndex, judgedNumber, placeOr, deniedGroup, shownGroup, IsOutcome};
 use gate_decision::Judged;
 use refusals::Denial;
 use refusals::Refusal;
@@ -63,7 +63,7 @@ struct Turn {
 
 // The group that grants; past the last place where none does.
 fn group_of(judged: Judged) -> usize
-    ensures { λ r. ⌜ r ≡ grantedPlace judged ⌝ }
+    ensures { λ r. ⌜ r ≡ grantedIndex judged ⌝ }
 {
     match judged {
         Judged::Granted(k) => k,
@@ -86,10 +86,10 @@ fn denial_near(denial: Denial) -> usize
     ensures { λ r. ⌜ r ≡ placeOr (denialGroup denial) ⌝ }
 {
     match denial {
-        Denial::Early => record_sizes::GROUPS,
-        Denial::Unadmitted => record_sizes::GROUPS,
-        Denial::Uncertified(k) => k,
-        Denial::Exhausted(k) => k,
+        Denial::ClockBack => record_sizes::GROUPS,
+        Denial::NotAdmitted => record_sizes::GROUPS,
+        Denial::NotCertified(k) => k,
+        Denial::Spent(k) => k,
     }
 }
 

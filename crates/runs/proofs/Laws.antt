@@ -21,10 +21,10 @@ use Rattle.run_requests.specs.Written.{Running, overAt, writing}
 use Rattle.run_requests.proofs.Loop.{writing-is}
 use Rattle.rules.proofs.AclSizes.{acl-fits}
 use Rattle.rules.proofs.Forms.{same-form}
-use Rattle.run_form.specs.Places.{Inside, Bodies}
+use Rattle.run_form.specs.Places.{Inside, Offsets}
 use Rattle.gate_decision.specs.Standings.{ledgerOfTables}
 use Rattle.run_decision.specs.Deciding.{Ready, askSets}
-use Rattle.run_certificates.specs.declared.Seen.{Seen}
+use Rattle.run_certificates.specs.declared.RowSummary.{RowSummary}
 use Rattle.runs.specs.Judged.{runRefused, seenFault, Known, askedBySets, runSeen, preparedSeen}
 
 -- the number of records of a file
@@ -103,7 +103,7 @@ module _ (acl : Bytes) (form : Form) (requests : Bytes) (room : ℕ) (known : Kn
   pub known-roomy : length requests / 64 * 8 ≤ room
   known-roomy = known .roomy
 
-  pub known-ready : (bodies uses : List ℕ) (working recovery : ℕ) → Bodies acl bodies → uses ≡ form .uses → working ≡ form .working → recovery ≡ form .recovery → Ready acl bodies uses working recovery
+  pub known-ready : (bodies uses : List ℕ) (working recovery : ℕ) → Offsets acl bodies → uses ≡ form .uses → working ≡ form .working → recovery ≡ form .recovery → Ready acl bodies uses working recovery
   known-ready bodies uses working recovery b x y z =
       record {
         sound = known .sound;
@@ -134,7 +134,7 @@ ran-is km0 acl form requests buffer after counts counters counts′ counters′ 
     rw (y, u, e ∙ sym i)
 
 -- request j
-module _ (l : Ledger) (km0 acl : Bytes) (s : Seen) (requests buffer : Bytes) where
+module _ (l : Ledger) (km0 acl : Bytes) (s : RowSummary) (requests buffer : Bytes) where
   pub refused-run : (n : ℕ) → seenFault runRecords km0 acl (s .count) (s .named) requests (length buffer) ≡ some n → runRefused l n buffer ≡ runSeen l km0 acl s requests buffer
   unfolding runSeen
   refused-run n e = sym (rw e)
@@ -148,7 +148,7 @@ module _ (l : Ledger) (km0 acl : Bytes) (s : Seen) (requests buffer : Bytes) whe
     made-run o d = d ∙ sym (rw p)
 
 -- request k
-module _ (l : Ledger) (km0 acl : Bytes) (s : Seen) (form : Form) (requests buffer : Bytes) where
+module _ (l : Ledger) (km0 acl : Bytes) (s : RowSummary) (form : Form) (requests buffer : Bytes) where
   pub refused-prepared : (n : ℕ) → seenFault preparedRecords km0 acl (s .count) (s .named) requests (length buffer) ≡ some n
       → runRefused l n buffer ≡ preparedSeen l km0 acl s form requests buffer
   unfolding preparedSeen firstFault

@@ -24,7 +24,7 @@ use Rattle.rules.proofs.Sets.{set-alike}
 use Rattle.run_decision.proofs.GroupSets.{sets-judge}
 use Rattle.rules.proofs.Asking.{Sound, ask-gate, run-sound, asked-alike}
 use Rattle.rules.proofs.AclSizes.{acl-fits}
-use Rattle.run_certificates.specs.declared.Seen.{Seen}
+use Rattle.run_certificates.specs.declared.RowSummary.{RowSummary}
 use Rattle.run_certificates.specs.Rows.{certifiedIn, certifiedSet, readableOf, Saw}
 use Rattle.run_decision.specs.Deciding.{admittingSet, setJudge, askSets}
 use Rattle.runs.specs.Judged.{seenFault, runSeen, preparedSeen}
@@ -53,24 +53,24 @@ judge-alike km0 gs row fit l r =
     rw (sets-judge l km0 gs (requestWith r row) fit, c)
 
 -- what is known of the row where the run is not refused whole: the set that was read is that of all groups
-seen-set : (km0 acl : Bytes) (row : List Certificate) (s : Seen) → Saw s acl row → Sound km0 acl row → s .certified ≡ certifiedSet row (aclOf acl)
+seen-set : (km0 acl : Bytes) (row : List Certificate) (s : RowSummary) → Saw s acl row → Sound km0 acl row → s .certified ≡ certifiedSet row (aclOf acl)
 unfolding readableOf
 seen-set km0 acl row s w sound =
     let t : (fits aclRecords acl && leb (length row) certificatesMax) ≡ true = rw (sound .aclLength) (le-leb (length row) certificatesMax (sound .few)) in
     let whole : readableOf acl (length row) ≡ acl = rw t in
     w .certified-is ∙ ap (λ (z : Bytes). certifiedSet row (take setBits (aclOf z))) whole ∙ ap (certifiedSet row) (take-all setBits (aclOf acl) (acl-fits acl (sound .aclSound) .groups))
 
-ask-sets : (km0 acl : Bytes) (row : List Certificate) (s : Seen) → Saw s acl row → Sound km0 acl row → (l : Ledger) (r : Bytes) → length r ≡ recordBytes → askSets km0 (aclOf acl) (s .certified) l r ≡ askGate km0 acl row l r
+ask-sets : (km0 acl : Bytes) (row : List Certificate) (s : RowSummary) → Saw s acl row → Sound km0 acl row → (l : Ledger) (r : Bytes) → length r ≡ recordBytes → askSets km0 (aclOf acl) (s .certified) l r ≡ askGate km0 acl row l r
 unfolding askSets
 ask-sets km0 acl row s w sound l r n =
     rw (seen-set km0 acl row s w sound, judge-alike km0 (aclOf acl) row (acl-fits acl (sound .aclSound) .groups) l r) (sym (ask-gate km0 acl row sound l r n))
 
 -- the refusals of a run as a whole
-seen-fault : (most : ℕ) (km0 acl : Bytes) (row : List Certificate) (s : Seen) (requests buffer : Bytes) → Saw s acl row → seenFault most km0 acl (s .count) (s .named) requests (length buffer) ≡ runFault most km0 acl row requests buffer
+seen-fault : (most : ℕ) (km0 acl : Bytes) (row : List Certificate) (s : RowSummary) (requests buffer : Bytes) → Saw s acl row → seenFault most km0 acl (s .count) (s .named) requests (length buffer) ≡ runFault most km0 acl row requests buffer
 unfolding seenFault runFault
 seen-fault most km0 acl row s requests buffer w = rw (w .count-is, w .named-is)
 
-pub run-seen : (l : Ledger) (km0 acl : Bytes) (row : List Certificate) (s : Seen) (requests buffer : Bytes) → Saw s acl row → runSeen l km0 acl s requests buffer ≡ run l km0 acl row requests buffer
+pub run-seen : (l : Ledger) (km0 acl : Bytes) (row : List Certificate) (s : RowSummary) (requests buffer : Bytes) → Saw s acl row → runSeen l km0 acl s requests buffer ≡ run l km0 acl row requests buffer
 unfolding runSeen run
 run-seen l km0 acl row s requests buffer w = rw (seen-fault runRecords km0 acl row s requests buffer w) (pick (runFault runRecords km0 acl row requests buffer) refl)
   where
@@ -80,7 +80,7 @@ run-seen l km0 acl row s requests buffer w = rw (seen-fault runRecords km0 acl r
     pick none e = let sound = run-sound runRecords km0 acl row requests buffer (w .decoded) e .0 in rw (asked-alike (askSets km0 (aclOf acl) (s .certified)) (askGate km0 acl row) l (records requests) (records-sized requests) (ask-sets km0 acl row s w sound))
 
 -- ---- on a prepared ACL
-pub prepared-seen : (l : Ledger) (km0 acl : Bytes) (row : List Certificate) (s : Seen) (f : Form) (requests buffer : Bytes) → Saw s acl row
+pub prepared-seen : (l : Ledger) (km0 acl : Bytes) (row : List Certificate) (s : RowSummary) (f : Form) (requests buffer : Bytes) → Saw s acl row
     → preparedSeen l km0 acl s f requests buffer ≡ preparedRun l km0 acl row f requests buffer
 unfolding preparedSeen preparedFault preparedRun
 prepared-seen l km0 acl row s f requests buffer w =

@@ -17,7 +17,7 @@ use Rattle.rules.specs.Prepared.{Form, formOf, sameForm}
 use Rattle.refusals.specs.Refusals.{refusalNumber}
 use Rattle.gate.specs.Outcomes.{ledgerAs}
 use Rattle.run_decision.specs.Deciding.{askSets}
-use Rattle.run_certificates.specs.declared.Seen.{Seen}
+use Rattle.run_certificates.specs.declared.RowSummary.{RowSummary}
 use Rattle.runs.specs.declared.RunReply.{RunReply}
 use Rattle.runs.specs.declared.RunReply.the-variants.{Ran, Refused}
 use Rattle.runs.specs.declared.RunOutcome.{RunOutcome}
@@ -47,16 +47,16 @@ seenFault most km0 acl count named requests room =
     ∷ [])
 
 -- its requests, one after the other
-abbrev pub askedBySets : Bytes → Bytes → Seen → Ledger → Bytes → rules.Ran
+abbrev pub askedBySets : Bytes → Bytes → RowSummary → Ledger → Bytes → rules.Ran
 askedBySets km0 acl seen l requests = rules.askedInOrder (askSets km0 (aclOf acl) (seen .certified)) l (records requests)
 
 -- a run
-unfoldable pub runSeen : Ledger → Bytes → Bytes → Seen → Bytes → Bytes → rules.RunOutcome
+unfoldable pub runSeen : Ledger → Bytes → Bytes → RowSummary → Bytes → Bytes → rules.RunOutcome
 runSeen l km0 acl seen requests buffer =
     rules.runEnd l requests buffer (seenFault runRecords km0 acl (seen .count) (seen .named) requests (length buffer)) (askedBySets km0 acl seen l requests)
 
 -- a run on a prepared ACL: "14" after the others
-unfoldable pub preparedSeen : Ledger → Bytes → Bytes → Seen → Form → Bytes → Bytes → rules.RunOutcome
+unfoldable pub preparedSeen : Ledger → Bytes → Bytes → RowSummary → Form → Bytes → Bytes → rules.RunOutcome
 preparedSeen l km0 acl seen form requests buffer =
     rules.runEnd l requests buffer
     (firstFault (seenFault preparedRecords km0 acl (seen .count) (seen .named) requests (length buffer) ∷ unless (sameForm form (formOf (aclOf acl))) otherForm ∷ []))

@@ -22,7 +22,7 @@ use files::Checked;
 use gate::Ledger;
 use refusals::Refusal;
 use run_certificates::Certificate;
-use run_certificates::Seen;
+use run_certificates::RowSummary;
 use run_decision::Sets;
 use run_form::Prepared;
 
@@ -63,7 +63,7 @@ fn run_known(
     ensures { λ r. ⌜ runOutcomeAs r (now (answers .exit)) ≡ runEnd (ledgerAs ledger) (now (requests .entry)) (now (answers .entry)) none (askedInOrder (askSets (now (km0 .entry)) (aclOf (now (acl .entry))) certified) (ledgerAs ledger) (records (now (requests .entry)))) ⌝ }
 {
     let mut bodies = [0usize; Ledger::GROUPS];
-    run_form::fill_bodies(&mut bodies, acl);
+    run_form::fill_offsets(&mut bodies, acl);
     let mut counts = ledger.counts;
     let uses = form.uses;
     let loaded = ledger.loaded;
@@ -148,7 +148,7 @@ fn run_made(
     ledger: Ledger,
     km0: &[u8],
     acl: &[u8],
-    seen: Seen,
+    seen: RowSummary,
     requests: &[u8],
     answers: &mut [u8],
 ) -> RunOutcome
@@ -164,7 +164,7 @@ fn run_passed(
     ledger: Ledger,
     km0: &[u8],
     acl: &[u8],
-    seen: Seen,
+    seen: RowSummary,
     form: Prepared,
     requests: &[u8],
     answers: &mut [u8],
@@ -183,7 +183,7 @@ pub fn run_judged(
     ledger: Ledger,
     km0: &[u8],
     acl: &[u8],
-    seen: Seen,
+    seen: RowSummary,
     requests: &[u8],
     answers: &mut [u8],
 ) -> RunOutcome
@@ -209,7 +209,7 @@ pub fn prepared_judged(
     ledger: Ledger,
     km0: &[u8],
     acl: &[u8],
-    seen: Seen,
+    seen: RowSummary,
     form: Prepared,
     requests: &[u8],
     answers: &mut [u8],

@@ -10,7 +10,7 @@ use lib.Seq.{take-all}
 use borrow.Author.Tests.{le-leb, lt-leb, not-true, not-false}
 use Rattle.rules.specs.Sizes.{recordBytes}
 use Rattle.rules.specs.Basics.{Bytes, Every, same, present, unless, orNext, scan, records}
-use Rattle.rules.specs.Acl.{AclPlace, afterRecord, aclRecordFault, aclEnd}
+use Rattle.rules.specs.Acl.{AclState, afterRecord, aclRecordFault, aclEnd}
 use Rattle.rules.proofs.Laws.{never}
 use Rattle.rules.proofs.Rows.{first, no-rows}
 use Rattle.refusals.specs.Refusals.{refusalNumber}
@@ -54,7 +54,7 @@ unfolding asWritten
 good-written f line rec w d er e = e ∙ ap (λ (x : Bytes). same (lineOf x) line) er ∙ ap (λ (g : Checked). goodWith (faultAs g) line) (sym d)
 
 -- A record by itself, as the reader of ACLs reads it from a place: its fault, and the place after it.
-module _ (s : AclPlace) (rec : Bytes) (h : length rec ≡ 64) where
+module _ (s : AclState) (rec : Bytes) (h : length rec ≡ 64) where
   record-read : reading s (records rec) ≡ readPast (aclRecordFault s rec) (on (afterRecord s rec))
   unfolding reading
   record-read =
@@ -62,19 +62,19 @@ module _ (s : AclPlace) (rec : Bytes) (h : length rec ≡ 64) where
       let e : records rec ≡ rec ∷ [] = first rec (omega arith) ∙ rw (take-all 64 rec (omega arith), d) in
       ap (reading s) e
 
-found-fault : (q t : AclPlace) (f : Checked) (x : Option ℕ) → checkedAs q f ≡ readPast x (on t) → faultAs f ≡ x
+found-fault : (q t : AclState) (f : Checked) (x : Option ℕ) → checkedAs q f ≡ readPast x (on t) → faultAs f ≡ x
 found-fault q t code.Sound none e = refl
 found-fault q t code.Sound (some n) e = absurd (never (cc))
 found-fault q t (code.Refused r) none e = absurd (never (cc))
 found-fault q t (code.Refused r) (some n) e = let d : refusalNumber r ≡ n = cc in ap some d
 
-found-place : (q t : AclPlace) (f : Checked) (x : Option ℕ) (line : Bytes) → checkedAs q f ≡ readPast x (on t) → goodWith (faultAs f) line ≡ true → q ≡ t
+found-place : (q t : AclState) (f : Checked) (x : Option ℕ) (line : Bytes) → checkedAs q f ≡ readPast x (on t) → goodWith (faultAs f) line ≡ true → q ≡ t
 found-place q t code.Sound none line e g = cc
 found-place q t code.Sound (some n) line e g = absurd (never (cc))
 found-place q t (code.Refused r) x line e g = absurd (false≢true g)
 
 -- a good line, and the place after it, by what the code answered
-module _ (s q : AclPlace) (f : Checked) (line rec : Bytes) (b : Bool) (er : rec ≡ decoded line) (h : length rec ≡ 64) (e : checkedAs q f ≡ reading s (records rec)) (eb : b ≡ goodWith (faultAs f) line) where
+module _ (s q : AclState) (f : Checked) (line rec : Bytes) (b : Bool) (er : rec ≡ decoded line) (h : length rec ≡ 64) (e : checkedAs q f ≡ reading s (records rec)) (eb : b ≡ goodWith (faultAs f) line) where
   pub good-is : b ≡ goodLine s line
   unfolding goodIn
   good-is = eb ∙ ap (λ (x : Option ℕ). goodWith x line) (found-fault q (afterRecord s rec) f (aclRecordFault s rec) (e ∙ record-read s rec h) ∙ ap (aclRecordFault s) er)
@@ -152,10 +152,10 @@ module _ {S : Type 0} (k : FileKind S) where
         rw (← f) (ap Count e)
 
 -- the end of an ACL: kind 15 is due there or not
-pub end-due : (s : AclPlace) → s .fileDue ≡ true → present (aclEnd s) ≡ true
+pub end-due : (s : AclState) → s .fileDue ≡ true → present (aclEnd s) ≡ true
 end-due s d = rw d
 
-pub end-sound : (s : AclPlace) → s .fileDue ≡ false → present (aclEnd s) ≡ false
+pub end-sound : (s : AclState) → s .fileDue ≡ false → present (aclEnd s) ≡ false
 end-sound s d = rw d
 
 -- The second pass: the records of the lines from a place on.

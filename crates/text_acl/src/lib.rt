@@ -12,7 +12,7 @@ ghost use Rattle.text_rules.specs.Kinds.{kindFault, aclKind};
 ghost use Rattle.text_rules.specs.Listing.{linesOf, listingFault, listedBytes, writeListing, readListingInto};
 ghost use Rattle.text_bytes.specs.Putting.{Put};
 ghost use Rattle.text_acl.specs.Answers.{IsListed, goodWith, linesFound};
-use acl_reader::Place;
+use acl_reader::State;
 use files::Checked;
 use refusals::Refusal;
 
@@ -140,7 +140,7 @@ fn is_good(found: Checked, rec: [u8; record_sizes::RECORD], line: &[u8]) -> bool
 fn judge_lines(text: &[u8]) -> Lines
     ensures { λ r. ⌜ r ≡ linesFound aclKind (now (text .entry)) ⌝ }
 {
-    let mut place = Place::start();
+    let mut place = State::start();
     let mut at = 0;
     let mut line = 1;
     while at < text.len() {

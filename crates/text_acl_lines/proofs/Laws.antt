@@ -12,7 +12,7 @@ use borrow.Author.Tests.{eq-eqb, ne-eqb}
 use Rattle.rules.specs.Sizes.{hashBytes}
 use Rattle.rules.specs.Basics.{Bytes, ascii, byte, number, part, kind, bit, flag}
 use Rattle.rules.specs.Day.{decimal}
-use Rattle.text_rules.specs.Words.{hex, spaced, wordText, wordsText, groupWords, limitWords, permissionNames, permissionWords, blobWords, archiveWords, fileWords, lineOf}
+use Rattle.text_rules.specs.Words.{hex, spaced, wordText, wordsText, groupWords, limitWords, permissionNames, permissionWords, blobWords, archiveWords, blobfileWords, lineOf}
 use Rattle.text_bytes.specs.Putting.{Held, textIf}
 use Rattle.text_bytes.specs.Names.{wordsOf, namesText}
 use Rattle.text_bytes.proofs.Permissions.{permissionRow, row-names}
@@ -48,7 +48,7 @@ blob-text r f g e d = rw (e, d) (ap (λ (l : Bytes). ascii "MakeBlob" ++ l) (sim
 
 pub file-text : (r : Bytes) (f g : Bool) (n : ℕ) → f ≡ flag 0 r → g ≡ flag 1 r → n ≡ number 4 4 r
     → ascii "blobfile" ++ (textIf f (ascii " devices ") (decimal n) ++ (textIf g (ascii " template ") (hex (part 8 hashBytes r)) ++ ascii "\n"))
-    ≡ ascii "blobfile" ++ wordsText (fileWords r)
+    ≡ ascii "blobfile" ++ wordsText (blobfileWords r)
 unfolding ascii textIf wordText wordsText
 file-text r f g n e d k = rw (e, d, k)
 
@@ -126,6 +126,6 @@ module _ (r : Bytes) (old new : Bytes) (n : ℕ) where
           unfolding lineOf
           line-5 last e f p = rw (ne-eqb (kind r) 1 n1, ne-eqb (kind r) 2 n2, ne-eqb (kind r) 3 n3, ne-eqb (kind r) 4 n4, eq-eqb (kind r) 5 e) (rw (archive-text r last f) at p)
 
-          pub line-15 : (kind r ≡ 5 → ⊥) → Held 256 (ascii "blobfile" ++ wordsText (fileWords r)) 0 old new n → Held 256 (lineOf r) 0 old new n
+          pub line-15 : (kind r ≡ 5 → ⊥) → Held 256 (ascii "blobfile" ++ wordsText (blobfileWords r)) 0 old new n → Held 256 (lineOf r) 0 old new n
           unfolding lineOf
           line-15 n5 p = rw (ne-eqb (kind r) 1 n1, ne-eqb (kind r) 2 n2, ne-eqb (kind r) 3 n3, ne-eqb (kind r) 4 n4, ne-eqb (kind r) 5 n5) p

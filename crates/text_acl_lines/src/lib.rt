@@ -5,7 +5,7 @@ ghost use Prim.Native.Nat.{_+_, _≤_};
 ghost use lib.ListN.{length};
 ghost use Rattle.rules.specs.Sizes.{recordBytes};
 ghost use Rattle.rules.specs.Basics.{ascii, number};
-ghost use Rattle.text_rules.specs.Words.{wordsText, limitWords, permissionNames, permissionWords, blobWords, fileWords, lineOf};
+ghost use Rattle.text_rules.specs.Words.{wordsText, limitWords, permissionNames, permissionWords, blobWords, blobfileWords, lineOf};
 ghost use Rattle.text_bytes.specs.Putting.{Held, textIf};
 ghost use Rattle.text_acl_lines.specs.Parts.{keyedLine, keyText, tokenText};
 
@@ -138,7 +138,7 @@ fn blob_line(rec: &[u8], line: &mut [u8]) -> usize
 // The line of a blob file record: its devices and its template, each by its flag.
 fn file_line(rec: &[u8], line: &mut [u8]) -> usize
     requires { ⌜ (length (now rec) ≡ recordBytes) × (256 ≤ length (now line)) ⌝ }
-    ensures { λ r. ⌜ Held 256 (ascii "blobfile" ++ wordsText (fileWords (now (rec .entry)))) 0 (now (line .entry)) (now (line .exit)) r ⌝ }
+    ensures { λ r. ⌜ Held 256 (ascii "blobfile" ++ wordsText (blobfileWords (now (rec .entry)))) 0 (now (line .entry)) (now (line .exit)) r ⌝ }
 {
     let devices = record_fields::be32(rec, 4);
     let begun = text_bytes::append(b"blobfile", 0, line);

@@ -12,7 +12,7 @@ use lib.Pow.{pow-pos}
 use borrow.Author.Tests.{eq-eqb, ne-eqb}
 use Rattle.rules.specs.Sizes.{hashBytes}
 use Rattle.rules.specs.Basics.{if_then_else_, Bytes, ascii}
-use Rattle.text_rules.specs.Decoding.{stands, hasWord, afterWord, afterHash, afterNumber, hashAfter, numberAfter, bytesOf, ofBits, headed, sortOf, groupFrom, limitFrom, namesFrom, permissionsFrom, blobFrom, archiveFrom, fileFrom, begins, past, decoded}
+use Rattle.text_rules.specs.Decoding.{stands, hasWord, afterWord, afterHash, afterNumber, hashAfter, numberAfter, bytesOf, ofBits, headed, sortOf, groupFrom, limitFrom, namesFrom, permissionsFrom, blobFrom, archiveFrom, blobfileFrom, begins, past, decoded}
 use Rattle.text_rules.specs.Words.{spaced, permissionNames}
 use Rattle.text_bytes.specs.Putting.{put, Put}
 use Rattle.text_bytes.specs.Names.{wordsOf, NameEnds}
@@ -280,8 +280,8 @@ blob-put line from at k l old b1 b2 b3 new done r p q z h =
 
 -- blobfile: the device mask and the template's hash
 file-whole : (t : Bytes) → (15 ∷ 0 ∷ bytesOf 2 (ofBits (hasWord "devices" t ∷ hasWord "template" (afterNumber "devices" t) ∷ [])))
-    ++ (bytesOf 4 (numberAfter "devices" t) ++ (hashAfter "template" (afterNumber "devices" t) ++ replicate 36 0)) ≡ fileFrom t
-unfolding fileFrom headed flatten
+    ++ (bytesOf 4 (numberAfter "devices" t) ++ (hashAfter "template" (afterNumber "devices" t) ++ replicate 36 0)) ≡ blobfileFrom t
+unfolding blobfileFrom headed flatten
 file-whole t = simp append-nil
 
 pub file-put : (line : Bytes) (from at : ℕ) (k l : Cursor) (far more : ℕ) (u old b1 b2 b3 new : Bytes) (done r : ℕ)
@@ -291,7 +291,7 @@ pub file-put : (line : Bytes) (from at : ℕ) (k l : Cursor) (far more : ℕ) (u
     → Field hashBytes (hashAfter "template" (drop (k .at) line)) (k .end) b1 b2 (l .end)
     → Put (replicate 36 0) (l .end) b2 b3 done
     → Field 4 (15 ∷ 0 ∷ bytesOf 2 (l .flags)) at b3 new r
-    → Put (fileFrom (drop from line)) at old new done
+    → Put (blobfileFrom (drop from line)) at old new done
 unfolding ofBits
 file-put line from at k l far more u old b1 b2 b3 new done r t1 f1 t2 f2 z h =
     let t : Bytes = drop from line in
@@ -345,6 +345,6 @@ module _ (line old new : Bytes) (at r : ℕ) (b1 : Bool) (e1 : b1 ≡ begins "gr
           unfolding decoded
           decoded-5 y p = rw (sym e1 ∙ n1, sym e2 ∙ n2, sym e3 ∙ n3, sym e4 ∙ n4, sym e5 ∙ y) (put-as (archive-bytes (past "MakeArchiveBlob" line)) p)
 
-          pub decoded-15 : b5 ≡ false → Put (fileFrom (past "blobfile" line)) at old new r → Put (decoded line) at old new r
+          pub decoded-15 : b5 ≡ false → Put (blobfileFrom (past "blobfile" line)) at old new r → Put (decoded line) at old new r
           unfolding decoded
           decoded-15 n5 p = rw (sym e1 ∙ n1, sym e2 ∙ n2, sym e3 ∙ n3, sym e4 ∙ n4, sym e5 ∙ n5) p

@@ -4,7 +4,7 @@ ghost use mathlib.Core.List.{_∷_};
 ghost use Prim.Native.Nat.{_+_, _*_, _^_, _≤_};
 ghost use lib.ListN.{length, drop};
 ghost use Rattle.rules.specs.Basics.{if_then_else_};
-ghost use Rattle.text_rules.specs.Decoding.{hasWord, numberAfter, bytesOf, ofBits, limitFrom, permissionsFrom, blobFrom, fileFrom, decoded};
+ghost use Rattle.text_rules.specs.Decoding.{hasWord, numberAfter, bytesOf, ofBits, limitFrom, permissionsFrom, blobFrom, blobfileFrom, decoded};
 ghost use Rattle.text_bytes.specs.Putting.{Put};
 ghost use Rattle.text_bytes.specs.Names.{wordsOf};
 ghost use Rattle.text_lexer.specs.Taking.{one, Advanced, Field};
@@ -216,7 +216,7 @@ fn blob_from(line: &[u8], from: usize, at: usize, rec: &mut [u8]) -> usize
 // The record of a blob file's line: the device mask, the template's hash, zeros.
 fn file_from(line: &[u8], from: usize, at: usize, rec: &mut [u8]) -> usize
     requires { ⌜ (from ≤ 20) × (at + 64 ≤ length (now rec)) ⌝ }
-    ensures { λ r. ⌜ Put (fileFrom (drop from (now (line .entry)))) at (now (rec .entry)) (now (rec .exit)) r ⌝ }
+    ensures { λ r. ⌜ Put (blobfileFrom (drop from (now (line .entry)))) at (now (rec .entry)) (now (rec .exit)) r ⌝ }
 {
     let start = Cursor {
         at: from,

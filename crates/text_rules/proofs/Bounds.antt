@@ -11,12 +11,12 @@ use borrow.Author.Tests.{eqb-true, leb-true, ltb-true, le-ltb, lt-ltb, eq-eqb, n
 use Rattle.rules.specs.Sizes.{certificatesMax, delegationsMax, listedMax}
 use Rattle.rules.specs.Numbers.{malformed, tooMany}
 use Rattle.rules.specs.Basics.{if_then_else_, Bytes, implies, byte, kind, recordFault}
-use Rattle.rules.specs.Layout.{between, certificateLaidOut, delegationLaidOut, fileRequestLaidOut, factLaidOut, signatureLaidOut}
-use Rattle.rules.specs.Acl.{announcesFile}
-use Rattle.rules.specs.Request.{requestLaidOut, fileRequestRecord, certificateRecord, delegationRecord, PresentedCounts, presentedStart, certificateFault, delegationFault, presentedRecordFault, afterPresented}
-use Rattle.rules.specs.Bundle.{orderOf, listedOrder, BundlePlace, bundleRecordLaidOut, inOrder, bundleInPlace, bundleHasRoom, bundleRecordFault, listedAfter, afterBundleRecord}
+use Rattle.rules.specs.Layout.{between, certificateLaidOut, delegationLaidOut, blobfileRequestLaidOut, factLaidOut, signatureLaidOut}
+use Rattle.rules.specs.Acl.{announcesBlobfile}
+use Rattle.rules.specs.Request.{requestLaidOut, blobfileRequestRecord, certificateRecord, delegationRecord, PresentedCounts, presentedStart, certificateFault, delegationFault, presentedRecordFault, afterPresented}
+use Rattle.rules.specs.Bundle.{orderOf, listedOrder, BundleState, bundleRecordLaidOut, inOrder, bundleInPlace, bundleHasRoom, bundleRecordFault, listedAfter, afterBundleRecord}
 use Rattle.rules.proofs.Laws.{and-left, and-right, and-both, unless-passed, fault-none-every}
-use Rattle.text_rules.specs.Kinds.{RequestPlace, requestDue, blobFileDue, presenting, requestPlaceFault, afterRequestRecord}
+use Rattle.text_rules.specs.Kinds.{RequestState, requestDue, blobFileDue, presenting, requestStateFault, afterRequestRecord}
 use Rattle.text_rules.proofs.Digits.{below-or-not}
 
 ruleset conj = (and-left, and-right, and-both)
@@ -90,7 +90,7 @@ module _ (q f c d : ℕ) where
   presentedRoom p = (certificatesMax - p .certificates) * c + (delegationsMax - p .delegations) * d
 
   -- what can still come
-  abbrev pub requestRoom : RequestPlace → ℕ
+  abbrev pub requestRoom : RequestState → ℕ
   requestRoom requestDue = q + f + presentedRoom presentedStart
   requestRoom blobFileDue = f + presentedRoom presentedStart
   requestRoom (presenting p) = presentedRoom p
@@ -108,15 +108,15 @@ module _ (q f c d : ℕ) where
   after-most true = omega arith
   after-most false = omega arith
 
-  pub request-spent : (s : RequestPlace) (r : Bytes) → requestPlaceFault s r ≡ none → requestWeight r + requestRoom (afterRequestRecord s r) ≤ requestRoom s
-  unfolding requestWeight fileRequestRecord afterPresented
+  pub request-spent : (s : RequestState) (r : Bytes) → requestStateFault s r ≡ none → requestWeight r + requestRoom (afterRequestRecord s r) ≤ requestRoom s
+  unfolding requestWeight blobfileRequestRecord afterPresented
   request-spent requestDue r e =
       let w = first-weight r (unless-passed (requestLaidOut r) malformed e) in
-      let m = after-most (announcesFile r) in
+      let m = after-most (announcesBlobfile r) in
       omega arith
   request-spent blobFileDue r e =
-      let p = unless-passed (fileRequestRecord r) malformed e in
-      let k = eqb-true (kind r) 15 (and-left (eqb (kind r) 15) (fileRequestLaidOut r) p) in
+      let p = unless-passed (blobfileRequestRecord r) malformed e in
+      let k = eqb-true (kind r) 15 (and-left (eqb (kind r) 15) (blobfileRequestLaidOut r) p) in
       rw k (omega arith)
   request-spent (presenting p) r e = pick (presented-is p r e .which)
     where
@@ -210,7 +210,7 @@ module _ (w : ℕ → ℕ) where
           rw (e, le-ltb order order (omega arith), lt-ltb last order l) (omega arith)
 
   -- what can still come: fields 1 to 13, signatures, the policy, and field 14
-  abbrev pub bundleRoom : BundlePlace → ℕ
+  abbrev pub bundleRoom : BundleState → ℕ
   bundleRoom s =
       rangeRoom (s .last) 2561 13 + rangeRoom (s .last) 2817 6 + rangeRoom (s .last) 3072 1 + (listedMax - s .listedCount) * w listedOrder
 
@@ -272,7 +272,7 @@ module _ (w : ℕ → ℕ) where
     placed-spent (aSignature a b) h = rw (ne-eqb o listedOrder (λ q. omega arith)) (signature-spent a b)
     placed-spent (aPolicy e) h = rw (ne-eqb o listedOrder (λ q. omega arith)) (policy-spent e)
 
-  pub bundle-spent : (s : BundlePlace) (r : Bytes) → bundleRecordFault s r ≡ none → w (orderOf r) + bundleRoom (afterBundleRecord s r) ≤ bundleRoom s
+  pub bundle-spent : (s : BundleState) (r : Bytes) → bundleRecordFault s r ≡ none → w (orderOf r) + bundleRoom (afterBundleRecord s r) ≤ bundleRoom s
   unfolding bundleRecordFault bundleInPlace bundleHasRoom listedAfter
   bundle-spent s r e =
       let g = fault-passed (bundleInPlace (s .last) r) (bundleHasRoom (s .listedCount) r) e in

@@ -9,8 +9,8 @@ use Rattle.rules.specs.Basics.{Bytes, ascii}
 use Rattle.rules.specs.Acl.{aclFileFault}
 use Rattle.rules.proofs.Computing.{computing}
 use Rattle.rules.proofs.Samples.{rec, repeated, hash, openGroup, signAction, keyless}
-use Rattle.text_rules.specs.Words.{hexDigit, hex, wordText, wordsText, permissionWords, lineOf, textBy, listingOf, groupLineMax, limitLineMax, fileLineMax, lineMax, listingMax}
-use Rattle.text_rules.specs.Decoding.{stands, hasWord, afterWord, hexValue, unhex, hashAfter, afterHash, digitsOf, decimalFrom, numberAfter, afterNumber, bytesOf, ofBits, headed, groupFrom, limitFrom, namesFrom, permissionsFrom, blobFrom, archiveFrom, fileFrom, decoded}
+use Rattle.text_rules.specs.Words.{hexDigit, hex, wordText, wordsText, permissionWords, lineOf, textBy, listingOf, groupLineMax, limitLineMax, blobfileLineMax, lineMax, listingMax}
+use Rattle.text_rules.specs.Decoding.{stands, hasWord, afterWord, hexValue, unhex, hashAfter, afterHash, digitsOf, decimalFrom, numberAfter, afterNumber, bytesOf, ofBits, headed, groupFrom, limitFrom, namesFrom, permissionsFrom, blobFrom, archiveFrom, blobfileFrom, decoded}
 use Rattle.text_rules.specs.Listing.{linesOf, asWritten, goodIn, faultAtLine, pastLine, textEnd, textFault, bytesBy, ListingReading, readAs, badLine, readText, readListing, produced, refusedWith, refusedAt, Listed, writingFault, writeText, writeListing, readTextInto, readListingInto}
 
 -- "Two Sign groups, per load 1, then counter 3 maximum 2"
@@ -138,11 +138,11 @@ Reached =
     (length (lineOf fullGroup) ≡ groupLineMax)
     × (length (lineOf (fullLimit 255)) ≡ limitLineMax)
     × (length (lineOf fullAction) ≡ lineMax)
-    × (length (lineOf fullFile) ≡ fileLineMax)
+    × (length (lineOf fullFile) ≡ blobfileLineMax)
     × (aclFileFault fullest ≡ none)
     × (groupsMax * length (listingOf fullest) ≡ listingMax)
 
 -- All rows hold.
 pub examples-hold : (listingOf twoGroups ≡ twoGroupsText) × (listingOf everyWord ≡ everyWordText) × (rowsRead ≡ rowsExpected) × (entries ≡ entriesExpected) × Reached
-unfolding hexDigit hex wordText wordsText permissionWords lineOf textBy stands hasWord afterWord hexValue unhex hashAfter afterHash digitsOf decimalFrom numberAfter afterNumber bytesOf ofBits headed groupFrom limitFrom namesFrom permissionsFrom blobFrom archiveFrom fileFrom decoded linesOf asWritten goodIn faultAtLine pastLine textEnd textFault bytesBy readText writingFault writeText readTextInto flatten computing
+unfolding hexDigit hex wordText wordsText permissionWords lineOf textBy stands hasWord afterWord hexValue unhex hashAfter afterHash digitsOf decimalFrom numberAfter afterNumber bytesOf ofBits headed groupFrom limitFrom namesFrom permissionsFrom blobFrom archiveFrom blobfileFrom decoded linesOf asWritten goodIn faultAtLine pastLine textEnd textFault bytesBy readText writingFault writeText readTextInto flatten computing
 examples-hold = (refl, refl, refl, refl, (refl, refl, refl, refl, refl, refl))

@@ -14,10 +14,10 @@ use Rattle.rules.specs.Sizes.{recordBytes, hashBytes, countersMax}
 use Rattle.rules.specs.Basics.{Bytes, Every, ascii, bit, part, number, byte, blank, kind, flag, scan, records}
 use Rattle.rules.specs.Layout.{tokenParametersAt, tokenParametersIf, counterUnder, counterOfSort, limitUnder, limitLaidOut, blobActionLaidOut}
 use Rattle.rules.specs.Day.{decimal}
-use Rattle.rules.specs.Acl.{AclPlace, limitKey, limitInPlace, actionInPlace, actionLaidOut, placedUnder, placedByKind, inPlace, aclRecordFault, aclFaultUnder, aclFileFault}
+use Rattle.rules.specs.Acl.{AclState, limitKey, limitInPlace, actionInPlace, actionLaidOut, placedUnder, placedByKind, inPlace, aclRecordFault, aclFaultUnder, aclFileFault}
 use Rattle.rules.proofs.Laws.{and-left, and-right, and-both, orNext-first, orNext-next}
 use Rattle.rules.proofs.Places.{placed, file-due}
-use Rattle.text_rules.specs.Words.{space, hex, Word, bare, withNumber, withHash, spaced, wordsText, groupWords, limitWords, permissionNames, permissionWords, blobWords, archiveWords, fileWords, lineOf, textBy, listingOf, groupLineMax, limitLineMax, fileLineMax, lineMax, listingMax}
+use Rattle.text_rules.specs.Words.{space, hex, Word, bare, withNumber, withHash, spaced, wordsText, groupWords, limitWords, permissionNames, permissionWords, blobWords, archiveWords, blobfileWords, lineOf, textBy, listingOf, groupLineMax, limitLineMax, blobfileLineMax, lineMax, listingMax}
 use Rattle.text_rules.specs.Kinds.{FileKind, kindFault, aclKind}
 use Rattle.text_rules.specs.Listing.{Octet, IsRecord, goingOn, soFar}
 use Rattle.text_rules.proofs.Digits.{decimal-length, hex-length}
@@ -61,7 +61,7 @@ permissions-length b (x ∷ xs) n =
 
 -- the length of the longest line of a record's kind
 abbrev lineWeight : Bytes → ℕ
-lineWeight r = weight groupLineMax limitLineMax lineMax fileLineMax r
+lineWeight r = weight groupLineMax limitLineMax lineMax blobfileLineMax r
 
 module _ (r : Bytes) (h : IsRecord r) where
   pub hash-text : (off : ℕ) → off + hashBytes ≤ recordBytes → length (space ∷ hex (part off hashBytes r)) ≤ 41
@@ -153,7 +153,7 @@ module _ (r : Bytes) (h : IsRecord r) where
       let a0 = text-length (withHash (flag 0 r) "kahash" (part 4 hashBytes r)) (ws 1) 41 26 (hash-text 4 (omega arith)) a1 in
       omega arith
 
-  pub file-length : length (ascii "blobfile" ++ wordsText (fileWords r)) ≤ fileLineMax
+  pub file-length : length (ascii "blobfile" ++ wordsText (blobfileWords r)) ≤ blobfileLineMax
   unfolding ascii
   file-length =
       let m = text-length (withHash (flag 1 r) "template" (part 8 hashBytes r)) [] 41 1 (hash-text 8 (omega arith)) end-length in
@@ -161,7 +161,7 @@ module _ (r : Bytes) (h : IsRecord r) where
       omega arith
 
   -- A record that may stand in an ACL has a line no longer than its kind's longest.
-  placed-length : (s : AclPlace) → placedByKind s r ≡ true → length (lineOf r) ≤ lineWeight r
+  placed-length : (s : AclState) → placedByKind s r ≡ true → length (lineOf r) ≤ lineWeight r
   unfolding placedUnder actionLaidOut lineOf weight
   placed-length s e = pick (eqb (kind r) 1) refl (eqb (kind r) 2) refl (eqb (kind r) 3) refl (eqb (kind r) 4) refl (eqb (kind r) 5) refl
     where
@@ -180,7 +180,7 @@ module _ (r : Bytes) (h : IsRecord r) where
           let l : (false && actionInPlace s) ≡ true = rw (p, q, u, v, w) at e in
           absurd (false≢true l)
 
-  line-length : (s : AclPlace) → inPlace s r ≡ true → length (lineOf r) ≤ lineWeight r
+  line-length : (s : AclState) → inPlace s r ≡ true → length (lineOf r) ≤ lineWeight r
   unfolding lineOf weight
   line-length s e = pick (s .fileDue) refl
     where
@@ -189,14 +189,14 @@ module _ (r : Bytes) (h : IsRecord r) where
       pick false d = placed-length s (placed s r d e)
 
   -- The longest line.
-  pub line-bound : (s : AclPlace) → aclRecordFault s r ≡ none → length (lineOf r) ≤ lineMax
+  pub line-bound : (s : AclState) → aclRecordFault s r ≡ none → length (lineOf r) ≤ lineMax
   unfolding weight
   line-bound s e = let l = line-length s (record-passed s r e .0) in pick (eqb (kind r) 1) refl (eqb (kind r) 2) refl (eqb (kind r) 15) refl l
     where
       pick : (a : Bool) → eqb (kind r) 1 ≡ a → (b : Bool) → eqb (kind r) 2 ≡ b → (c : Bool) → eqb (kind r) 15 ≡ c → length (lineOf r) ≤ lineWeight r → length (lineOf r) ≤ lineMax
       pick true p b q c w l = let k : length (lineOf r) ≤ groupLineMax = rw p at l in omega arith
       pick false p true q c w l = let k : length (lineOf r) ≤ limitLineMax = rw (p, q) at l in omega arith
-      pick false p false q true w l = let k : length (lineOf r) ≤ fileLineMax = rw (p, q, w) at l in omega arith
+      pick false p false q true w l = let k : length (lineOf r) ≤ blobfileLineMax = rw (p, q, w) at l in omega arith
       pick false p false q false w l = rw (p, q, w) at l
 
 -- the lines of records without fault, for any kind of file
@@ -224,5 +224,5 @@ unfolding aclFaultUnder
 listing-bound file o e =
     let t = text-bound aclKind lineWeight (λ s r h d. line-length r h s (record-passed s r d .0)) file o e in
     let a = t .0 in
-    let w = acl-weight groupLineMax limitLineMax lineMax fileLineMax (records file) (t .1) in
+    let w = acl-weight groupLineMax limitLineMax lineMax blobfileLineMax (records file) (t .1) in
     omega arith

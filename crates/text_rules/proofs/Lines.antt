@@ -13,7 +13,7 @@ use Rattle.rules.specs.Sizes.{hashBytes}
 use Rattle.rules.specs.Basics.{if_then_else_, Bytes, Every, all, ascii, part, number, byte, kind}
 use Rattle.rules.specs.Day.{decimal}
 use Rattle.rules.proofs.Laws.{and-left, and-right, and-both}
-use Rattle.text_rules.specs.Words.{newline, space, hexDigit, hex, Word, spaced, wordsText, limitUnit, groupWords, limitWords, permissionNames, permissionWords, blobWords, archiveWords, fileWords, lineOf}
+use Rattle.text_rules.specs.Words.{newline, space, hexDigit, hex, Word, spaced, wordsText, limitUnit, groupWords, limitWords, permissionNames, permissionWords, blobWords, archiveWords, blobfileWords, lineOf}
 use Rattle.text_rules.specs.OtherWords.{nameAt, useWords, blobRequestWords, recoveryWords, certificateWords, fieldNames, factWords, signatureNames, signatureWords, policyWords, numbersText, hintWords, delegationWords, recordLine}
 use Rattle.text_rules.specs.Listing.{ontoFirst, linesOf, lineLength}
 use Rattle.text_rules.proofs.Digits.{below-or-not, Digit, decimal-every}
@@ -173,7 +173,7 @@ line-of-one r =
     ((refl, refl), ((refl, refl), ((refl, plain-hash (part 4 hashBytes r)), ((refl, plain-hash (part 24 hashBytes r)), ((refl, refl), ((refl, refl), ((refl, plain-number (byte 46 r)), ((refl, plain-number (byte 47 r)), ((refl, plain-number (number 48 4 r)), ((refl, refl), ((refl, refl), tt)))))))))))))
     (either-line (eqb (kind r) 5) _ _
     (plain-then (ascii "MakeArchiveBlob") (wordsText (archiveWords r)) refl (words-line (archiveWords r) ((refl, plain-hash (part 4 hashBytes r)), ((refl, plain-number (number 24 2 r)), ((refl, refl), tt)))))
-    (plain-then (ascii "blobfile") (wordsText (fileWords r)) refl (words-line (fileWords r) ((refl, plain-number (number 4 4 r)), ((refl, plain-hash (part 8 hashBytes r)), tt))))))))
+    (plain-then (ascii "blobfile") (wordsText (blobfileWords r)) refl (words-line (blobfileWords r) ((refl, plain-number (number 4 4 r)), ((refl, plain-hash (part 8 hashBytes r)), tt))))))))
 
 -- The records of requests, bundles and hints. A name out of a list:
 plain-name : (names : List String) (n : ℕ) → all (λ x. plain (spaced x)) names ≡ true → plain (spaced (nameAt n names)) ≡ true

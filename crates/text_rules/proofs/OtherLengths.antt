@@ -15,7 +15,7 @@ use Rattle.rules.specs.Layout.{between, tokenParametersIf, blobRequestLaidOut, 
 use Rattle.rules.specs.Request.{requestLaidOut}
 use Rattle.rules.specs.Day.{decimal}
 use Rattle.rules.proofs.Laws.{and-left, and-right, and-both}
-use Rattle.text_rules.specs.Words.{hex, Word, bare, withNumber, withHash, spaced, wordsText, permissionNames, permissionWords, lineOf, fileLineMax}
+use Rattle.text_rules.specs.Words.{hex, Word, bare, withNumber, withHash, spaced, wordsText, permissionNames, permissionWords, lineOf, blobfileLineMax}
 use Rattle.text_rules.specs.OtherWords.{alone, nameAt, timeWord, blobRequestWords, recoveryWords, fieldNames, signatureNames, policyWords, numbersText, withNumbers, recordLine, aloneLineMax, certificateLineMax, delegationLineMax, hintLineMax}
 use Rattle.text_rules.specs.Listing.{Octet, IsRecord}
 use Rattle.text_rules.proofs.Digits.{hex-length}
@@ -180,6 +180,6 @@ module _ (r : Bytes) (h : IsRecord r) where
       let a0 = text-length (withHash true "from" (part 4 hashBytes r)) (withHash true "to" (part 24 hashBytes r) ∷ names) 41 220 (hash-text r h 4 (omega arith)) a1 in
       rw k (omega arith)
 
-  pub blobfile-length : kind r ≡ 15 → length (recordLine r) ≤ fileLineMax
+  pub blobfile-length : kind r ≡ 15 → length (recordLine r) ≤ blobfileLineMax
   unfolding recordLine lineOf
   blobfile-length k = rw k (file-length r h)

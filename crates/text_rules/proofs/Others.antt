@@ -9,10 +9,10 @@ use lib.Dec.{eqb, leb, ltb}
 use borrow.Author.Tests.{eqb-true, eqb-false, leb-true, ltb-true}
 use Rattle.rules.specs.Sizes.{hashBytes}
 use Rattle.rules.specs.Basics.{if_then_else_, Bytes, all, ascii, bit, within, part, number, byte, blank, kind, flag}
-use Rattle.rules.specs.Layout.{header, zeroUnless, between, tokenParametersAt, tokenParametersIf, useLaidOut, blobRequestLaidOut, recoveryLaidOut, certificateLaidOut, factLaidOut, signatureLaidOut, policyLaidOut, hintLaidOut, delegationLaidOut, fileLaidOut}
+use Rattle.rules.specs.Layout.{header, zeroUnless, between, tokenParametersAt, tokenParametersIf, useLaidOut, blobRequestLaidOut, recoveryLaidOut, certificateLaidOut, factLaidOut, signatureLaidOut, policyLaidOut, hintLaidOut, delegationLaidOut, blobfileLaidOut}
 use Rattle.rules.proofs.Laws.{and-left, and-right, and-both}
-use Rattle.text_rules.specs.Words.{hex, Word, bare, withNumber, wordsText, permissionNames, permissionWords, fileWords, lineOf}
-use Rattle.text_rules.specs.Decoding.{stands, digitsOf, digitsMax, decimalFrom, headed, fileFrom, begins, past}
+use Rattle.text_rules.specs.Words.{hex, Word, bare, withNumber, wordsText, permissionNames, permissionWords, blobfileWords, lineOf}
+use Rattle.text_rules.specs.Decoding.{stands, digitsOf, digitsMax, decimalFrom, headed, blobfileFrom, begins, past}
 use Rattle.text_rules.specs.OtherWords.{alone, timeWord, useWords, blobRequestWords, recoveryWords, certificateWords, fieldNames, factWords, signatureNames, signatureWords, policyWords, numbersText, withNumbers, hintWords, delegationWords, recordLine}
 use Rattle.text_rules.specs.OtherDecoding.{hashHere, bytesHere, useFrom, blobRequestFrom, recoveryFrom, certificateFrom, factFrom, signatureFrom, policyRecordFrom, hintFrom, delegationFrom, recordOf}
 use Rattle.text_rules.specs.Listing.{IsRecord}
@@ -316,7 +316,7 @@ module _ (ws : List Word) where
   unfolding recordOf ascii stands
   told-delegation = rw (begun ws "delegation")
 
-  told-file : recordOf (ascii "blobfile" ++ wordsText ws) ≡ fileFrom (wordsText ws)
+  told-file : recordOf (ascii "blobfile" ++ wordsText ws) ≡ blobfileFrom (wordsText ws)
   unfolding recordOf ascii stands
   told-file = decoded-file ws
 
@@ -358,9 +358,9 @@ module _ (r : Bytes) (h : IsRecord r) where
   unfolding recordLine
   delegation-line k e = rw k (told-delegation (delegationWords r) ∙ delegation-back r h k e)
 
-  pub file-line : kind r ≡ 15 → fileLaidOut r ≡ true → recordOf (recordLine r) ≡ r
+  pub file-line : kind r ≡ 15 → blobfileLaidOut r ≡ true → recordOf (recordLine r) ≡ r
   unfolding recordLine lineOf
-  file-line k e = rw k (told-file (fileWords r) ∙ file-back r h k e)
+  file-line k e = rw k (told-file (blobfileWords r) ∙ file-back r h k e)
 
 -- What a line tells is a record, whatever the line.
 sized-here : (t : Bytes) → Sized hashBytes (hashHere t)

@@ -11,8 +11,8 @@ use borrow.Author.Tests.{leb-true, lt-ltb}
 use Rattle.rules.specs.Sizes.{recordBytes, requestRecords, bundleRecords, hintRecords, dayRecords}
 use Rattle.rules.specs.Numbers.{badLength, malformed}
 use Rattle.rules.specs.Basics.{if_then_else_, Bytes, implies, chunks, records, fits, unless, orNext, firstFault, recordFault, eachFault, scan, fileFault}
-use Rattle.rules.specs.Acl.{announcesFile, aclFaultUnder, aclFileFault}
-use Rattle.rules.specs.Request.{requestLaidOut, standsAlone, requestRecordFault, PresentedCounts, presentedStart, presentedRecordFault, afterPresented, presentedEnd, presentedFault, fileRequestRecord, fileNext, requestFault, hintRecord, hintFault, hintsFault, hintsFileFault}
+use Rattle.rules.specs.Acl.{announcesBlobfile, aclFaultUnder, aclFileFault}
+use Rattle.rules.specs.Request.{requestLaidOut, standsAlone, requestRecordFault, PresentedCounts, presentedStart, presentedRecordFault, afterPresented, presentedEnd, presentedFault, blobfileRequestRecord, blobfileFollows, requestFault, hintRecord, hintFault, hintsFault, hintsFileFault}
 use Rattle.rules.specs.Bundle.{bundleFault}
 use Rattle.rules.proofs.Laws.{and-right}
 use Rattle.text_rules.specs.Kinds.{faultFrom, recordsFault, kindFault, aclKind, blobFileDue, presenting, requestKind, eachKind, requestsKind, bundleKind, hintsKind}
@@ -38,17 +38,17 @@ presented-reader c [] = refl
 presented-reader c (r ∷ rs) = ap (orNext (presentedRecordFault c r)) (presented-reader (afterPresented c r) rs)
 
 after-first : (b : Bool) (rs : List Bytes) → faultFrom requestKind (if b then blobFileDue else presenting presentedStart) rs
-    ≡ orNext (unless (implies b (fileNext rs)) malformed) (orNext (presentedFault (if b then drop 1 rs else rs)) none)
-unfolding scan presentedFault fileNext
+    ≡ orNext (unless (implies b (blobfileFollows rs)) malformed) (orNext (presentedFault (if b then drop 1 rs else rs)) none)
+unfolding scan presentedFault blobfileFollows
 after-first false rs = presented-reader presentedStart rs ∙ sym (or-none (presentedFault rs))
 after-first true [] = refl
 after-first true (x ∷ xs) =
-    ap (orNext (unless (fileRequestRecord x) malformed)) (presented-reader presentedStart xs ∙ sym (or-none (presentedFault xs)))
+    ap (orNext (unless (blobfileRequestRecord x) malformed)) (presented-reader presentedStart xs ∙ sym (or-none (presentedFault xs)))
 
 request-records : (rs : List Bytes) → recordsFault requestKind rs ≡ requestFault requestLaidOut rs
 unfolding scan requestFault firstFault
 request-records [] = refl
-request-records (r ∷ rs) = ap (orNext (unless (requestLaidOut r) malformed)) (after-first (announcesFile r) rs)
+request-records (r ∷ rs) = ap (orNext (unless (requestLaidOut r) malformed)) (after-first (announcesBlobfile r) rs)
 
 pub request-reader : (file : Bytes) → kindFault requestKind file ≡ fileFault requestRecords (requestFault requestLaidOut) file
 unfolding fileFault

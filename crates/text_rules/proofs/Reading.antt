@@ -16,7 +16,7 @@ use Rattle.rules.specs.Basics.{Bytes, Every, present, records, fits, unless, fi
 use Rattle.rules.proofs.Laws.{never, and-left, and-right, not-both, same-eq, same-refl, unless-passed, orNext-first, orNext-next, fault-none-every}
 use Rattle.text_rules.specs.Words.{textBy}
 use Rattle.text_rules.specs.Kinds.{FileKind, faultFrom, recordsFault, kindFault}
-use Rattle.text_rules.specs.Listing.{linesOf, asWritten, TextPlace, goodIn, faultAtLine, pastLine, textEnd, textFault, bytesBy, readAs, badLine, readingOf, readText, Octet, IsRecord, goingOn, soFar, BadAfter, FirstBad}
+use Rattle.text_rules.specs.Listing.{linesOf, asWritten, TextState, goodIn, faultAtLine, pastLine, textEnd, textFault, bytesBy, readAs, badLine, readingOf, readText, Octet, IsRecord, goingOn, soFar, BadAfter, FirstBad}
 use Rattle.text_rules.proofs.Digits.{every-append}
 use Rattle.text_rules.proofs.Lines.{oneLine, lines-of-flat, flat-lines}
 use Rattle.text_rules.proofs.Files.{records-flat, records-all, flat-length, flat-records}
@@ -54,7 +54,7 @@ bad-end (some f) n m g e = (ap some (g f refl), cc)
 
 module _ {S : Type 0} (k : FileKind S) where
   -- the first bad line, read on from a place
-  abbrev linesFrom : TextPlace S → List Bytes → Option ℕ
+  abbrev linesFrom : TextState S → List Bytes → Option ℕ
   linesFrom s ls = scan (faultAtLine k) (pastLine k) (textEnd k) s ls
 
   -- where reading stands after records

@@ -11,12 +11,12 @@ use lib.Dec.{eqb, leb, ltb}
 use borrow.Author.Tests.{eqb-true, eqb-false, leb-true}
 use Rattle.rules.specs.Sizes.{recordBytes, hashBytes, countersMax}
 use Rattle.rules.specs.Basics.{if_then_else_, Bytes, implies, Every, all, ascii, bit, allBelow, within, part, number, byte, blank, kind, flag}
-use Rattle.rules.specs.Layout.{header, zeroUnless, mechanismAt, between, tokenParametersAt, tokenParametersIf, certifierMechanism, counterUnder, counterOfSort, groupLaidOut, limitUnder, limitLaidOut, permissionsLaidOut, blobActionLaidOut, archiveActionLaidOut, fileLaidOut}
-use Rattle.rules.specs.Acl.{AclPlace, limitKey, limitInPlace, actionInPlace, actionLaidOut, placedUnder, placedByKind, inPlace}
+use Rattle.rules.specs.Layout.{header, zeroUnless, mechanismAt, between, tokenParametersAt, tokenParametersIf, certifierMechanism, counterUnder, counterOfSort, groupLaidOut, limitUnder, limitLaidOut, permissionsLaidOut, blobActionLaidOut, archiveActionLaidOut, blobfileLaidOut}
+use Rattle.rules.specs.Acl.{AclState, limitKey, limitInPlace, actionInPlace, actionLaidOut, placedUnder, placedByKind, inPlace}
 use Rattle.rules.proofs.Laws.{and-left, and-right, and-both, not-both, implied, allBelow-at}
 use Rattle.rules.proofs.Places.{placed, file-due}
-use Rattle.text_rules.specs.Words.{Word, spaced, withNumber, withHash, bare, wordsText, groupWords, limitUnit, limitWords, permissionNames, permissionWords, blobWords, archiveWords, fileWords, lineOf}
-use Rattle.text_rules.specs.Decoding.{stands, hasWord, afterHash, afterNumber, hashAfter, bytesOf, ofBits, headed, groupFrom, sortOf, limitFrom, permissionsFrom, blobFrom, archiveFrom, fileFrom, begins, past, decoded}
+use Rattle.text_rules.specs.Words.{Word, spaced, withNumber, withHash, bare, wordsText, groupWords, limitUnit, limitWords, permissionNames, permissionWords, blobWords, archiveWords, blobfileWords, lineOf}
+use Rattle.text_rules.specs.Decoding.{stands, hasWord, afterHash, afterNumber, hashAfter, bytesOf, ofBits, headed, groupFrom, sortOf, limitFrom, permissionsFrom, blobFrom, archiveFrom, blobfileFrom, begins, past, decoded}
 use Rattle.text_rules.specs.Listing.{Octet, IsRecord}
 use Rattle.text_rules.proofs.Digits.{every-append, bytes-length, bytes-octets, unhex-length, unhex-octets}
 use Rattle.text_rules.proofs.Bits.{bits-of, within-below}
@@ -160,8 +160,8 @@ module _ (r : Bytes) (h : IsRecord r) where
       )
       (cut-whole (4 ∷ 20 ∷ 2 ∷ 38 ∷ []) 0 r (omega arith))
 
-  pub file-back : kind r ≡ 15 → fileLaidOut r ≡ true → fileFrom (wordsText (fileWords r)) ≡ r
-  unfolding fileFrom fileLaidOut all ascii
+  pub file-back : kind r ≡ 15 → blobfileLaidOut r ≡ true → blobfileFrom (wordsText (blobfileWords r)) ≡ r
+  unfolding blobfileFrom blobfileLaidOut all ascii
   file-back k e =
       let w = h .whole in
       let n = number 4 4 r in
@@ -307,12 +307,12 @@ module _ (ws : List Word) where
   unfolding decoded ascii stands
   decoded-archive = rw (begun "MakeArchiveBlob")
 
-  pub decoded-file : decoded (ascii "blobfile" ++ wordsText ws) ≡ fileFrom (wordsText ws)
+  pub decoded-file : decoded (ascii "blobfile" ++ wordsText ws) ≡ blobfileFrom (wordsText ws)
   unfolding decoded ascii stands
   decoded-file = refl
 
 -- A record that may stand in an ACL, at whatever place, is read back from its line.
-decoded-placed : (s : AclPlace) (r : Bytes) → IsRecord r → placedByKind s r ≡ true → decoded (lineOf r) ≡ r
+decoded-placed : (s : AclState) (r : Bytes) → IsRecord r → placedByKind s r ≡ true → decoded (lineOf r) ≡ r
 unfolding placedUnder actionLaidOut lineOf
 decoded-placed s r h e = pick (eqb (kind r) 1) refl (eqb (kind r) 2) refl (eqb (kind r) 3) refl (eqb (kind r) 4) refl (eqb (kind r) 5) refl
   where
@@ -334,14 +334,14 @@ decoded-placed s r h e = pick (eqb (kind r) 1) refl (eqb (kind r) 2) refl (eqb (
         let l : (false && actionInPlace s) ≡ true = rw (p, q, u, v, w) at e in
         absurd (false≢true l)
 
-pub decoded-line : (s : AclPlace) (r : Bytes) → IsRecord r → inPlace s r ≡ true → decoded (lineOf r) ≡ r
+pub decoded-line : (s : AclState) (r : Bytes) → IsRecord r → inPlace s r ≡ true → decoded (lineOf r) ≡ r
 unfolding lineOf
 decoded-line s r h e = pick (s .fileDue) refl
   where
     pick : (b : Bool) → s .fileDue ≡ b → decoded (lineOf r) ≡ r
     pick true d =
         let f = file-due s r d e in
-        rw (f .0) (decoded-file (fileWords r) ∙ file-back r h (f .0) (f .1))
+        rw (f .0) (decoded-file (blobfileWords r) ∙ file-back r h (f .0) (f .1))
     pick false d = decoded-placed s r h (placed s r d e)
 
 -- What a line tells is a record, whatever the line: each of its pieces has its length.
@@ -416,10 +416,10 @@ unfolding archiveFrom flatten
 archive-record t =
     is-record (archiveFrom t) (sized-headed 5 _ (omega arith) then sized-hash "kahash" t then sized-bytes 2 _ then sized-zeros 38 then sized-nil)
 
-file-record : (t : Bytes) → IsRecord (fileFrom t)
-unfolding fileFrom flatten
+file-record : (t : Bytes) → IsRecord (blobfileFrom t)
+unfolding blobfileFrom flatten
 file-record t =
-    is-record (fileFrom t) (sized-headed 15 _ (omega arith) then sized-bytes 4 _ then sized-hash "template" _ then sized-zeros 36 then sized-nil)
+    is-record (blobfileFrom t) (sized-headed 15 _ (omega arith) then sized-bytes 4 _ then sized-hash "template" _ then sized-zeros 36 then sized-nil)
 
 pub either-record : (b : Bool) (x y : Bytes) → IsRecord x → IsRecord y → IsRecord (if b then x else y)
 either-record true x y p q = p

@@ -13,7 +13,7 @@ use Rattle.rules.specs.Sizes.{groupsMax, limitsMax, actionsMax, aclRecords}
 use Rattle.rules.specs.Numbers.{malformed, tooMany}
 use Rattle.rules.specs.Basics.{if_then_else_, Bytes, kind, recordFault, scan}
 use Rattle.rules.specs.Layout.{limitLaidOut}
-use Rattle.rules.specs.Acl.{AclPlace, aclStart, announcesFile, limitKey, limitInPlace, actionInPlace, actionLaidOut, placedUnder, inPlace, hasRoomUnder, hasRoom, afterRecord, recordFaultUnder, aclRecordFault}
+use Rattle.rules.specs.Acl.{AclState, aclStart, announcesBlobfile, limitKey, limitInPlace, actionInPlace, actionLaidOut, placedUnder, inPlace, hasRoomUnder, hasRoom, afterRecord, recordFaultUnder, aclRecordFault}
 use Rattle.rules.proofs.Laws.{and-left, and-right, and-both, unless-passed, orNext-first, orNext-next, fault-none-every}
 use Rattle.text_rules.specs.Kinds.{FileKind, aclKind}
 use Rattle.text_rules.specs.Listing.{goingOn, soFar}
@@ -22,7 +22,7 @@ use Rattle.rules.proofs.Places.{placed, file-due}
 ruleset conj = (and-left, and-right, and-both)
 
 -- a record without fault is in place, and there is room for it
-pub record-passed : (s : AclPlace) (r : Bytes) → aclRecordFault s r ≡ none → (inPlace s r ≡ true) × (hasRoom s r ≡ true)
+pub record-passed : (s : AclState) (r : Bytes) → aclRecordFault s r ≡ none → (inPlace s r ≡ true) × (hasRoom s r ≡ true)
 unfolding recordFaultUnder recordFault
 record-passed s r e =
     let h = fault-none-every _ e in
@@ -63,16 +63,16 @@ module _ (g l a f : ℕ) where
   full = g + limitsMax * l + actionsMax * (a + f)
 
   -- what the group that is being read, and the groups to come, can still have
-  abbrev open-room : AclPlace → ℕ
+  abbrev open-room : AclState → ℕ
   open-room s = (limitsMax - length (s .limits)) * l + (actionsMax - s .actions) * (a + f)
 
-  abbrev room : AclPlace → ℕ
+  abbrev room : AclState → ℕ
   room s = (groupsMax - s .groups) * full + (if ltb 0 (s .groups) then open-room s else 0) + (if s .fileDue then f else 0)
 
   one-less : (m n x : ℕ) → n < m → (m - n) * x ≡ x + (m - (n + 1)) * x
   one-less m n x h = let e : m - n ≡ suc (m - (n + 1)) = omega arith in rw e (omega arith)
 
-  room-after : (s : AclPlace) (r : Bytes) → aclRecordFault s r ≡ none → weight r + room (afterRecord s r) ≤ room s
+  room-after : (s : AclState) (r : Bytes) → aclRecordFault s r ≡ none → weight r + room (afterRecord s r) ≤ room s
   unfolding placedUnder actionLaidOut hasRoomUnder afterRecord weight limitInPlace
   room-after s r e = pick (s .fileDue) refl (eqb (kind r) 1) refl (eqb (kind r) 2) refl (eqb (kind r) 15) refl
     where
@@ -105,7 +105,7 @@ module _ (g l a f : ℕ) where
           let j : (actionLaidOut r && actionInPlace s) ≡ true = rw (p, q) at (placed s r v (record-passed s r e .0)) in
           let t : ltb 0 (s .groups) ≡ true = and-right (actionLaidOut r) (actionInPlace s) j in
           let m = one-less actionsMax (s .actions) (a + f) (ltb-true (s .actions) actionsMax i) in
-          let n = due-most (announcesFile r) in
+          let n = due-most (announcesBlobfile r) in
           rw (p, q, w, t) (omega arith)
 
   -- The records of an ACL without fault weigh no more than 64 full groups.

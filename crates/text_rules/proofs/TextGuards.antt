@@ -8,9 +8,9 @@ use lib.ListN.{length, replicate}
 use Rattle.rules.specs.Basics.{Bytes, ascii}
 use Rattle.rules.proofs.Computing.{computing}
 use Rattle.rules.proofs.Samples.{rec, repeated, hash, timed, fact, signedWell}
-use Rattle.text_rules.specs.Words.{hexDigit, hex, wordText, wordsText, permissionWords, lineOf, textBy, fileLineMax}
+use Rattle.text_rules.specs.Words.{hexDigit, hex, wordText, wordsText, permissionWords, lineOf, textBy, blobfileLineMax}
 use Rattle.text_rules.specs.OtherWords.{numbersText, recordLine, requestLineMax, aloneLineMax, certificateLineMax, delegationLineMax, hintLineMax, bundleTextMax}
-use Rattle.text_rules.specs.Decoding.{stands, hasWord, afterWord, hexValue, unhex, hashAfter, afterHash, digitsOf, decimalFrom, numberAfter, afterNumber, bytesOf, ofBits, headed, groupFrom, limitFrom, namesFrom, permissionsFrom, blobFrom, archiveFrom, fileFrom, decoded}
+use Rattle.text_rules.specs.Decoding.{stands, hasWord, afterWord, hexValue, unhex, hashAfter, afterHash, digitsOf, decimalFrom, numberAfter, afterNumber, bytesOf, ofBits, headed, groupFrom, limitFrom, namesFrom, permissionsFrom, blobFrom, archiveFrom, blobfileFrom, decoded}
 use Rattle.text_rules.specs.OtherDecoding.{placeOf, afterName, hashHere, pastHere, bytesHere, timeAfter, useFrom, blobRequestFrom, recoveryFrom, certificateFrom, factFrom, signatureFrom, policyRecordFrom, hintFrom, delegationFrom, recordOf}
 use Rattle.text_rules.specs.Kinds.{FileKind, kindFault, requestKind, requestsKind, bundleKind, hintsKind}
 use Rattle.text_rules.specs.Listing.{linesOf, asWritten, goodIn, faultAtLine, pastLine, textEnd, textFault, bytesBy, readAs, badLine, readText, produced, refusedWith, refusedAt, writingFault, writeText, readTextInto}
@@ -25,7 +25,7 @@ Bad k text n = readText k text ≡ badLine n
 
 -- the definitions of the listings, named once
 unfoldable looking : ℕ
-unfolding hexDigit hex wordText wordsText permissionWords lineOf textBy numbersText recordLine stands hasWord afterWord hexValue unhex hashAfter afterHash digitsOf decimalFrom numberAfter afterNumber bytesOf ofBits headed groupFrom limitFrom namesFrom permissionsFrom blobFrom archiveFrom fileFrom decoded placeOf afterName hashHere pastHere bytesHere timeAfter useFrom blobRequestFrom recoveryFrom certificateFrom factFrom signatureFrom policyRecordFrom hintFrom delegationFrom recordOf linesOf asWritten goodIn faultAtLine pastLine textEnd textFault bytesBy readText writingFault writeText readTextInto flatten computing
+unfolding hexDigit hex wordText wordsText permissionWords lineOf textBy numbersText recordLine stands hasWord afterWord hexValue unhex hashAfter afterHash digitsOf decimalFrom numberAfter afterNumber bytesOf ofBits headed groupFrom limitFrom namesFrom permissionsFrom blobFrom archiveFrom blobfileFrom decoded placeOf afterName hashHere pastHere bytesHere timeAfter useFrom blobRequestFrom recoveryFrom certificateFrom factFrom signatureFrom policyRecordFrom hintFrom delegationFrom recordOf linesOf asWritten goodIn faultAtLine pastLine textEnd textFault bytesBy readText writingFault writeText readTextInto flatten computing
 looking = 0
 
 -- requests
@@ -156,7 +156,7 @@ fullBundle =
 pub record Longest : Type 0 where
   pub request : length (recordLine (tokenBlob 65)) ≡ requestLineMax
   pub standing : length (recordLine (tokenBlob 1)) ≡ aloneLineMax
-  pub file : length (recordLine storedFile) ≡ fileLineMax
+  pub file : length (recordLine storedFile) ≡ blobfileLineMax
   pub certificate : length (recordLine presentedKey) ≡ certificateLineMax
   pub delegation : length (recordLine (rec (14 ∷ 0 ∷ 0 ∷ 0 ∷ [] ++ hash 9 ++ hash 10 ++ (0xff ∷ 0xff ∷ [])))) ≡ delegationLineMax
   pub hint : length (recordLine (rec (13 ∷ 0 ∷ 0 ∷ 0 ∷ 255 ∷ 0 ∷ 0 ∷ 0 ∷ [] ++ replicate 8 255))) ≡ hintLineMax

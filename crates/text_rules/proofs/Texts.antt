@@ -12,15 +12,15 @@ use borrow.Author.Tests.{eqb-true, leb-true, le-ltb, lt-ltb, not-true}
 use Rattle.rules.specs.Sizes.{requestRecords, bundleRecords, dayRecords, hintRecords, certificatesMax, delegationsMax}
 use Rattle.rules.specs.Numbers.{malformed}
 use Rattle.rules.specs.Basics.{if_then_else_, Bytes, Every, ascii, byte, kind, records, unless, eachFault, fileFault}
-use Rattle.rules.specs.Layout.{between, certificateLaidOut, delegationLaidOut, fileLaidOut, fileRequestLaidOut, hintLaidOut, factLaidOut, signatureLaidOut, policyLaidOut}
-use Rattle.rules.specs.Acl.{announcesFile, aclFileFault}
-use Rattle.rules.specs.Request.{requestLaidOut, standsAlone, fileRequestRecord, requestRecordFault, requestFault, hintRecord, hintsFileFault}
-use Rattle.rules.specs.Bundle.{orderOf, BundlePlace, bundleStart, bundleRecordLaidOut, inOrder, bundleInPlace, bundleHasRoom, bundleRecordFault, bundleEnd, bundleFault}
+use Rattle.rules.specs.Layout.{between, certificateLaidOut, delegationLaidOut, blobfileLaidOut, blobfileRequestLaidOut, hintLaidOut, factLaidOut, signatureLaidOut, policyLaidOut}
+use Rattle.rules.specs.Acl.{announcesBlobfile, aclFileFault}
+use Rattle.rules.specs.Request.{requestLaidOut, standsAlone, blobfileRequestRecord, requestRecordFault, requestFault, hintRecord, hintsFileFault}
+use Rattle.rules.specs.Bundle.{orderOf, BundleState, bundleStart, bundleRecordLaidOut, inOrder, bundleInPlace, bundleHasRoom, bundleRecordFault, bundleEnd, bundleFault}
 use Rattle.rules.proofs.Laws.{never, and-left, and-right, and-both, unless-passed}
-use Rattle.text_rules.specs.Words.{spaced, textBy, fileLineMax}
+use Rattle.text_rules.specs.Words.{spaced, textBy, blobfileLineMax}
 use Rattle.text_rules.specs.OtherWords.{nameAt, fieldNames, signatureNames, recordLine, requestLineMax, aloneLineMax, certificateLineMax, delegationLineMax, hintLineMax, requestTextMax, requestsTextMax, bundleTextMax, hintsTextMax}
 use Rattle.text_rules.specs.OtherDecoding.{recordOf}
-use Rattle.text_rules.specs.Kinds.{FileKind, kindFault, aclKind, RequestPlace, requestDue, blobFileDue, presenting, requestPlaceFault, requestEnd, requestKind, eachKind, requestsKind, bundleKind, hintsKind}
+use Rattle.text_rules.specs.Kinds.{FileKind, kindFault, aclKind, RequestState, requestDue, blobFileDue, presenting, requestStateFault, requestEnd, requestKind, eachKind, requestsKind, bundleKind, hintsKind}
 use Rattle.text_rules.specs.Listing.{readAs, badLine, readText, produced, delivered, writeText, readTextInto, Octet, IsRecord, soFar, FirstBad}
 use Rattle.text_rules.proofs.Lines.{record-line-one}
 use Rattle.text_rules.proofs.Others.{use-line, blob-line, recovery-line, certificate-line, fact-line, signature-line, policy-line, hint-line, delegation-line, file-line, told-record}
@@ -46,13 +46,13 @@ module _ (r : Bytes) (h : IsRecord r) where
       pick (inr (inl k)) = blob-line r h k (rw k at e)
       pick (inr (inr k)) = recovery-line r h k (rw k at e)
 
-  requested-back : (s : RequestPlace) → requestPlaceFault s r ≡ none → recordOf (recordLine r) ≡ r
-  unfolding fileRequestRecord fileRequestLaidOut
+  requested-back : (s : RequestState) → requestStateFault s r ≡ none → recordOf (recordLine r) ≡ r
+  unfolding blobfileRequestRecord blobfileRequestLaidOut
   requested-back requestDue e = request-back (unless-passed (requestLaidOut r) malformed e)
   requested-back blobFileDue e =
-      let p = unless-passed (fileRequestRecord r) malformed e in
+      let p = unless-passed (blobfileRequestRecord r) malformed e in
       let k : eqb (kind r) 15 ≡ true = search conj in
-      let f : fileLaidOut r ≡ true = search conj in
+      let f : blobfileLaidOut r ≡ true = search conj in
       file-line r h (eqb-true (kind r) 15 k) f
   requested-back (presenting c) e = pick (presented-is c r e .which)
     where
@@ -62,7 +62,7 @@ module _ (r : Bytes) (h : IsRecord r) where
 
   alone-back : standsAlone r ≡ true → recordOf (recordLine r) ≡ r
   unfolding standsAlone
-  alone-back e = request-back (and-left (requestLaidOut r) (not (announcesFile r)) e)
+  alone-back e = request-back (and-left (requestLaidOut r) (not (announcesBlobfile r)) e)
 
   hinted-back : hintRecord r ≡ true → recordOf (recordLine r) ≡ r
   unfolding hintRecord
@@ -80,13 +80,13 @@ module _ (r : Bytes) (h : IsRecord r) where
         pick false p false q true s = policy (eqb-true (kind r) 12 s) (rw (p, q, s) at e)
         pick false p false q false s = absurd (false≢true (rw (p, q, s) at e))
 
-  bundled : (s : BundlePlace) → bundleRecordFault s r ≡ none → bundleRecordLaidOut r ≡ true
+  bundled : (s : BundleState) → bundleRecordFault s r ≡ none → bundleRecordLaidOut r ≡ true
   unfolding bundleRecordFault bundleInPlace
   bundled s e =
       let g = fault-passed (bundleInPlace (s .last) r) (bundleHasRoom (s .listedCount) r) e in
       and-left (bundleRecordLaidOut r) (inOrder (s .last) (orderOf r)) (g .0)
 
-  bundled-back : (s : BundlePlace) → bundleRecordFault s r ≡ none → recordOf (recordLine r) ≡ r
+  bundled-back : (s : BundleState) → bundleRecordFault s r ≡ none → recordOf (recordLine r) ≡ r
   bundled-back s e = by-kind (recordOf (recordLine r) ≡ r) (fact-line r h) (signature-line r h) (policy-line r h) (bundled s e)
 
 -- How many records
@@ -133,7 +133,7 @@ request-lawful =
       few = λ rs h e. request-few rs e;
     }
   where
-    missing : (s : RequestPlace) (f : ℕ) → requestEnd s ≡ some f → f ≡ malformed
+    missing : (s : RequestState) (f : ℕ) → requestEnd s ≡ some f → f ≡ malformed
     missing requestDue f e = cc
     missing blobFileDue f e = cc
     missing (presenting c) f e = absurd (never (cc))
@@ -215,37 +215,37 @@ pub hints-text : TextForm hintsKind hintsFileFault
 hints-text = text-form hintsKind hints-lawful _ hints-reader
 
 -- The longest texts. Of a request file:
-request-line : (s : RequestPlace) (r : Bytes) → IsRecord r → requestPlaceFault s r ≡ none → length (recordLine r) ≤ requestWeight requestLineMax fileLineMax certificateLineMax delegationLineMax r
-unfolding requestWeight fileRequestRecord
+request-line : (s : RequestState) (r : Bytes) → IsRecord r → requestStateFault s r ≡ none → length (recordLine r) ≤ requestWeight requestLineMax blobfileLineMax certificateLineMax delegationLineMax r
+unfolding requestWeight blobfileRequestRecord
 request-line requestDue r h e =
     let p = unless-passed (requestLaidOut r) malformed e in
     let l = request-length r h p in
-    let f = filed-most (announcesFile r) in
+    let f = filed-most (announcesBlobfile r) in
     pick (three-kinds r p) (omega arith)
   where
     filed-most : (b : Bool) → (if b then 9 else 0) ≤ 9
     filed-most true = omega arith
     filed-most false = omega arith
 
-    pick : (kind r ≡ 6) ⊎ (kind r ≡ 7) ⊎ (kind r ≡ 8) → length (recordLine r) ≤ requestLineMax → length (recordLine r) ≤ requestWeight requestLineMax fileLineMax certificateLineMax delegationLineMax r
+    pick : (kind r ≡ 6) ⊎ (kind r ≡ 7) ⊎ (kind r ≡ 8) → length (recordLine r) ≤ requestLineMax → length (recordLine r) ≤ requestWeight requestLineMax blobfileLineMax certificateLineMax delegationLineMax r
     pick (inl k) l = rw k l
     pick (inr (inl k)) l = rw k l
     pick (inr (inr k)) l = rw k l
 request-line blobFileDue r h e =
-    let p = unless-passed (fileRequestRecord r) malformed e in
-    let k = eqb-true (kind r) 15 (and-left (eqb (kind r) 15) (fileRequestLaidOut r) p) in
+    let p = unless-passed (blobfileRequestRecord r) malformed e in
+    let k = eqb-true (kind r) 15 (and-left (eqb (kind r) 15) (blobfileRequestLaidOut r) p) in
     rw k (blobfile-length r h k)
 request-line (presenting c) r h e = pick (presented-is c r e .which)
   where
-    pick : ((kind r ≡ 9) × (certificateLaidOut r ≡ true) × (c .certificates < certificatesMax)) ⊎ ((kind r ≡ 14) × (delegationLaidOut r ≡ true) × (c .delegations < delegationsMax)) → length (recordLine r) ≤ requestWeight requestLineMax fileLineMax certificateLineMax delegationLineMax r
+    pick : ((kind r ≡ 9) × (certificateLaidOut r ≡ true) × (c .certificates < certificatesMax)) ⊎ ((kind r ≡ 14) × (delegationLaidOut r ≡ true) × (c .delegations < delegationsMax)) → length (recordLine r) ≤ requestWeight requestLineMax blobfileLineMax certificateLineMax delegationLineMax r
     pick (inl p) = let k = p .0 in rw k (certificate-length r h k)
     pick (inr p) = let k = p .0 in rw k (delegation-length r h k)
 
 pub request-bound : (file : Bytes) → Every Octet file → kindFault requestKind file ≡ none → length (textBy recordLine file) ≤ requestTextMax
 request-bound file o e =
-    let t = text-bound requestKind (requestWeight requestLineMax fileLineMax certificateLineMax delegationLineMax) request-line file o e in
+    let t = text-bound requestKind (requestWeight requestLineMax blobfileLineMax certificateLineMax delegationLineMax) request-line file o e in
     let a = t .0 in
-    let w = total-room requestKind (requestWeight requestLineMax fileLineMax certificateLineMax delegationLineMax) (requestRoom requestLineMax fileLineMax certificateLineMax delegationLineMax) (request-spent requestLineMax fileLineMax certificateLineMax delegationLineMax) requestDue (records file) (t .1) in
+    let w = total-room requestKind (requestWeight requestLineMax blobfileLineMax certificateLineMax delegationLineMax) (requestRoom requestLineMax blobfileLineMax certificateLineMax delegationLineMax) (request-spent requestLineMax blobfileLineMax certificateLineMax delegationLineMax) requestDue (records file) (t .1) in
     omega arith
 
 -- the bounds of single requests, and of hints
@@ -261,8 +261,8 @@ each-bound good most m long file o e =
 alone-length : (r : Bytes) → IsRecord r → standsAlone r ≡ true → length (recordLine r) ≤ aloneLineMax
 unfolding standsAlone
 alone-length r h e =
-    let l = request-length r h (and-left (requestLaidOut r) (not (announcesFile r)) e) in
-    let f = not-true (announcesFile r) (and-right (requestLaidOut r) (not (announcesFile r)) e) in
+    let l = request-length r h (and-left (requestLaidOut r) (not (announcesBlobfile r)) e) in
+    let f = not-true (announcesBlobfile r) (and-right (requestLaidOut r) (not (announcesBlobfile r)) e) in
     let g : filed r ≡ 0 = rw f in
     omega arith
 
@@ -283,7 +283,7 @@ orderLength o =
     else if ltb o 3072 then 15 + length (spaced (nameAt (o - 2817) signatureNames))
     else 64
 
-bundle-line : (s : BundlePlace) (r : Bytes) → IsRecord r → bundleRecordFault s r ≡ none → length (recordLine r) ≤ orderLength (orderOf r)
+bundle-line : (s : BundleState) (r : Bytes) → IsRecord r → bundleRecordFault s r ≡ none → length (recordLine r) ≤ orderLength (orderOf r)
 unfolding orderOf factLaidOut signatureLaidOut
 bundle-line s r h e = by-kind r h (length (recordLine r) ≤ orderLength (orderOf r)) aFact aSignature aPolicy (bundled r h s e)
   where

@@ -159,8 +159,8 @@ archiveFrom t =
     ∷ [])
 
 -- blobfile: the device mask and the template's hash
-unfoldable pub fileFrom : Bytes → Bytes
-fileFrom t =
+unfoldable pub blobfileFrom : Bytes → Bytes
+blobfileFrom t =
     let u = afterNumber "devices" t in
     flatten
     (headed 15 (hasWord "devices" t ∷ hasWord "template" u ∷ [])
@@ -185,4 +185,4 @@ decoded line =
     else if begins "OpPermissions" line then permissionsFrom (past "OpPermissions" line)
     else if begins "MakeBlob" line then blobFrom (past "MakeBlob" line)
     else if begins "MakeArchiveBlob" line then archiveFrom (past "MakeArchiveBlob" line)
-    else fileFrom (past "blobfile" line)
+    else blobfileFrom (past "blobfile" line)

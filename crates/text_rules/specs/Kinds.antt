@@ -8,9 +8,9 @@ use lib.Dec.{ltb}
 use Rattle.rules.specs.Sizes.{aclRecords, requestRecords, bundleRecords, hintRecords, dayRecords}
 use Rattle.rules.specs.Numbers.{malformed}
 use Rattle.rules.specs.Basics.{if_then_else_, Bytes, unless, recordFault, scan, fileFault}
-use Rattle.rules.specs.Acl.{AclPlace, aclStart, afterRecord, aclRecordFault, aclEnd, announcesFile}
-use Rattle.rules.specs.Request.{requestLaidOut, standsAlone, fileRequestRecord, PresentedCounts, presentedStart, presentedRecordFault, afterPresented, hintRecord}
-use Rattle.rules.specs.Bundle.{BundlePlace, bundleStart, bundleRecordFault, afterBundleRecord, bundleEnd}
+use Rattle.rules.specs.Acl.{AclState, aclStart, afterRecord, aclRecordFault, aclEnd, announcesBlobfile}
+use Rattle.rules.specs.Request.{requestLaidOut, standsAlone, blobfileRequestRecord, PresentedCounts, presentedStart, presentedRecordFault, afterPresented, hintRecord}
+use Rattle.rules.specs.Bundle.{BundleState, bundleStart, bundleRecordFault, afterBundleRecord, bundleEnd}
 use Rattle.text_rules.specs.Words.{lineOf}
 use Rattle.text_rules.specs.Decoding.{decoded}
 use Rattle.text_rules.specs.OtherWords.{recordLine}
@@ -39,7 +39,7 @@ abbrev pub kindFault : {S : Type 0} → FileKind S → Bytes → Option ℕ
 kindFault k file = fileFault (k .most) (recordsFault k) file
 
 -- An ACL. Its records are of the kinds 1 to 5 and 15, and `lineOf` and `decoded` are for these.
-abbrev pub aclKind : FileKind AclPlace
+abbrev pub aclKind : FileKind AclState
 aclKind =
     record {
       line = lineOf;
@@ -53,37 +53,37 @@ aclKind =
 
 -- Where reading a request file stands: before the request record, before the record of kind 15 that it announces, or after so many certificates and
 -- delegations.
-pub data RequestPlace : Type 0 where
-  requestDue : RequestPlace
-  blobFileDue : RequestPlace
-  presenting : PresentedCounts → RequestPlace
+pub data RequestState : Type 0 where
+  requestDue : RequestState
+  blobFileDue : RequestState
+  presenting : PresentedCounts → RequestState
 
 -- a record there
-abbrev pub requestPlaceFault : RequestPlace → Bytes → Option ℕ
-requestPlaceFault requestDue r = unless (requestLaidOut r) malformed
-requestPlaceFault blobFileDue r = unless (fileRequestRecord r) malformed
-requestPlaceFault (presenting c) r = presentedRecordFault c r
+abbrev pub requestStateFault : RequestState → Bytes → Option ℕ
+requestStateFault requestDue r = unless (requestLaidOut r) malformed
+requestStateFault blobFileDue r = unless (blobfileRequestRecord r) malformed
+requestStateFault (presenting c) r = presentedRecordFault c r
 
 -- where reading stands after it
-abbrev pub afterRequestRecord : RequestPlace → Bytes → RequestPlace
-afterRequestRecord requestDue r = if announcesFile r then blobFileDue else presenting presentedStart
+abbrev pub afterRequestRecord : RequestState → Bytes → RequestState
+afterRequestRecord requestDue r = if announcesBlobfile r then blobFileDue else presenting presentedStart
 afterRequestRecord blobFileDue r = presenting presentedStart
 afterRequestRecord (presenting c) r = presenting (afterPresented c r)
 
 -- "A missing request record .. gives 2"; "An end where kind 15 is due gives 2"
-abbrev pub requestEnd : RequestPlace → Option ℕ
+abbrev pub requestEnd : RequestState → Option ℕ
 requestEnd requestDue = some malformed
 requestEnd blobFileDue = some malformed
 requestEnd (presenting c) = none
 
 -- A request: its record, its record of kind 15, certificates, delegations.
-abbrev pub requestKind : FileKind RequestPlace
+abbrev pub requestKind : FileKind RequestState
 requestKind =
     record {
       line = recordLine;
       told = recordOf;
       start = requestDue;
-      fault = requestPlaceFault;
+      fault = requestStateFault;
       after = afterRequestRecord;
       end = requestEnd;
       most = requestRecords;
@@ -108,7 +108,7 @@ abbrev pub requestsKind : FileKind ℕ
 requestsKind = eachKind standsAlone dayRecords
 
 -- A bundle: facts, signature outcomes, a policy.
-abbrev pub bundleKind : FileKind BundlePlace
+abbrev pub bundleKind : FileKind BundleState
 bundleKind =
     record {
       line = recordLine;

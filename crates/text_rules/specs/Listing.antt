@@ -10,7 +10,7 @@ use lib.Dec.{eqb, leb}
 use Rattle.rules.specs.Sizes.{recordBytes}
 use Rattle.rules.specs.Numbers.{malformed, shortBuffer, notListing}
 use Rattle.rules.specs.Basics.{if_then_else_, Bytes, Every, same, present, unless, firstFault, scan}
-use Rattle.rules.specs.Acl.{AclPlace}
+use Rattle.rules.specs.Acl.{AclState}
 use Rattle.rules.specs.Subject.{writtenOver}
 use Rattle.text_rules.specs.Words.{newline, textBy}
 use Rattle.text_rules.specs.Decoding.{decoded}
@@ -36,12 +36,12 @@ unfoldable pub asWritten : {S : Type 0} → FileKind S → Bytes → Bool
 asWritten k line = same (k .line (k .told line)) line
 
 -- Where reading stands: the reader's state, and the next line's number.
-pub record TextPlace (S : Type 0) : Type 0 where
+pub record TextState (S : Type 0) : Type 0 where
   pub place : S
   pub line : ℕ
 
 -- "the first such line's number, from 1"
-abbrev pub textStart : {S : Type 0} → FileKind S → TextPlace S
+abbrev pub textStart : {S : Type 0} → FileKind S → TextState S
 textStart k = record { place = k .start; line = 1 }
 
 -- "the written form of a record valid there": the record has no fault in this state of the reader
@@ -49,15 +49,15 @@ unfoldable pub goodIn : {S : Type 0} → FileKind S → S → Bytes → Bool
 goodIn k s line = not (present (k .fault s (k .told line))) && asWritten k line
 
 -- the number of a line that is not
-unfoldable pub faultAtLine : {S : Type 0} → FileKind S → TextPlace S → Bytes → Option ℕ
+unfoldable pub faultAtLine : {S : Type 0} → FileKind S → TextState S → Bytes → Option ℕ
 faultAtLine k s line = unless (goodIn k (s .place) line) (s .line)
 
 -- where reading stands after a line
-unfoldable pub pastLine : {S : Type 0} → FileKind S → TextPlace S → Bytes → TextPlace S
+unfoldable pub pastLine : {S : Type 0} → FileKind S → TextState S → Bytes → TextState S
 pastLine k s line = record { place = k .after (s .place) (k .told line); line = s .line + 1 }
 
 -- "An end where kind 15 is due gives .. in a listing, 15 and the next line's number.": so for every record that is missing at the end
-unfoldable pub textEnd : {S : Type 0} → FileKind S → TextPlace S → Option ℕ
+unfoldable pub textEnd : {S : Type 0} → FileKind S → TextState S → Option ℕ
 textEnd k s = unless (not (present (k .end (s .place)))) (s .line)
 
 -- the number of the first bad line, if there is one
@@ -163,7 +163,7 @@ abbrev pub isWritten : Bytes → Bool
 isWritten = asWritten aclKind
 
 -- A good line in a state of the ACL reader.
-abbrev pub goodLine : AclPlace → Bytes → Bool
+abbrev pub goodLine : AclState → Bytes → Bool
 goodLine = goodIn aclKind
 
 -- The first bad line of a listing.

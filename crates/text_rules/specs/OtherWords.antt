@@ -8,7 +8,7 @@ use lib.Dec.{eqb}
 use Rattle.rules.specs.Sizes.{hashBytes, certificatesMax, delegationsMax, hintRecords, dayRecords}
 use Rattle.rules.specs.Basics.{if_then_else_, Bytes, ascii, bit, part, number, byte, kind, flag}
 use Rattle.rules.specs.Day.{decimal}
-use Rattle.text_rules.specs.Words.{space, hex, Word, bare, withNumber, withHash, wordsText, permissionNames, permissionWords, lineOf, fileLineMax}
+use Rattle.text_rules.specs.Words.{space, hex, Word, bare, withNumber, withHash, wordsText, permissionNames, permissionWords, lineOf, blobfileLineMax}
 
 -- a value that no name stands before
 abbrev pub alone : Bytes → Word
@@ -138,7 +138,7 @@ hintLineMax = 55
 
 -- The longest texts of a request file, of requests that stand alone, of a bundle and of hints.
 abbrev pub requestTextMax : ℕ
-requestTextMax = requestLineMax + fileLineMax + certificatesMax * certificateLineMax + delegationsMax * delegationLineMax
+requestTextMax = requestLineMax + blobfileLineMax + certificatesMax * certificateLineMax + delegationsMax * delegationLineMax
 
 abbrev pub requestsTextMax : ℕ
 requestsTextMax = dayRecords * aloneLineMax

@@ -107,8 +107,8 @@ archiveWords r =
     ∷ []
 
 -- "The listing gains a line for kind 15.": blobfile [devices N] [template HASH]
-abbrev pub fileWords : Bytes → List Word
-fileWords r = withNumber (flag 0 r) "devices" (number 4 4 r) ∷ withHash (flag 1 r) "template" (part 8 hashBytes r) ∷ []
+abbrev pub blobfileWords : Bytes → List Word
+blobfileWords r = withNumber (flag 0 r) "devices" (number 4 4 r) ∷ withHash (flag 1 r) "template" (part 8 hashBytes r) ∷ []
 
 -- A record's line, by its kind. These are meant for the records of an ACL: a kind that is none of theirs is written as the last.
 unfoldable pub lineOf : Bytes → Bytes
@@ -118,7 +118,7 @@ lineOf r =
     else if eqb (kind r) 3 then ascii "OpPermissions" ++ wordsText (permissionWords 0 permissionNames (number 4 2 r))
     else if eqb (kind r) 4 then ascii "MakeBlob" ++ wordsText (blobWords r)
     else if eqb (kind r) 5 then ascii "MakeArchiveBlob" ++ wordsText (archiveWords r)
-    else ascii "blobfile" ++ wordsText (fileWords r)
+    else ascii "blobfile" ++ wordsText (blobfileWords r)
 
 -- "one line per record": a file's text, by the line of a record
 unfoldable pub textBy : (Bytes → Bytes) → Bytes → Bytes
@@ -135,11 +135,11 @@ groupLineMax = 73
 abbrev pub limitLineMax : ℕ
 limitLineMax = 34
 
-abbrev pub fileLineMax : ℕ
-fileLineMax = 78
+abbrev pub blobfileLineMax : ℕ
+blobfileLineMax = 78
 
 abbrev pub lineMax : ℕ
 lineMax = 217
 
 abbrev pub listingMax : ℕ
-listingMax = groupsMax * (groupLineMax + limitsMax * limitLineMax + actionsMax * (lineMax + fileLineMax))
+listingMax = groupsMax * (groupLineMax + limitsMax * limitLineMax + actionsMax * (lineMax + blobfileLineMax))

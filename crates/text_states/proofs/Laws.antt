@@ -10,7 +10,7 @@ use borrow.Author.Tests.{eq-eqb, ne-eqb, lt-ltb, le-ltb, not-true, not-false}
 use Rattle.rules.specs.Numbers.{malformed, tooMany}
 use Rattle.rules.specs.Sizes.{certificatesMax, delegationsMax, dayRecords, hintRecords, listedMax}
 use Rattle.rules.specs.Basics.{if_then_else_, Bytes, flag, present, recordFault}
-use Rattle.rules.specs.Request.{requestLaidOut, fileRequestRecord, standsAlone, hintRecord, certificateRecord, delegationRecord, certificateFault, delegationFault, presentedRecordFault, afterPresented}
+use Rattle.rules.specs.Request.{requestLaidOut, blobfileRequestRecord, standsAlone, hintRecord, certificateRecord, delegationRecord, certificateFault, delegationFault, presentedRecordFault, afterPresented}
 use Rattle.rules.specs.Bundle.{orderOf, listedOrder, bundleInPlace, bundleHasRoom, bundleRecordFault, listedAfter}
 use Rattle.rules.proofs.Rows.{bad-record, full-record, sound-record}
 use Rattle.text_rules.specs.Kinds.{requestDue, blobFileDue, presenting}
@@ -48,7 +48,7 @@ module _ (rec : Bytes) (b : Bool) (e : b ≡ requestLaidOut rec) where
     request-alone x d y = step-on (ofRequest requestDue) (ofRequest (presenting (record { certificates = 0; delegations = 0 }))) rec d (rw (sym e ∙ not-false b n)) (rw (sym g ∙ y))
 
 -- its record of kind 15
-module _ (rec : Bytes) (b : Bool) (e : b ≡ fileRequestRecord rec) where
+module _ (rec : Bytes) (b : Bool) (e : b ≡ blobfileRequestRecord rec) where
   pub blobfile-bad : (x : Stepped) → x ≡ stopped malformed → not b ≡ true → x ≡ stepOf (ofRequest blobFileDue) rec
   blobfile-bad x d n = step-stop (ofRequest blobFileDue) rec malformed d (rw (sym e ∙ not-true b n))
 

@@ -3,11 +3,11 @@ use Prim.Native.Nat.{ℕ}
 use mathlib.Core.Option.{Option, none, some}
 use Rattle.rules.specs.Sizes.{requestRecords, dayRecords, bundleRecords, hintRecords}
 use Rattle.rules.specs.Basics.{Bytes}
-use Rattle.rules.specs.Bundle.{BundlePlace, bundleRecordFault, afterBundleRecord, bundleEnd}
+use Rattle.rules.specs.Bundle.{BundleState, bundleRecordFault, afterBundleRecord, bundleEnd}
 use Rattle.refusals.specs.Refusals.{refusalNumber}
 use Rattle.text_rules.specs.OtherWords.{recordLine}
 use Rattle.text_rules.specs.OtherDecoding.{recordOf}
-use Rattle.text_rules.specs.Kinds.{FileKind, RequestPlace, requestDue, blobFileDue, presenting, requestPlaceFault, afterRequestRecord, requestEnd, requestsKind, hintsKind}
+use Rattle.text_rules.specs.Kinds.{FileKind, RequestState, requestDue, blobFileDue, presenting, requestStateFault, afterRequestRecord, requestEnd, requestsKind, hintsKind}
 use Rattle.files.specs.declared.Checked.{Checked}
 use Rattle.files.specs.declared.Checked.the-variants.{Sound, Refused}
 use Rattle.text_states.specs.declared.State.{State}
@@ -16,13 +16,13 @@ use Rattle.text_states.specs.declared.Step.{Step}
 
 -- a state of one of the four readers
 pub data AnyState : Type 0 where
-  ofRequest : RequestPlace → AnyState
+  ofRequest : RequestState → AnyState
   ofRequests : ℕ → AnyState
-  ofBundle : BundlePlace → AnyState
+  ofBundle : BundleState → AnyState
   ofHints : ℕ → AnyState
 
 abbrev pub stateFault : AnyState → Bytes → Option ℕ
-stateFault (ofRequest s) r = requestPlaceFault s r
+stateFault (ofRequest s) r = requestStateFault s r
 stateFault (ofRequests n) r = requestsKind .fault n r
 stateFault (ofBundle s) r = bundleRecordFault s r
 stateFault (ofHints n) r = hintsKind .fault n r

@@ -70,7 +70,7 @@ fn blobfile_step(rec: &[u8]) -> Step
     requires { ⌜ length (now rec) ≡ recordBytes ⌝ }
     ensures { λ r. ⌜ stepAs r ≡ stepOf (ofRequest blobFileDue) (now (rec .entry)) ⌝ }
 {
-    if !request_reader::file_record(rec) {
+    if !request_reader::blobfile_record(rec) {
         return refused(Refusal::Malformed);
     }
     passed(State::Presented(0, 0))

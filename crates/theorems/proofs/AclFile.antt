@@ -9,14 +9,14 @@ use borrow.Author.Tests.{eqb-true}
 use Rattle.rules.specs.Sizes.{hashBytes}
 use Rattle.rules.specs.Basics.{Bytes, Every, part, number, kind, flag, optional, scan}
 use Rattle.rules.specs.Layout.{groupLaidOut}
-use Rattle.rules.specs.Acl.{FileRule, Action, Group, actionOf, fileRuleNext, actionsOf, groupsOf, AclPlace, aclStart, actionLaidOut, actionInPlace, placedUnder, inPlace, afterRecord, aclRecordFault, aclFaultUnder, aclFault}
+use Rattle.rules.specs.Acl.{BlobfileRule, Action, Group, actionOf, blobfileRuleNext, actionsOf, groupsOf, AclState, aclStart, actionLaidOut, actionInPlace, placedUnder, inPlace, afterRecord, aclRecordFault, aclFaultUnder, aclFault}
 use Rattle.rules.proofs.Places.{aclFrom, record-in-place, not-due}
 use Rattle.rules.proofs.Laws.{and-left, orNext-first, orNext-next}
 
 module _ (P : Bytes → Type 0) where
   -- an action that is read off a record with P, and a record of kind 15 besides where it has blobfile
   abbrev pub ActionRead : Action → Type 0
-  ActionRead a = (r : Bytes) × (f : Option FileRule) × P r × (actionLaidOut r ≡ true) × (actionOf r f ≡ a)
+  ActionRead a = (r : Bytes) × (f : Option BlobfileRule) × P r × (actionLaidOut r ≡ true) × (actionOf r f ≡ a)
 
   -- a group whose own record has P, and whose actions are read off such records
   pub record GroupRead (g : Group) : Type 0 where
@@ -27,7 +27,7 @@ module _ (P : Bytes → Type 0) where
     pub mechanismRead : g .mechanism ≡ optional (flag 1 head) (number 24 2 head)
     pub actionsRead : Every ActionRead (g .actions)
 
-  actions-read : (s : AclPlace) (rs : List Bytes) → aclFrom s rs ≡ none → Every P rs → Every ActionRead (actionsOf rs)
+  actions-read : (s : AclState) (rs : List Bytes) → aclFrom s rs ≡ none → Every P rs → Every ActionRead (actionsOf rs)
   unfolding scan actionsOf placedUnder
   actions-read s [] e h = tt
   actions-read s (r ∷ rs) e h =
@@ -40,9 +40,9 @@ module _ (P : Bytes → Type 0) where
       pick false p false q true u d f = rw (p, q, u) f
       pick false p false q false u d f =
           let t : (actionLaidOut r && actionInPlace s) ≡ true = rw (p, q) at (not-due s r u d .1) in
-          rw (p, q, u) ((r, fileRuleNext rs, h .0, and-left (actionLaidOut r) (actionInPlace s) t, refl), f)
+          rw (p, q, u) ((r, blobfileRuleNext rs, h .0, and-left (actionLaidOut r) (actionInPlace s) t, refl), f)
 
-  groups-read : (s : AclPlace) (rs : List Bytes) → aclFrom s rs ≡ none → Every P rs → Every GroupRead (groupsOf rs)
+  groups-read : (s : AclState) (rs : List Bytes) → aclFrom s rs ≡ none → Every P rs → Every GroupRead (groupsOf rs)
   unfolding scan groupsOf placedUnder
   groups-read s [] e h = tt
   groups-read s (r ∷ rs) e h =

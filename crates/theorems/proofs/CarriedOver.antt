@@ -14,7 +14,7 @@ use Rattle.rules.specs.Sizes.{Capacity, today, aclRecordsUnder}
 use Rattle.rules.specs.Numbers.{badLength, malformed, tooMany}
 use Rattle.rules.specs.Basics.{if_then_else_, Bytes, all, Every, byte, kind, scan, records, fits, fileFault}
 use Rattle.rules.specs.Layout.{counterUnder, limitUnder}
-use Rattle.rules.specs.Acl.{Limit, limitOf, limitsOf, Group, groupsOf, aclOf, AclPlace, aclStart, fileRecord, placedUnder, inPlaceUnder, hasRoomUnder, afterRecord, recordFaultUnder, aclEnd, aclFaultUnder, aclFileFaultUnder}
+use Rattle.rules.specs.Acl.{Limit, limitOf, limitsOf, Group, groupsOf, aclOf, AclState, aclStart, blobfileRecord, placedUnder, inPlaceUnder, hasRoomUnder, afterRecord, recordFaultUnder, aclEnd, aclFaultUnder, aclFileFaultUnder}
 use Rattle.rules.specs.Request.{Request, requestOf, Hint, hintsOf}
 use Rattle.rules.specs.Ledger.{Ledger, raised, raisedBy, charge}
 use Rattle.rules.specs.Grant.{groupAdmits, limitLeft, limitsLeft}
@@ -84,7 +84,7 @@ module _ (l m : Ledger) (h : ReadsAlike l m) (km0 : Bytes) (q : Request) where
       (ap₂ (λ (a b : ℕ). tooEarly (record { counts = []; counters = []; loaded = a; last = b }) q) (h .loaded) (h .last)) (lowest-alike 0 gs)
 
 -- An ACL that is read without fault under some sizes fits them. A record in its place, for which there is room:
-good-record : (z : Capacity) (s : AclPlace) (r : Bytes) → recordFaultUnder z s r ≡ none → (inPlaceUnder z s r ≡ true) × (hasRoomUnder z s r ≡ true)
+good-record : (z : Capacity) (s : AclState) (r : Bytes) → recordFaultUnder z s r ≡ none → (inPlaceUnder z s r ≡ true) × (hasRoomUnder z s r ≡ true)
 unfolding recordFaultUnder
 good-record z s r e =
     let w = fault-none-every _ e in
@@ -94,15 +94,15 @@ good-record z s r e =
 abbrev LimitGood : Capacity → Bytes → Type 0
 LimitGood z r = eqb (kind r) 2 ≡ true → limitUnder z r ≡ true
 
-limit-good : (z : Capacity) (s : AclPlace) (r : Bytes) → inPlaceUnder z s r ≡ true → LimitGood z r
-unfolding inPlaceUnder placedUnder fileRecord
+limit-good : (z : Capacity) (s : AclState) (r : Bytes) → inPlaceUnder z s r ≡ true → LimitGood z r
+unfolding inPlaceUnder placedUnder blobfileRecord
 limit-good z s r e k = pick (s .fileDue) e (eqb-true (kind r) 2 k)
   where
-    pick : (b : Bool) → (if b then fileRecord r else placedUnder z s r) ≡ true → kind r ≡ 2 → limitUnder z r ≡ true
+    pick : (b : Bool) → (if b then blobfileRecord r else placedUnder z s r) ≡ true → kind r ≡ 2 → limitUnder z r ≡ true
     pick true e q = let t = eqb-true (kind r) 15 (search conj) in absurd (omega arith)
     pick false e q = and-left (limitUnder z r) _ (rw q at e)
 
-limits-good : (z : Capacity) (s : AclPlace) (rs : List Bytes) → scan (recordFaultUnder z) afterRecord aclEnd s rs ≡ none → Every (LimitGood z) rs
+limits-good : (z : Capacity) (s : AclState) (rs : List Bytes) → scan (recordFaultUnder z) afterRecord aclEnd s rs ≡ none → Every (LimitGood z) rs
 unfolding scan
 limits-good z s [] e = tt
 limits-good z s (r ∷ rs) e =
@@ -130,15 +130,15 @@ groups-within z (r ∷ rs) h = pick (eqb (kind r) 1) refl (groups-within z rs (h
     pick true e f = rw e (limits-within z rs (h .1), f)
     pick false e f = rw e f
 
-after-group : (s : AclPlace) (r : Bytes) → eqb (kind r) 1 ≡ true → afterRecord s r .groups ≡ s .groups + 1
+after-group : (s : AclState) (r : Bytes) → eqb (kind r) 1 ≡ true → afterRecord s r .groups ≡ s .groups + 1
 unfolding afterRecord
 after-group s r e = rw e
 
-group-room : (z : Capacity) (s : AclPlace) (r : Bytes) → eqb (kind r) 1 ≡ true → hasRoomUnder z s r ≡ true → s .groups < z .groups
+group-room : (z : Capacity) (s : AclState) (r : Bytes) → eqb (kind r) 1 ≡ true → hasRoomUnder z s r ≡ true → s .groups < z .groups
 unfolding hasRoomUnder
 group-room z s r q e = ltb-true (s .groups) (z .groups) (rw q at e)
 
-groups-few : (z : Capacity) (s : AclPlace) (rs : List Bytes) → scan (recordFaultUnder z) afterRecord aclEnd s rs ≡ none → s .groups ≤ z .groups → s .groups + length (groupsOf rs) ≤ z .groups
+groups-few : (z : Capacity) (s : AclState) (rs : List Bytes) → scan (recordFaultUnder z) afterRecord aclEnd s rs ≡ none → s .groups ≤ z .groups → s .groups + length (groupsOf rs) ≤ z .groups
 unfolding scan groupsOf
 groups-few z s [] e h = omega arith
 groups-few z s (r ∷ rs) e h =

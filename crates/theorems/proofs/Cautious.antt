@@ -14,7 +14,7 @@ use Rattle.rules.specs.Sizes.{hashBytes, groupsMax, aclRecords, bundleRecords, 
 use Rattle.rules.specs.Numbers.{badLength, byCardset}
 use Rattle.rules.specs.Basics.{Bytes, implies, any, all, Every, same, part, number, kind, flag, optional, present, bothSame, matches, matchesNumber, records, fits, firstFault}
 use Rattle.rules.specs.Layout.{mechanismAt, certifierMechanism, groupLaidOut, tokenParametersAt, tokenParametersIf, blobActionLaidOut}
-use Rattle.rules.specs.Acl.{Parameters, BlobRule, FileRule, Action, permissions, makeBlob, makeArchive, Group, parametersAt, blobRuleOf, actionOf, actionLaidOut, aclOf, aclFault}
+use Rattle.rules.specs.Acl.{Parameters, BlobRule, BlobfileRule, Action, permissions, makeBlob, makeArchive, Group, parametersAt, blobRuleOf, actionOf, actionLaidOut, aclOf, aclFault}
 use Rattle.rules.specs.Request.{Token, WorkingBlob, workingBlob, Certificate, Request, requestFrom, requestOf, requestLaidOut, requestRecordFault, requestFault}
 use Rattle.rules.specs.Chain.{serves, vouched}
 use Rattle.rules.specs.Ledger.{Ledger, loadedAt}
@@ -111,7 +111,7 @@ rule-fits Q r w o e =
     }
 
 -- an action that is read off a record, if it is a MakeBlob action
-blob-read : (r : Bytes) (f : Option FileRule) (rule : BlobRule) (file : Option FileRule) → actionLaidOut r ≡ true → actionOf r f ≡ makeBlob rule file → (blobActionLaidOut r ≡ true) × (blobRuleOf r ≡ rule)
+blob-read : (r : Bytes) (f : Option BlobfileRule) (rule : BlobRule) (file : Option BlobfileRule) → actionLaidOut r ≡ true → actionOf r f ≡ makeBlob rule file → (blobActionLaidOut r ≡ true) × (blobRuleOf r ≡ rule)
 unfolding actionLaidOut actionOf
 blob-read r f rule file e d = pick (eqb (kind r) 3) refl (eqb (kind r) 4) refl
   where
@@ -286,12 +286,12 @@ any-at : {A : Type 0} (p : A → Bool) (xs : List A) (i : ℕ) (x : A) → getEl
 any-at p xs i x e d = every-at (λ y. p y ≡ true → any p xs ≡ true) xs i x (any-here p xs) e d
 
 -- a rule of a checked group passes the desk's steps
-rule-passed : (b : List Bytes) (g : Group) (i : ℕ) (r : BlobRule) (f : Option FileRule) → groupFailure b g ≡ none → officersGroup b g ≡ false → getElem? (g .actions) i ≡ some (makeBlob r f) → blobFailure (moduleKey b) r ≡ none
+rule-passed : (b : List Bytes) (g : Group) (i : ℕ) (r : BlobRule) (f : Option BlobfileRule) → groupFailure b g ≡ none → officersGroup b g ≡ false → getElem? (g .actions) i ≡ some (makeBlob r f) → blobFailure (moduleKey b) r ≡ none
 unfolding failureUnder
 rule-passed b g i r f e d x = every-at (λ a. actionFailure b a ≡ none) (g .actions) i (makeBlob r f) (fault-none-map (actionFailure b) (g .actions) (rw d at e)) x
 
 -- an action of protection at most 3 is a MakeBlob action
-is-blob : (a : Action) → actionProtection a ≤ byCardset → (r : BlobRule) × (f : Option FileRule) × (a ≡ makeBlob r f)
+is-blob : (a : Action) → actionProtection a ≤ byCardset → (r : BlobRule) × (f : Option BlobfileRule) × (a ≡ makeBlob r f)
 unfolding actionProtection
 is-blob (permissions bits) h = absurd (omega arith)
 is-blob (makeBlob r f) h = (r, f, refl)
@@ -317,7 +317,7 @@ permits-read acl km0 file ledger loaded q files reads late i g gi admitting cert
     named : (k : ℕ) (h : Group) → Permitted (requestFiles km0 acl file) (loadedAt ledger loaded) km0 (aclOf acl) q k h → (k : ℕ) × (request (loadedAt ledger loaded) km0 acl file .answer ≡ permit k)
     named k h p = (k, rw (permit-comes (loadedAt ledger loaded) km0 acl file k h (rw reads p)))
 
-admits-blob : (km0 : Bytes) (w : WorkingBlob) (r : BlobRule) (f : Option FileRule) → f ≡ none → admitsBlob km0 r w ≡ true → admits km0 (workingBlob w none) (makeBlob r f) ≡ true
+admits-blob : (km0 : Bytes) (w : WorkingBlob) (r : BlobRule) (f : Option BlobfileRule) → f ≡ none → admitsBlob km0 r w ≡ true → admits km0 (workingBlob w none) (makeBlob r f) ≡ true
 unfolding admits admitsWorking
 admits-blob km0 w r f n e = rw n (and-both (admitsBlob km0 r w) true e refl)
 
@@ -342,11 +342,11 @@ acl-records acl = every-zip Whole (λ x. Octets acl → Octets x) (records acl) 
     later (x ∷ rs) h = (λ q. h q .0, later rs (λ q. h q .1))
 
 -- a predicate of every MakeBlob action, at one of them
-blob-at : (P : BlobRule → Option FileRule → Type 0) (gs : List Group) (i : ℕ) (g : Group) (j : ℕ) (r : BlobRule) (f : Option FileRule) → EveryBlob P gs → getElem? gs i ≡ some g → getElem? (g .actions) j ≡ some (makeBlob r f) → P r f
+blob-at : (P : BlobRule → Option BlobfileRule → Type 0) (gs : List Group) (i : ℕ) (g : Group) (j : ℕ) (r : BlobRule) (f : Option BlobfileRule) → EveryBlob P gs → getElem? gs i ≡ some g → getElem? (g .actions) j ≡ some (makeBlob r f) → P r f
 blob-at P gs i g j r f h e d = every-at (IfBlob P) (g .actions) j (makeBlob r f) (every-at (λ g. Every (IfBlob P) (g .actions)) gs i g h e) d
 
 -- a rule of a sound ACL file
-rule-read : (acl : Bytes) (i : ℕ) (g : Group) (j : ℕ) (r : BlobRule) (f : Option FileRule) → aclFault (records acl) ≡ none → getElem? (aclOf acl) i ≡ some g → getElem? (g .actions) j ≡ some (makeBlob r f) → RuleFits (Octets acl) r
+rule-read : (acl : Bytes) (i : ℕ) (g : Group) (j : ℕ) (r : BlobRule) (f : Option BlobfileRule) → aclFault (records acl) ≡ none → getElem? (aclOf acl) i ≡ some g → getElem? (g .actions) j ≡ some (makeBlob r f) → RuleFits (Octets acl) r
 rule-read acl i g j r f sound gi rj =
     let group = every-at (GroupRead (Read acl)) (aclOf acl) i g (acl-read (Read acl) (records acl) sound (acl-records acl)) gi in
     let read = every-at (ActionRead (Read acl)) (g .actions) j (makeBlob r f) (group .actionsRead) rj in
@@ -359,14 +359,14 @@ record Chosen (b : List Bytes) (gs : List Group) : Type 0 where
   group : Group
   place : ℕ
   rule : BlobRule
-  file : Option FileRule
+  file : Option BlobfileRule
   groupThere : getElem? gs at ≡ some group
   checked : officersGroup b group ≡ false
   ruleThere : getElem? (group .actions) place ≡ some (makeBlob rule file)
   least : actionProtection (makeBlob rule file) ≡ keyProtection b gs
 
 -- "Protection grading stays the same."
-unstored : (r : BlobRule) (f : Option FileRule) → actionProtection (makeBlob r none) ≡ actionProtection (makeBlob r f)
+unstored : (r : BlobRule) (f : Option BlobfileRule) → actionProtection (makeBlob r none) ≡ actionProtection (makeBlob r f)
 unfolding actionProtection
 unstored r f = refl
 

@@ -13,10 +13,10 @@ use borrow.Author.Tests.{eq-eqb, leb-true, le-leb, lt-ltb}
 use Rattle.rules.specs.Sizes.{actionsMax, hintRecords}
 use Rattle.rules.specs.Numbers.{badLength}
 use Rattle.rules.specs.Basics.{Bytes, implies, any, all, allZero, Every, bit, within, unless, firstFault, eachFault, fileFault}
-use Rattle.rules.specs.Acl.{Parameters, BlobRule, ArchiveRule, FileRule, Action, permissions, makeBlob, makeArchive, Limit, Group, aclOf, aclFileFault}
+use Rattle.rules.specs.Acl.{Parameters, BlobRule, ArchiveRule, BlobfileRule, Action, permissions, makeBlob, makeArchive, Limit, Group, aclOf, aclFileFault}
 use Rattle.rules.specs.Request.{Hint, hintOf, hintsOf, hintFault, hintsFault, hintsFileFault}
 use Rattle.rules.specs.Grant.{tighter}
-use Rattle.rules.specs.Narrow.{kept, keptNumber, keptParameters, blobNoWider, archiveNoWider, keptDevices, fileNoWider, noWider, noWiderThan, actionsNoWider, answers, isAnswered, groupNarrows, narrowsSource, narrowsFrom, narrows}
+use Rattle.rules.specs.Narrow.{kept, keptNumber, keptParameters, blobNoWider, archiveNoWider, keptDevices, blobfileNoWider, noWider, noWiderThan, actionsNoWider, answers, isAnswered, groupNarrows, narrowsSource, narrowsFrom, narrows}
 use Rattle.rules.proofs.Laws.{and-left, and-right, and-both, or-right, implication, allBelow-all, same-refl, every-at, every-map, any-here, fault-none-every}
 use Rattle.rules.specs.Fits.{GroupFits}
 use Rattle.rules.proofs.AclSizes.{acl-fits}
@@ -98,7 +98,7 @@ kept-devices-self : (o : Option ℕ) → keptDevices o o ≡ true
 kept-devices-self none = refl
 kept-devices-self (some n) = within-self 32 n
 
-file-self : (o : Option FileRule) → fileNoWider o o ≡ true
+file-self : (o : Option BlobfileRule) → blobfileNoWider o o ≡ true
 file-self none = refl
 file-self (some f) =
     let x = kept-devices-self (f .devices) in
@@ -108,8 +108,8 @@ file-self (some f) =
 pub action-self : (a : Action) → noWider a a ≡ true
 unfolding noWider
 action-self (permissions n) = within-self 16 n
-action-self (makeBlob b f) = and-both (blobNoWider b b) (fileNoWider f f) (blob-self b) (file-self f)
-action-self (makeArchive a f) = and-both (archiveNoWider a a) (fileNoWider f f) (archive-self a) (file-self f)
+action-self (makeBlob b f) = and-both (blobNoWider b b) (blobfileNoWider f f) (blob-self b) (file-self f)
+action-self (makeArchive a f) = and-both (archiveNoWider a a) (blobfileNoWider f f) (archive-self a) (file-self f)
 
 pub limit-self : (m : Limit) → answers m m ≡ true
 unfolding answers

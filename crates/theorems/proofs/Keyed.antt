@@ -9,7 +9,7 @@ use mathlib.Core.Bool.{Bool, true, false, false≢true}
 use lib.Dec.{eqb}
 use Rattle.rules.specs.Numbers.{malformed, openArchive}
 use Rattle.rules.specs.Basics.{Bytes, Every, kind, flag, optional, present, scan, records}
-use Rattle.rules.specs.Acl.{FileRule, actionOf, fileRuleNext, actionsOf, groupOf, groupsOf, aclOf, AclPlace, aclStart, actionLaidOut, actionInPlace, fileRecord, placedUnder, inPlaceUnder, inPlace, keyed, afterRecord, recordFaultUnder, aclRecordFault, aclEnd, aclFaultUnder, aclFault}
+use Rattle.rules.specs.Acl.{BlobfileRule, actionOf, blobfileRuleNext, actionsOf, groupOf, groupsOf, aclOf, AclState, aclStart, actionLaidOut, actionInPlace, blobfileRecord, placedUnder, inPlaceUnder, inPlace, keyed, afterRecord, recordFaultUnder, aclRecordFault, aclEnd, aclFaultUnder, aclFault}
 use Rattle.rules.proofs.Laws.{never, and-left, implied, unless-passed, orNext-first, orNext-next, fault-none-every}
 use Rattle.theorems.specs.Narrowings.{HasKey, Closed}
 
@@ -23,7 +23,7 @@ announced true a e = refl
 announced false a e = e
 
 -- an action record that is in place, and keyed in an open group
-action-keyed : (r : Bytes) (f : Option FileRule) → actionLaidOut r ≡ true → keyed true r ≡ true → HasKey (actionOf r f)
+action-keyed : (r : Bytes) (f : Option BlobfileRule) → actionLaidOut r ≡ true → keyed true r ≡ true → HasKey (actionOf r f)
 unfolding actionLaidOut actionOf keyed
 action-keyed r f e d = pick (eqb (kind r) 3) refl (eqb (kind r) 4) refl (eqb (kind r) 5) refl
   where
@@ -34,8 +34,8 @@ action-keyed r f e d = pick (eqb (kind r) 3) refl (eqb (kind r) 4) refl (eqb (ki
     pick false x false y false z = let g : false ≡ true = rw (x, y, z) at e in absurd (false≢true g)
 
 -- a record in place that is neither a group, nor a limit, nor of kind 15 is an action
-action-placed : (s : AclPlace) (r : Bytes) → inPlace s r ≡ true → eqb (kind r) 1 ≡ false → eqb (kind r) 2 ≡ false → eqb (kind r) 15 ≡ false → actionLaidOut r ≡ true
-unfolding inPlaceUnder fileRecord placedUnder
+action-placed : (s : AclState) (r : Bytes) → inPlace s r ≡ true → eqb (kind r) 1 ≡ false → eqb (kind r) 2 ≡ false → eqb (kind r) 15 ≡ false → actionLaidOut r ≡ true
+unfolding inPlaceUnder blobfileRecord placedUnder
 action-placed s r e x y z = pick (s .fileDue) refl
   where
     pick : (b : Bool) → s .fileDue ≡ b → actionLaidOut r ≡ true
@@ -43,11 +43,11 @@ action-placed s r e x y z = pick (s .fileDue) refl
     pick false d = and-left (actionLaidOut r) (actionInPlace s) (rw (d, x, y) at e)
 
 -- the rest of an ACL read from a place without fault
-abbrev read : AclPlace → List Bytes → Option ℕ
+abbrev read : AclState → List Bytes → Option ℕ
 read s rs = scan aclRecordFault afterRecord aclEnd s rs
 
 -- its groups are closed; and, where the group begun is open, so are the actions left of that
-read-closed : (s : AclPlace) (rs : List Bytes) → read s rs ≡ none → Every Closed (groupsOf rs) × (s .isOpen ≡ true → Every HasKey (actionsOf rs))
+read-closed : (s : AclState) (rs : List Bytes) → read s rs ≡ none → Every Closed (groupsOf rs) × (s .isOpen ≡ true → Every HasKey (actionsOf rs))
 unfolding scan recordFaultUnder afterRecord groupsOf actionsOf
 read-closed s [] e = (tt, λ o. tt)
 read-closed s (r ∷ rs) e =
@@ -67,7 +67,7 @@ read-closed s (r ∷ rs) e =
     pick false x false y true z p k f = (rw x (f .0), λ o. rw (x, y, z) (f .1 (rw (x, y, z) o)))
     pick false x false y false z p k f = (
       rw x (f .0),
-      λ o. rw (x, y, z) (action-keyed r (fileRuleNext rs) (action-placed s r p x y z) (rw o at k), f .1 (rw (x, y, z) o)),
+      λ o. rw (x, y, z) (action-keyed r (blobfileRuleNext rs) (action-placed s r p x y z) (rw o at k), f .1 (rw (x, y, z) o)),
     )
 
 -- Every group of an ACL that has no fault is closed.

@@ -14,7 +14,7 @@ use Rattle.rules.specs.Sizes.{recordBytes, Capacity, today, aclRecordsUnder}
 use Rattle.rules.specs.Numbers.{badLength, malformed, tooMany, openArchive}
 use Rattle.rules.specs.Basics.{if_then_else_, Bytes, kind, byte, fits, unless, orNext, firstFault, scan, fileFault, records}
 use Rattle.rules.specs.Layout.{counterUnder, limitUnder}
-use Rattle.rules.specs.Acl.{AclPlace, aclStart, limitKey, limitInPlace, fileRecord, placedUnder, inPlaceUnder, hasRoomUnder, keyed, afterRecord, recordFaultUnder, aclEnd, aclFaultUnder, aclFileFaultUnder, aclFileFault}
+use Rattle.rules.specs.Acl.{AclState, aclStart, limitKey, limitInPlace, blobfileRecord, placedUnder, inPlaceUnder, hasRoomUnder, keyed, afterRecord, recordFaultUnder, aclEnd, aclFaultUnder, aclFileFaultUnder, aclFileFault}
 use Rattle.rules.specs.Request.{hintOf, hintsOf, hintsFault, hintsFileFault}
 use Rattle.rules.specs.Gate.{request, clear, narrow, expand}
 use Rattle.rules.proofs.Laws.{and-left, and-right, and-both, unless-passed, orNext-first, orNext-next, fault-none-every, chunks-length}
@@ -77,7 +77,7 @@ module _ (small large : Capacity) (more : NoSmaller small large) where
       let a : counterUnder large (byte 4 r) (byte 5 r) ≡ true = counter-more (byte 4 r) (byte 5 r) (search conj) in
       search conj
 
-  placed-more : (s : AclPlace) (r : Bytes) → placedUnder small s r ≡ true → placedUnder large s r ≡ true
+  placed-more : (s : AclState) (r : Bytes) → placedUnder small s r ≡ true → placedUnder large s r ≡ true
   unfolding placedUnder
   placed-more s r e = pick (eqb (kind r) 1) refl (eqb (kind r) 2) refl
     where
@@ -88,15 +88,15 @@ module _ (small large : Capacity) (more : NoSmaller small large) where
           rw (x, y) (and-both (limitUnder large r) _ (limit-more r (and-left (limitUnder small r) _ d)) (and-right (limitUnder small r) _ d))
       pick false x false y = rw (x, y) (rw (x, y) at e)
 
-  place-more : (s : AclPlace) (r : Bytes) → inPlaceUnder small s r ≡ true → inPlaceUnder large s r ≡ true
+  place-more : (s : AclState) (r : Bytes) → inPlaceUnder small s r ≡ true → inPlaceUnder large s r ≡ true
   unfolding inPlaceUnder
   place-more s r e = pick (s .fileDue) e
     where
-      pick : (b : Bool) → (if b then fileRecord r else placedUnder small s r) ≡ true → (if b then fileRecord r else placedUnder large s r) ≡ true
+      pick : (b : Bool) → (if b then blobfileRecord r else placedUnder small s r) ≡ true → (if b then blobfileRecord r else placedUnder large s r) ≡ true
       pick true e = e
       pick false e = placed-more s r e
 
-  room-more : (s : AclPlace) (r : Bytes) → hasRoomUnder small s r ≡ true → hasRoomUnder large s r ≡ true
+  room-more : (s : AclState) (r : Bytes) → hasRoomUnder small s r ≡ true → hasRoomUnder large s r ≡ true
   unfolding hasRoomUnder
   room-more s r e = pick (eqb (kind r) 1) refl
     where
@@ -104,14 +104,14 @@ module _ (small large : Capacity) (more : NoSmaller small large) where
       pick true x = rw x (ltb-more (s .groups) (small .groups) (large .groups) (more .groups) (rw x at e))
       pick false x = rw x (rw x at e)
 
-  pub record-more : (s : AclPlace) (r : Bytes) → recordFaultUnder small s r ≡ none → recordFaultUnder large s r ≡ none
+  pub record-more : (s : AclState) (r : Bytes) → recordFaultUnder small s r ≡ none → recordFaultUnder large s r ≡ none
   unfolding recordFaultUnder firstFault
   record-more s r e =
       let t = fault-none-every (unless (inPlaceUnder small s r) malformed ∷ unless (hasRoomUnder small s r) tooMany ∷ unless (keyed (s .isOpen) r) openArchive ∷ []) e in
       passed (inPlaceUnder large s r) malformed _ (place-more s r (unless-passed (inPlaceUnder small s r) malformed (t .0)))
       (passed (hasRoomUnder large s r) tooMany _ (room-more s r (unless-passed (hasRoomUnder small s r) tooMany (t .1 .0))) (rw (t .1 .1 .0)))
 
-  scan-more : (s : AclPlace) (rs : List Bytes) → scan (recordFaultUnder small) afterRecord aclEnd s rs ≡ none → scan (recordFaultUnder large) afterRecord aclEnd s rs ≡ none
+  scan-more : (s : AclState) (rs : List Bytes) → scan (recordFaultUnder small) afterRecord aclEnd s rs ≡ none → scan (recordFaultUnder large) afterRecord aclEnd s rs ≡ none
   unfolding scan
   scan-more s [] e = e
   scan-more s (r ∷ rs) e =

@@ -11,10 +11,10 @@ use lib.ListN.{getElem?}
 use lib.Dec.{eqb, leb, ltb}
 use borrow.Author.Tests.{eqb-true, eq-eqb, leb-true, le-leb, ltb-true}
 use Rattle.rules.specs.Basics.{Bytes, implies, Every, same, bit, within, present, bothSame, matches}
-use Rattle.rules.specs.Acl.{Parameters, BlobRule, ArchiveRule, FileRule, Action, permissions, makeBlob, makeArchive, Group}
-use Rattle.rules.specs.Request.{Token, WorkingBlob, RecoveryBlob, BlobFile, Wanted, operation, workingBlob, recoveryBlob, Hint}
-use Rattle.rules.specs.Grant.{timeAnswers, tighter, meets, nullKey, admitsDirect, admitsToken, admitsKey, admitsUnder, admitsBlob, admitsArchive, admitsDevice, admitsTemplate, admitsFile, admits, admitsUse, admitsWorking, admitsRecovery}
-use Rattle.rules.specs.Narrow.{kept, keptParameters, blobNoWider, archiveNoWider, keptDevices, fileNoWider, noWider, noWiderThan, actionsNoWider, groupNarrows, narrowsSource, narrowsFrom}
+use Rattle.rules.specs.Acl.{Parameters, BlobRule, ArchiveRule, BlobfileRule, Action, permissions, makeBlob, makeArchive, Group}
+use Rattle.rules.specs.Request.{Token, WorkingBlob, RecoveryBlob, Blobfile, Wanted, operation, workingBlob, recoveryBlob, Hint}
+use Rattle.rules.specs.Grant.{timeAnswers, tighter, meets, nullKey, admitsDirect, admitsToken, admitsKey, admitsUnder, admitsBlob, admitsArchive, admitsDevice, admitsTemplate, admitsBlobfile, admits, admitsUse, admitsWorking, admitsRecovery}
+use Rattle.rules.specs.Narrow.{kept, keptParameters, blobNoWider, archiveNoWider, keptDevices, blobfileNoWider, noWider, noWiderThan, actionsNoWider, groupNarrows, narrowsSource, narrowsFrom}
 use Rattle.rules.proofs.Laws.{never, and-left, and-right, and-both, or-cases, or-left, or-right, implied, implication, every-at, allBelow-at, allBelow-all, same-eq, eq-same, bothSame-eq}
 use Rattle.theorems.specs.Safety.{KnownUse, Confined, Safe}
 
@@ -135,7 +135,7 @@ template-wider n none used e p = refl
 template-wider none (some o) used e p = absurd (false≢true e)
 template-wider (some n) (some o) used e p = rw (same-eq n o e) at p
 
-file-wider : (n o : Option FileRule) (f : Option BlobFile) → fileNoWider n o ≡ true → admitsFile n f ≡ true → admitsFile o f ≡ true
+file-wider : (n o : Option BlobfileRule) (f : Option Blobfile) → blobfileNoWider n o ≡ true → admitsBlobfile n f ≡ true → admitsBlobfile o f ≡ true
 file-wider none none f e d = d
 file-wider none (some o) f e d = absurd (false≢true e)
 file-wider (some n) none f e d = absurd (false≢true e)
@@ -156,9 +156,9 @@ admits-wider km0 (operation p) (makeArchive n g) o k e d = absurd (false≢true 
 admits-wider km0 (workingBlob w f) (permissions n) o k e d = absurd (false≢true d)
 admits-wider km0 (workingBlob w f) (makeBlob n g) (permissions o) k e d = e
 admits-wider km0 (workingBlob w f) (makeBlob n g) (makeBlob o h) k e d =
-    and-both (admitsBlob km0 o w) (admitsFile h f)
-    (blob-wider n o (and-left (blobNoWider n o) (fileNoWider g h) e) km0 w (and-left (admitsBlob km0 n w) (admitsFile g f) d))
-    (file-wider g h f (and-right (blobNoWider n o) (fileNoWider g h) e) (and-right (admitsBlob km0 n w) (admitsFile g f) d))
+    and-both (admitsBlob km0 o w) (admitsBlobfile h f)
+    (blob-wider n o (and-left (blobNoWider n o) (blobfileNoWider g h) e) km0 w (and-left (admitsBlob km0 n w) (admitsBlobfile g f) d))
+    (file-wider g h f (and-right (blobNoWider n o) (blobfileNoWider g h) e) (and-right (admitsBlob km0 n w) (admitsBlobfile g f) d))
 admits-wider km0 (workingBlob w f) (makeBlob n g) (makeArchive o h) k e d = e
 admits-wider km0 (workingBlob w f) (makeArchive n g) o k e d = absurd (false≢true d)
 admits-wider km0 (recoveryBlob w f) (permissions n) o k e d = absurd (false≢true d)
@@ -166,9 +166,9 @@ admits-wider km0 (recoveryBlob w f) (makeBlob n g) o k e d = absurd (false≢tru
 admits-wider km0 (recoveryBlob w f) (makeArchive n g) (permissions o) k e d = e
 admits-wider km0 (recoveryBlob w f) (makeArchive n g) (makeBlob o h) k e d = e
 admits-wider km0 (recoveryBlob w f) (makeArchive n g) (makeArchive o h) k e d =
-    and-both (admitsArchive o w) (admitsFile h f)
-    (archive-wider n o w (and-left (archiveNoWider n o) (fileNoWider g h) e) (and-left (admitsArchive n w) (admitsFile g f) d))
-    (file-wider g h f (and-right (archiveNoWider n o) (fileNoWider g h) e) (and-right (admitsArchive n w) (admitsFile g f) d))
+    and-both (admitsArchive o w) (admitsBlobfile h f)
+    (archive-wider n o w (and-left (archiveNoWider n o) (blobfileNoWider g h) e) (and-left (admitsArchive n w) (admitsBlobfile g f) d))
+    (file-wider g h f (and-right (archiveNoWider n o) (blobfileNoWider g h) e) (and-right (admitsArchive n w) (admitsBlobfile g f) d))
 
 -- If all that the source's actions admit is good (of a KM0 and a wanted thing), so is all that the new group's actions admit.
 module _ (Good : Bytes → Wanted → Type 0) where

@@ -7,11 +7,11 @@ use mathlib.Core.Option.{Option, none, some}
 use mathlib.Core.Bool.{true, not, _&&_, false≢true}
 use Rattle.rules.specs.Sizes.{Capacity, today}
 use Rattle.rules.specs.Basics.{Bytes, present, same, scan}
-use Rattle.rules.specs.Acl.{AclPlace, recordFaultUnder}
+use Rattle.rules.specs.Acl.{AclState, recordFaultUnder}
 use Rattle.rules.proofs.Laws.{never, and-left, and-right, unless-passed, orNext-first, orNext-next}
 use Rattle.text_rules.specs.Words.{lineOf}
 use Rattle.text_rules.specs.Decoding.{decoded}
-use Rattle.text_rules.specs.Listing.{linesOf, TextPlace, textStart, asWritten, goodIn, faultAtLine, pastLine, textEnd, textFault, bytesBy, readAs, readingOf, readText, readListing}
+use Rattle.text_rules.specs.Listing.{linesOf, TextState, textStart, asWritten, goodIn, faultAtLine, pastLine, textEnd, textFault, bytesBy, readAs, readingOf, readText, readListing}
 use Rattle.theorems.specs.Capacity.{base, NoSmaller, aclKindUnder, readListingUnder}
 use Rattle.theorems.proofs.Larger.{record-more, base-smaller}
 
@@ -24,7 +24,7 @@ not-present : (o : Option ℕ) → not (present o) ≡ true → o ≡ none
 not-present none e = refl
 not-present (some n) e = absurd (false≢true e)
 
-line-more : (small large : Capacity) → NoSmaller small large → (s : TextPlace AclPlace) (line : Bytes) → faultAtLine (aclKindUnder small) s line ≡ none → faultAtLine (aclKindUnder large) s line ≡ none
+line-more : (small large : Capacity) → NoSmaller small large → (s : TextState AclState) (line : Bytes) → faultAtLine (aclKindUnder small) s line ≡ none → faultAtLine (aclKindUnder large) s line ≡ none
 unfolding faultAtLine goodIn asWritten
 line-more small large more s line e =
     let a = unless-passed (not (present (recordFaultUnder small (s .place) (decoded line))) && same (lineOf (decoded line)) line) (s .line) e in
@@ -33,7 +33,7 @@ line-more small large more s line e =
     let d = and-right (not (present (recordFaultUnder small (s .place) (decoded line)))) (same (lineOf (decoded line)) line) a in
     rw (c, d)
 
-lines-more : (small large : Capacity) → NoSmaller small large → (s : TextPlace AclPlace) (lines : List Bytes)
+lines-more : (small large : Capacity) → NoSmaller small large → (s : TextState AclState) (lines : List Bytes)
     → scan (faultAtLine (aclKindUnder small)) (pastLine (aclKindUnder small)) (textEnd (aclKindUnder small)) s lines ≡ none
     → scan (faultAtLine (aclKindUnder large)) (pastLine (aclKindUnder large)) (textEnd (aclKindUnder large)) s lines ≡ none
 unfolding scan pastLine textEnd

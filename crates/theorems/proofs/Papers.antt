@@ -9,7 +9,7 @@ use mathlib.Core.Path.{_≡_}
 use lib.Dec.{eqb}
 use lib.ListN.{drop, getD, getElem?, length, replicate, take}
 use Rattle.rules.proofs.Samples.{blob, bundle, hash, openGroup}
-use Rattle.rules.specs.Acl.{Action, Group, aclFault, aclFileFault, aclFileFaultUnder, aclOf, announcesFile, fileRecord, fileRuleNext, fileRuleOf}
+use Rattle.rules.specs.Acl.{Action, Group, aclFault, aclFileFault, aclFileFaultUnder, aclOf, announcesBlobfile, blobfileRecord, blobfileRuleNext, blobfileRuleOf}
 use Rattle.rules.specs.Basics.{Bytes, Every, any, bit, fileFault, firstFault, fits, holdsAt, if_then_else_, records, unless}
 use Rattle.rules.specs.Bundle.{field, policyOf, reported}
 use Rattle.rules.specs.Cabinet.{Cabinet, Slot, freshCabinet, ledgerAt, ledgerWith, slotAt}
@@ -677,11 +677,11 @@ witness-slot-covered = CabinetWitness.witness-slot-covered
 
 -- "a record of kind 15 directly after a MakeBlob or MakeArchiveBlob action whose new flag 6 says it is present"
 -- In an ACL without fault, a record that announces a blobfile is followed by one, which is the action's.
-pub file-follows : (acl : Bytes) (sound : aclFault (records acl) ≡ none) (before : List Bytes) (r : Bytes) (after : List Bytes) (parted : records acl ≡ before ++ (r ∷ after)) (action : IsBlobAction r) → announcesFile r ≡ true → (file : Bytes) × (rest : List Bytes) × (after ≡ file ∷ rest) × (fileRecord file ≡ true) × (fileRuleNext after ≡ some (fileRuleOf file))
+pub file-follows : (acl : Bytes) (sound : aclFault (records acl) ≡ none) (before : List Bytes) (r : Bytes) (after : List Bytes) (parted : records acl ≡ before ++ (r ∷ after)) (action : IsBlobAction r) → announcesBlobfile r ≡ true → (file : Bytes) × (rest : List Bytes) × (after ≡ file ∷ rest) × (blobfileRecord file ≡ true) × (blobfileRuleNext after ≡ some (blobfileRuleOf file))
 file-follows = Files.file-follows
 
 -- An action that announces none has none.
-pub file-absent : (acl : Bytes) (sound : aclFault (records acl) ≡ none) (before : List Bytes) (r : Bytes) (after : List Bytes) (parted : records acl ≡ before ++ (r ∷ after)) (action : IsBlobAction r) → announcesFile r ≡ false → fileRuleNext after ≡ none
+pub file-absent : (acl : Bytes) (sound : aclFault (records acl) ≡ none) (before : List Bytes) (r : Bytes) (after : List Bytes) (parted : records acl ≡ before ++ (r ∷ after)) (action : IsBlobAction r) → announcesBlobfile r ≡ false → blobfileRuleNext after ≡ none
 file-absent = Files.file-absent
 
 -- Request j.

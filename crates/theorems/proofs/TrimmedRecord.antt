@@ -8,7 +8,7 @@ use mathlib.Core.Bool.{Bool, true, false, not, false≢true}
 use lib.Dec.{eqb}
 use Rattle.rules.specs.Basics.{Bytes, implies, number, kind, present, bit}
 use Rattle.rules.specs.Layout.{permissionsLaidOut}
-use Rattle.rules.specs.Acl.{FileRule, permissions, actionOf, actionLaidOut}
+use Rattle.rules.specs.Acl.{BlobfileRule, permissions, actionOf, actionLaidOut}
 use Rattle.rules.specs.Bundle.{policyOf}
 use Rattle.rules.specs.Desk.{Step, classOf, policyAdmits, failureUnder, actionFailure}
 use Rattle.rules.specs.Trim.{keptBits, withBits, actionPasses, stays, trimmedRecord}
@@ -19,7 +19,7 @@ use Rattle.rules.proofs.Bits.{kept-bit}
 use Rattle.rules.proofs.Trim.{masked}
 
 -- what an action's failure is, whatever its blobfile says
-pub same-failure : (b : List Bytes) (r : Bytes) (f : Option FileRule) → actionFailure b (actionOf r f) ≡ actionFailure b (actionOf r none)
+pub same-failure : (b : List Bytes) (r : Bytes) (f : Option BlobfileRule) → actionFailure b (actionOf r f) ≡ actionFailure b (actionOf r none)
 unfolding actionOf failureUnder
 same-failure b r f = pick (eqb (kind r) 3) refl (eqb (kind r) 4) refl
   where
@@ -28,7 +28,7 @@ same-failure b r f = pick (eqb (kind r) 3) refl (eqb (kind r) 4) refl
     pick false e true d = rw (e, d)
     pick false e false d = rw (e, d)
 
-passes-none : (b : List Bytes) (r : Bytes) (f : Option FileRule) → actionPasses b r ≡ true → actionFailure b (actionOf r f) ≡ none
+passes-none : (b : List Bytes) (r : Bytes) (f : Option BlobfileRule) → actionPasses b r ≡ true → actionFailure b (actionOf r f) ≡ none
 unfolding actionPasses
 passes-none b r f e = same-failure b r f ∙ pick (actionFailure b (actionOf r none)) e
   where
@@ -36,7 +36,7 @@ passes-none b r f e = same-failure b r f ∙ pick (actionFailure b (actionOf r n
     pick none d = refl
     pick (some s) d = absurd (false≢true d)
 
-fails-some : (b : List Bytes) (r : Bytes) (f : Option FileRule) → actionPasses b r ≡ false → Fails b (actionOf r f)
+fails-some : (b : List Bytes) (r : Bytes) (f : Option BlobfileRule) → actionPasses b r ≡ false → Fails b (actionOf r f)
 unfolding actionPasses
 fails-some b r f e = pick (actionFailure b (actionOf r none)) refl e
   where
@@ -52,7 +52,7 @@ masked-passes b bits =
     (λ p h. implication (bit p (keptBits (policyOf b) bits)) (policyAdmits (policyOf b) (classOf p))
     (λ e. and-right (bit p bits) (policyAdmits (policyOf b) (classOf p)) (sym (kept-bit 16 (λ p. policyAdmits (policyOf b) (classOf p)) bits p h) ∙ e))))
 
-permissions-of : (r : Bytes) (f : Option FileRule) → eqb (kind r) 3 ≡ true → actionOf r f ≡ permissions (number 4 2 r)
+permissions-of : (r : Bytes) (f : Option BlobfileRule) → eqb (kind r) 3 ≡ true → actionOf r f ≡ permissions (number 4 2 r)
 unfolding actionOf
 permissions-of r f e = rw e
 
@@ -60,7 +60,7 @@ permissions-laid-out : (r : Bytes) → eqb (kind r) 3 ≡ true → actionLaidOut
 unfolding actionLaidOut
 permissions-laid-out r e = rw e
 
-blob-of : (r : Bytes) (f : Option FileRule) → eqb (kind r) 3 ≡ false → isBlob (actionOf r f) ≡ true
+blob-of : (r : Bytes) (f : Option BlobfileRule) → eqb (kind r) 3 ≡ false → isBlob (actionOf r f) ≡ true
 unfolding actionOf
 blob-of r f e = pick (eqb (kind r) 4) refl
   where
@@ -74,8 +74,8 @@ pub record Stays (b : List Bytes) (checked : Bool) (r : Bytes) : Type 0 where
   pub sameKind : kind (trimmedRecord b checked r) ≡ kind r
   pub sameFlags : number 2 2 (trimmedRecord b checked r) ≡ number 2 2 r
   pub laidOut : actionLaidOut (trimmedRecord b checked r) ≡ actionLaidOut r
-  pub keptAs : (f : Option FileRule) → KeptAs b checked (actionOf r f) (actionOf (trimmedRecord b checked r) f)
-  pub passing : (f : Option FileRule) → checked ≡ true → actionFailure b (actionOf (trimmedRecord b checked r) f) ≡ none
+  pub keptAs : (f : Option BlobfileRule) → KeptAs b checked (actionOf r f) (actionOf (trimmedRecord b checked r) f)
+  pub passing : (f : Option BlobfileRule) → checked ≡ true → actionFailure b (actionOf (trimmedRecord b checked r) f) ≡ none
   pub unchanged : actionPasses b r ≡ true → trimmedRecord b checked r ≡ r
 
 pub stays-as : (b : List Bytes) (checked : Bool) (r : Bytes) → Whole r → stays b checked r ≡ true → Stays b checked r
@@ -102,7 +102,7 @@ stays-as b true r w e = pick (actionPasses b r) refl
         let k : eqb (kind r) 3 ≡ true = rw p at e in
         let m = masked n r w in
         let j : eqb (kind (withBits n r)) 3 ≡ true = rw (m .sameKind) k in
-        let a : (f : Option FileRule) → actionOf (withBits n r) f ≡ permissions n = λ f. permissions-of (withBits n r) f j ∙ ap permissions (m .bits) in
+        let a : (f : Option BlobfileRule) → actionOf (withBits n r) f ≡ permissions n = λ f. permissions-of (withBits n r) f j ∙ ap permissions (m .bits) in
         record {
           whole = rw p (m .whole);
           sameKind = rw p (m .sameKind);
@@ -126,8 +126,8 @@ stays-as b true r w e = pick (actionPasses b r) refl
 -- An action's record that goes: a blob action of a checked group, which fails a step.
 pub record Goes (b : List Bytes) (checked : Bool) (r : Bytes) : Type 0 where
   pub isChecked : checked ≡ true
-  pub blob : (f : Option FileRule) → isBlob (actionOf r f) ≡ true
-  pub fails : (f : Option FileRule) → Fails b (actionOf r f)
+  pub blob : (f : Option BlobfileRule) → isBlob (actionOf r f) ≡ true
+  pub fails : (f : Option BlobfileRule) → Fails b (actionOf r f)
 
 pub goes-as : (b : List Bytes) (checked : Bool) (r : Bytes) → stays b checked r ≡ false → Goes b checked r
 unfolding stays

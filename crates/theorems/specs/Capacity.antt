@@ -12,7 +12,7 @@ use lib.Dec.{eqb, ltb}
 use Rattle.rules.specs.Sizes.{Capacity, hashBytes, requestRecords, aclRecordsUnder}
 use Rattle.rules.specs.Numbers.{badLength, notNarrower, outOfRange}
 use Rattle.rules.specs.Basics.{if_then_else_, Bytes, Every, unless, firstFault, records, fits}
-use Rattle.rules.specs.Acl.{Limit, Group, aclOf, AclPlace, aclStart, afterRecord, aclEnd, recordFaultUnder, aclFaultUnder, aclFileFaultUnder}
+use Rattle.rules.specs.Acl.{Limit, Group, aclOf, AclState, aclStart, afterRecord, aclEnd, recordFaultUnder, aclFaultUnder, aclFileFaultUnder}
 use Rattle.rules.specs.Request.{Hint, requestOf, requestLaidOut, requestFault, useOf, reduceAcl, expandAcl, hintsOf, hintsFault}
 use Rattle.rules.specs.Ledger.{Ledger, cleared, recounted}
 use Rattle.rules.specs.Narrow.{narrows}
@@ -152,7 +152,7 @@ AllAcceptedUnder z s [] = Unit {0}
 AllAcceptedUnder z s (c ∷ cs) = AcceptedUnder z (s .acl) c × AllAcceptedUnder z (afterUnder z s c) cs
 
 -- An ACL under these sizes, as a kind of file that has a text; and its listing, read as an ACL.
-abbrev pub aclKindUnder : Capacity → FileKind AclPlace
+abbrev pub aclKindUnder : Capacity → FileKind AclState
 aclKindUnder z =
     record {
       line = lineOf;

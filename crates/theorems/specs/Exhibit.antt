@@ -9,7 +9,7 @@ use lib.ListN.{length}
 use Rattle.rules.specs.Sizes.{hashBytes, certificatesMax}
 use Rattle.rules.specs.Numbers.{byCardset}
 use Rattle.rules.specs.Basics.{if_then_else_, Bytes, Every, any, present, records}
-use Rattle.rules.specs.Acl.{BlobRule, FileRule, Action, permissions, makeBlob, makeArchive, Group, aclOf}
+use Rattle.rules.specs.Acl.{BlobRule, BlobfileRule, Action, permissions, makeBlob, makeArchive, Group, aclOf}
 use Rattle.rules.specs.Request.{WorkingBlob, workingBlob, Certificate, requestOf}
 use Rattle.rules.specs.Ledger.{Ledger}
 use Rattle.rules.specs.Chain.{serves}
@@ -21,13 +21,13 @@ use Rattle.rules.specs.Written.{Octets, blobRequestBytes, certificateBytes}
 use Rattle.rules.specs.Runs.{withRow}
 
 -- a predicate of an action and its blobfile, if it is a MakeBlob action
-abbrev pub IfBlob : (BlobRule → Option FileRule → Type 0) → Action → Type 0
+abbrev pub IfBlob : (BlobRule → Option BlobfileRule → Type 0) → Action → Type 0
 IfBlob P (permissions bits) = Unit {0}
 IfBlob P (makeBlob r f) = P r f
 IfBlob P (makeArchive a f) = Unit {0}
 
 -- "every MakeBlob action" of an ACL
-abbrev pub EveryBlob : (BlobRule → Option FileRule → Type 0) → List Group → Type 0
+abbrev pub EveryBlob : (BlobRule → Option BlobfileRule → Type 0) → List Group → Type 0
 EveryBlob P gs = Every (λ g. Every (IfBlob P) (g .actions)) gs
 
 -- "AllowKmOnly together with kthash or ktparams"

@@ -6,9 +6,9 @@ use mathlib.Core.Bool.{false, true}
 use mathlib.Core.List.{List, [], _++_, _∷_, map}
 use mathlib.Core.Option.{none, some}
 use mathlib.Core.Path.{_≡_}
-use Rattle.rules.specs.Acl.{announcesFile}
+use Rattle.rules.specs.Acl.{announcesBlobfile}
 use Rattle.rules.specs.Basics.{Bytes, Every}
-use Rattle.rules.specs.Request.{Delegation, Request, blobFileNext, blobFileOf, certificateOf, certificateRecord, certificatesOf, delegationOf, delegationRecord, delegationsOf, fileRequestRecord, presentedAfter}
+use Rattle.rules.specs.Request.{Delegation, Request, blobfileNext, blobfileOf, certificateOf, certificateRecord, certificatesOf, delegationOf, delegationRecord, delegationsOf, blobfileRequestRecord, presentedAfter}
 use Rattle.rules.specs.Sizes.{certificatesMax, delegationsMax}
 use Rattle.theorems.specs.Certification.{Member}
 
@@ -24,8 +24,8 @@ pub record Presenting (rs : List Bytes) : Type 0 where
 
 -- What follows a request record: where it announces one, a well-formed record of kind 15, which says where the blob is stored; then what is presented.
 pub record Following (r : Bytes) (rs : List Bytes) : Type 0 where
-  pub stored : announcesFile r ≡ true → (file : Bytes) × (fileRequestRecord file ≡ true) × (rs ≡ file ∷ presentedAfter r rs) × (blobFileNext rs ≡ some (blobFileOf file))
-  pub returned : announcesFile r ≡ false → (rs ≡ presentedAfter r rs) × (blobFileNext rs ≡ none)
+  pub stored : announcesBlobfile r ≡ true → (file : Bytes) × (blobfileRequestRecord file ≡ true) × (rs ≡ file ∷ presentedAfter r rs) × (blobfileNext rs ≡ some (blobfileOf file))
+  pub returned : announcesBlobfile r ≡ false → (rs ≡ presentedAfter r rs) × (blobfileNext rs ≡ none)
   pub presenting : Presenting (presentedAfter r rs)
   pub certificates : certificatesOf rs ≡ map certificateOf (presenting .certs)
   pub delegations : delegationsOf rs ≡ map delegationOf (presenting .dels)

@@ -146,7 +146,7 @@ fn print_removed(places: &[usize; bundle_facts::ENTRIES], bundle: &[u8], acl: &[
 // Says what was removed, and how long the results are.
 fn print_trimmed(bundle: &[u8], acl: &[u8], new: usize, hints: usize) {
     let mut places = [0usize; bundle_facts::ENTRIES];
-    bundle_facts::find_places(&mut places, bundle);
+    bundle_facts::find_offsets(&mut places, bundle);
     print_removed(&places, bundle, acl);
     print(b"trimmed: ACL ");
     print_number(new as u64);

@@ -11,16 +11,16 @@ use lib.Seq.{set-at, append-snoc}
 use lib.Dec.{eqb}
 use Rattle.rules.specs.Sizes.{recordBytes, groupsMax, actionsMax}
 use Rattle.rules.specs.Basics.{if_then_else_, Bytes, kind, scan, records, joined, recordsFrom}
-use Rattle.rules.specs.Acl.{AclPlace, aclStart, hasRoomUnder, afterRecord, aclRecordFault, aclFaultUnder, aclFault}
-use Rattle.rules.specs.Trim.{isChecked, stays, keptPlaces, hintsFrom, trimHints}
+use Rattle.rules.specs.Acl.{AclState, aclStart, hasRoomUnder, afterRecord, aclRecordFault, aclFaultUnder, aclFault}
+use Rattle.rules.specs.Trim.{isChecked, stays, keptIndices, hintsFrom, trimHints}
 use Rattle.rules.specs.Written.{hintBytes}
 use Rattle.rules.proofs.Laws.{orNext-first, orNext-next}
 use Rattle.rules.proofs.Rows.{rows-lent, lentRecord, lent-record, lent-rest, kind-at}
 use Rattle.rules.proofs.Places.{aclFrom, record-has-room, same-count}
 use Rattle.rules.proofs.Written.{hint-whole}
 use Rattle.rules.proofs.Trim.{fresh-group, group-places, places-group, places-limit, places-file, places-stays, places-goes, places-end, hints-group, hints-other, hints-end}
-use Rattle.trim_records.specs.declared.Fate.{Fate}
-use Rattle.trim_records.specs.Fates.{actionFate, isKept}
+use Rattle.trim_records.specs.declared.TrimAction.{TrimAction}
+use Rattle.trim_records.specs.Fates.{onAction, isKept}
 use Rattle.trim_records.proofs.Laws.{action-stays}
 use Rattle.subject.specs.Writing.{overwritten}
 use Rattle.trim_hints.specs.declared.Hint.{Hint}
@@ -38,7 +38,7 @@ no-group : (s : Bytes) (at : ℕ) → (getD s at 0 ≡ 1 → ⊥) → eqb (kind 
 no-group s at n = ne-eqb (kind (lentRecord s at)) 1 (λ e. n (sym (kind-lent s at) ∙ e))
 
 -- Reading on: the record at a place has no fault, and the rest has none.
-module _ (acl : Bytes) (at : ℕ) (s : AclPlace) (sound : aclFrom s (recordsFrom acl at) ≡ none) (h : recordBytes ≤ length acl - at) where
+module _ (acl : Bytes) (at : ℕ) (s : AclState) (sound : aclFrom s (recordsFrom acl at) ≡ none) (h : recordBytes ≤ length acl - at) where
   sound-here : aclRecordFault s (lentRecord acl at) ≡ none
   unfolding scan
   sound-here = orNext-first (aclRecordFault s (lentRecord acl at)) _ (sym (ap (aclFrom s) (rows-lent acl at h)) ∙ sound)
@@ -48,7 +48,7 @@ module _ (acl : Bytes) (at : ℕ) (s : AclPlace) (sound : aclFrom s (recordsFrom
   sound-rest = orNext-next (aclRecordFault s (lentRecord acl at)) _ (sym (ap (aclFrom s) (rows-lent acl at h)) ∙ sound)
 
 -- A group's record begins one.
-group-more : (s : AclPlace) (r : Bytes) → eqb (kind r) 1 ≡ true → afterRecord s r .groups ≡ s .groups + 1
+group-more : (s : AclState) (r : Bytes) → eqb (kind r) 1 ≡ true → afterRecord s r .groups ≡ s .groups + 1
 unfolding afterRecord
 group-more s r e = rw e
 
@@ -105,28 +105,28 @@ name-set source places p h =
     ∙ sym (ap (λ (l : List ℕ). front l) (ap (λ (k : ℕ). ((places ++ (p ∷ [])) ++ replicate (actionsMax - k) 0) ++ replicate 48 0) len ∙ append-assoc (places ++ (p ∷ [])) more (replicate 48 0) ∙ append-snoc places p (more ++ replicate 48 0)))
 
 -- a hint after an action, by what the code found
-pub action-recorded : (h x : Hint) (fate f : Fate) (kept : Bool) (r : Bytes) → (kind r ≡ 2 → ⊥) → (kind r ≡ 15 → ⊥) → f ≡ fate → kept ≡ isKept f → x ≡ actionHinted h kept → x ≡ recordHinted h fate r
+pub action-recorded : (h x : Hint) (fate f : TrimAction) (kept : Bool) (r : Bytes) → (kind r ≡ 2 → ⊥) → (kind r ≡ 15 → ⊥) → f ≡ fate → kept ≡ isKept f → x ≡ actionHinted h kept → x ≡ recordHinted h fate r
 unfolding recordHinted
 action-recorded h x fate f kept r m n e k d = rw (ne-eqb (kind r) 2 m, ne-eqb (kind r) 15 n, ← e, ← k) d
 
 -- A group's hint: the places named, and those left to name.
 pub record Hinting (b : List Bytes) (acl : Bytes) (checked : Bool) (source i : ℕ) (total : List ℕ) (h : Hint) : Type 0 where
-  pub place : AclPlace
+  pub place : AclState
   pub sound : aclFrom place (recordsFrom acl i) ≡ none
   pub begun : place .actions ≡ h .place
   pub done : List ℕ
   pub bytes : h .bytes ≡ hintBytes source done
   pub count : h .count ≡ length done
-  pub rest : done ++ keptPlaces b checked (h .place) (recordsFrom acl i) ≡ total
+  pub rest : done ++ keptIndices b checked (h .place) (recordsFrom acl i) ≡ total
 
 -- the same with its bounds
 abbrev pub Hinted : List Bytes → Bytes → Bool → ℕ → ℕ → List ℕ → Hint → Type 0
 Hinted b acl checked source i total h = (h .count ≤ h .place) × ((h .place ≤ actionsMax) × Hinting b acl checked source i total h)
 
 -- the places to name, by the record as code lends it
-places-at : (b : List Bytes) (acl : Bytes) (at : ℕ) → placesAt b acl at ≡ keptPlaces b (isChecked b (lentRecord acl at)) 0 (recordsFrom acl (at + recordBytes))
+places-at : (b : List Bytes) (acl : Bytes) (at : ℕ) → placesAt b acl at ≡ keptIndices b (isChecked b (lentRecord acl at)) 0 (recordsFrom acl (at + recordBytes))
 unfolding placesAt recordsFrom
-places-at b acl at = ap (λ (r : Bytes). keptPlaces b (isChecked b r) 0 (recordsFrom acl (at + recordBytes))) (sym (lent-record acl at))
+places-at b acl at = ap (λ (r : Bytes). keptIndices b (isChecked b r) 0 (recordsFrom acl (at + recordBytes))) (sym (lent-record acl at))
 
 pub hint-first : (b : List Bytes) (acl : Bytes) (checked : Bool) (source at : ℕ) (h : Hint) → SoundFrom acl at source → recordBytes ≤ length acl - at → getD acl at 0 ≡ 1
     → checked ≡ isChecked b (lentRecord acl at) → h ≡ begunHint source → Hinted b acl checked source (at + recordBytes) (placesAt b acl at) h
@@ -158,7 +158,7 @@ module _ (b : List Bytes) (acl : Bytes) (checked : Bool) (source i : ℕ) (total
   Next x = Hinted b acl checked source (i + recordBytes) total x
 
   -- a limit, or a record of kind 15
-  pass : afterRecord (inv .place) here .actions ≡ inv .place .actions → keptPlaces b checked (h .place) (recordsFrom acl i) ≡ keptPlaces b checked (h .place) (recordsFrom acl (i + recordBytes)) → Next h
+  pass : afterRecord (inv .place) here .actions ≡ inv .place .actions → keptIndices b checked (h .place) (recordsFrom acl i) ≡ keptIndices b checked (h .place) (recordsFrom acl (i + recordBytes)) → Next h
   pass s p = (
     few,
     (
@@ -230,7 +230,7 @@ module _ (b : List Bytes) (acl : Bytes) (checked : Bool) (source i : ℕ) (total
               bytes = ap (λ (k : ℕ). set (h .bytes) (8 + k) p) n ∙ ap (λ (z : Bytes). set z (8 + length (inv .done)) p) (inv .bytes) ∙ name-set source (inv .done) p (omega arith);
               count = ap (λ (k : ℕ). k + 1) n ∙ sym (length-append (inv .done) (p ∷ []));
               rest =
-                  append-snoc (inv .done) p (keptPlaces b checked (p + 1) (recordsFrom acl (i + recordBytes)))
+                  append-snoc (inv .done) p (keptIndices b checked (p + 1) (recordsFrom acl (i + recordBytes)))
                   ∙ ap (λ (z : List ℕ). inv .done ++ z) (sym (places-stays b checked p acl i room (no-group acl i other) e d t))
                   ∙ inv .rest;
             },
@@ -241,12 +241,12 @@ module _ (b : List Bytes) (acl : Bytes) (checked : Bool) (source i : ℕ) (total
     action true q = remains q
     action false q = goes q
 
-  pub hint-next : (x : Hint) → x ≡ recordHinted h (actionFate b checked here) here → Next x
+  pub hint-next : (x : Hint) → x ≡ recordHinted h (onAction b checked here) here → Next x
   unfolding recordHinted actionHinted
   hint-next x q = rw q (pick (eqb (kind here) 2) refl (eqb (kind here) 15) refl)
     where
-      fate : Fate
-      fate = actionFate b checked here
+      fate : TrimAction
+      fate = onAction b checked here
 
       pick : (y : Bool) → eqb (kind here) 2 ≡ y → (z : Bool) → eqb (kind here) 15 ≡ z → Next (if y then h else if z then h else if isKept fate then named h else unnamed h)
       pick true e z d = limit e
@@ -255,7 +255,7 @@ module _ (b : List Bytes) (acl : Bytes) (checked : Bool) (source i : ℕ) (total
 
 -- The hint is whole where the next group begins, or the ACL ends.
 module _ (b : List Bytes) (acl : Bytes) (checked : Bool) (source i : ℕ) (total : List ℕ) (h : Hint) (inv : Hinting b acl checked source i total h) where
-  hint-ends : keptPlaces b checked (h .place) (recordsFrom acl i) ≡ [] → h .bytes ≡ hintBytes source total
+  hint-ends : keptIndices b checked (h .place) (recordsFrom acl i) ≡ [] → h .bytes ≡ hintBytes source total
   hint-ends e =
       inv .bytes ∙ ap (hintBytes source) (sym (append-nil (inv .done)) ∙ ap (λ (z : List ℕ). inv .done ++ z) (sym e) ∙ inv .rest)
 
@@ -288,7 +288,7 @@ module _ (b : List Bytes) (acl old new : Bytes) (at groups to : ℕ) (inv : Writ
     unfolding recordsFrom
     whole =
         rw (places-at b acl at)
-        (hint-whole groups (keptPlaces b (isChecked b (lentRecord acl at)) 0 (recordsFrom acl (at + recordBytes)))
+        (hint-whole groups (keptIndices b (isChecked b (lentRecord acl at)) 0 (recordsFrom acl (at + recordBytes)))
         (group-places b (s .place) (lentRecord acl at) (recordsFrom acl (at + recordBytes)) (is-group acl at g) (sound-rest acl at (s .place) (s .sound) h)))
 
     rest-is : joined (hintsFrom b groups (recordsFrom acl at)) ≡ hintBytes groups (placesAt b acl at) ++ joined (hintsFrom b (groups + 1) (recordsFrom acl (at + recordBytes)))

@@ -8,10 +8,10 @@ use lib.ListN.{drop, set}
 use lib.Dec.{eqb}
 use Rattle.rules.specs.Sizes.{recordBytes}
 use Rattle.rules.specs.Basics.{if_then_else_, Bytes, part, kind, scan, records}
-use Rattle.rules.specs.Acl.{AclPlace, aclRecordFault, afterRecord, aclEnd}
-use Rattle.rules.specs.Trim.{isChecked, keptPlaces}
+use Rattle.rules.specs.Acl.{AclState, aclRecordFault, afterRecord, aclEnd}
+use Rattle.rules.specs.Trim.{isChecked, keptIndices}
 use Rattle.rules.specs.Written.{hintBytes}
-use Rattle.trim_records.specs.declared.Fate.{Fate}
+use Rattle.trim_records.specs.declared.TrimAction.{TrimAction}
 use Rattle.trim_records.specs.Fates.{isKept}
 use Rattle.trim_hints.specs.declared.Hint.{Hint}
 
@@ -31,15 +31,15 @@ unfoldable pub actionHinted : Hint → Bool → Hint
 actionHinted h kept = if kept then named h else unnamed h
 
 -- the hint after a record that begins no group, which may be an action with that fate
-unfoldable pub recordHinted : Hint → Fate → Bytes → Hint
+unfoldable pub recordHinted : Hint → TrimAction → Bytes → Hint
 recordHinted h fate r = if eqb (kind r) 2 then h else if eqb (kind r) 15 then h else actionHinted h (isKept fate)
 
 -- "naming each kept .. action by its old place": those of the group whose first record begins at an offset of the ACL
 unfoldable pub placesAt : List Bytes → Bytes → ℕ → List ℕ
-placesAt b acl at = keptPlaces b (isChecked b (part at recordBytes acl)) 0 (records (drop (at + recordBytes) acl))
+placesAt b acl at = keptIndices b (isChecked b (part at recordBytes acl)) 0 (records (drop (at + recordBytes) acl))
 
 -- an ACL is read without fault from a place on, where so many groups have begun
 pub record SoundFrom (acl : Bytes) (at groups : ℕ) : Type 0 where
-  pub place : AclPlace
+  pub place : AclState
   pub sound : scan aclRecordFault afterRecord aclEnd place (records (drop at acl)) ≡ none
   pub begun : place .groups ≡ groups

@@ -10,7 +10,7 @@ ghost use Rattle.rules.specs.Trim.{trimHints};
 ghost use Rattle.rules.specs.Written.{hintBytes};
 ghost use Rattle.bundle_facts.specs.Places.{Found};
 ghost use Rattle.subject.specs.Writing.{overwritten};
-ghost use Rattle.trim_records.specs.Fates.{actionFate};
+ghost use Rattle.trim_records.specs.Fates.{onAction};
 ghost use Rattle.trim_hints.specs.Hinting.{begunHint, actionHinted, recordHinted, placesAt, SoundFrom};
 
 // A hint as far as it is written: its bytes, how many actions it names, and the place of the next action of the old group.
@@ -62,7 +62,7 @@ impl Hint {
         rec: &[u8],
     ) -> Self
         requires { ⌜ (length (now rec) ≡ recordBytes) × Found (now bundle) (now places) × (self .count ≤ actionsMax) × (self .place ≤ actionsMax) ⌝ }
-        ensures { λ r. ⌜ r ≡ recordHinted self (actionFate (records (now (bundle .entry))) checked (now (rec .entry))) (now (rec .entry)) ⌝ }
+        ensures { λ r. ⌜ r ≡ recordHinted self (onAction (records (now (bundle .entry))) checked (now (rec .entry))) (now (rec .entry)) ⌝ }
     {
         let kind = rec[0];
         if kind == 2 {
@@ -71,7 +71,7 @@ impl Hint {
         if kind == 15 {
             return self;
         }
-        let fate = trim_records::action_fate(places, bundle, checked, rec);
+        let fate = trim_records::on_action(places, bundle, checked, rec);
         self.after_action(trim_records::is_kept(fate))
     }
 }

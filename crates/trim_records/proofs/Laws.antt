@@ -22,9 +22,9 @@ use Rattle.rules.proofs.Laws.{not-both}
 use Rattle.rules.proofs.Bits.{kept-below}
 use Rattle.rules.proofs.Trim.{masked}
 use Rattle.desk_actions.specs.Classes.{admittedBit}
-use Rattle.trim_records.specs.declared.Fate.{Fate}
-use Rattle.trim_records.specs.declared.Fate.the-variants.{Copied, Fewer, Dropped}
-use Rattle.trim_records.specs.Fates.{keptBit, actionFate, recordFate, isKept, sizeOf, leftOf, keptAfter, checkedAfter}
+use Rattle.trim_records.specs.declared.TrimAction.{TrimAction}
+use Rattle.trim_records.specs.declared.TrimAction.the-variants.{Copied, Fewer, Dropped}
+use Rattle.trim_records.specs.Fates.{keptBit, onAction, onRecord, isKept, sizeOf, leftOf, keptAfter, checkedAfter}
 
 -- A bit that is set, and admitted if it is set.
 set-admitted : (x y : Bool) → (x && implies x y) ≡ (x && y)
@@ -105,65 +105,65 @@ module _ (b : List Bytes) (r : Bytes) where
   pass-some s e = rw (← e)
 
 -- The bytes that are left of a record.
-pub left-size : (b : List Bytes) (fate : Fate) (r : Bytes) → length r ≡ recordBytes → length (leftOf b fate r) ≡ sizeOf fate
+pub left-size : (b : List Bytes) (fate : TrimAction) (r : Bytes) → length r ≡ recordBytes → length (leftOf b fate r) ≡ sizeOf fate
 unfolding leftOf
 left-size b Copied r w = w
 left-size b Fewer r w = masked (keptBits (policyOf b) (number 4 2 r)) r w .whole
 left-size b Dropped r w = refl
 
 module _ (b : List Bytes) (checked : Bool) (r : Bytes) where
-  stays-as : stays b checked r ≡ isKept (actionFate b checked r)
-  unfolding stays actionFate
+  stays-as : stays b checked r ≡ isKept (onAction b checked r)
+  unfolding stays onAction
   stays-as = pick checked refl (actionPasses b r) refl (eqb (kind r) 3) refl
     where
-      pick : (c : Bool) → checked ≡ c → (p : Bool) → actionPasses b r ≡ p → (q : Bool) → eqb (kind r) 3 ≡ q → stays b checked r ≡ isKept (actionFate b checked r)
+      pick : (c : Bool) → checked ≡ c → (p : Bool) → actionPasses b r ≡ p → (q : Bool) → eqb (kind r) 3 ≡ q → stays b checked r ≡ isKept (onAction b checked r)
       pick false u p e q d = rw u
       pick true u true e q d = rw (u, e)
       pick true u false e true d = rw (u, e, d)
       pick true u false e false d = rw (u, e, d)
 
-  left-as : stays b checked r ≡ true → trimmedRecord b checked r ≡ leftOf b (actionFate b checked r) r
-  unfolding stays trimmedRecord actionFate leftOf
+  left-as : stays b checked r ≡ true → trimmedRecord b checked r ≡ leftOf b (onAction b checked r) r
+  unfolding stays trimmedRecord onAction leftOf
   left-as s = pick checked refl (actionPasses b r) refl (eqb (kind r) 3) refl
     where
-      pick : (c : Bool) → checked ≡ c → (p : Bool) → actionPasses b r ≡ p → (q : Bool) → eqb (kind r) 3 ≡ q → trimmedRecord b checked r ≡ leftOf b (actionFate b checked r) r
+      pick : (c : Bool) → checked ≡ c → (p : Bool) → actionPasses b r ≡ p → (q : Bool) → eqb (kind r) 3 ≡ q → trimmedRecord b checked r ≡ leftOf b (onAction b checked r) r
       pick false u p e q d = rw u
       pick true u true e q d = rw (u, e)
       pick true u false e true d = rw (u, e, d)
       pick true u false e false d = absurd (false≢true (rw (u, e, d) at s))
 
-  gone-as : stays b checked r ≡ false → [] ≡ leftOf b (actionFate b checked r) r
+  gone-as : stays b checked r ≡ false → [] ≡ leftOf b (onAction b checked r) r
   unfolding leftOf
-  gone-as s = pick (actionFate b checked r) refl
+  gone-as s = pick (onAction b checked r) refl
     where
-      pick : (f : Fate) → actionFate b checked r ≡ f → [] ≡ leftOf b f r
+      pick : (f : TrimAction) → onAction b checked r ≡ f → [] ≡ leftOf b f r
       pick Copied e = absurd (not-both (stays b checked r) (stays-as ∙ ap isKept e) s)
       pick Fewer e = absurd (not-both (stays b checked r) (stays-as ∙ ap isKept e) s)
       pick Dropped e = refl
 
   -- whether an action stays, by its fate as the code found it
-  pub action-stays : (fate : Fate) → fate ≡ actionFate b checked r → stays b checked r ≡ isKept fate
+  pub action-stays : (fate : TrimAction) → fate ≡ onAction b checked r → stays b checked r ≡ isKept fate
   action-stays fate e = rw e stays-as
 
 -- One record of an ACL: what is left of it, and what is left of the rest.
 module _ (b : List Bytes) (checked kept : Bool) (r : Bytes) (rs : List Bytes) where
-  abbrev Turn : Fate → Type 0
+  abbrev Turn : TrimAction → Type 0
   Turn fate = joined (trimmedFrom b checked kept (r ∷ rs)) ≡ leftOf b fate r ++ joined (trimmedFrom b (checkedAfter b checked r) (keptAfter fate kept r) rs)
 
-  turn : Turn (recordFate b checked kept r)
-  unfolding trimmedFrom joined leftOf recordFate keptAfter checkedAfter
+  turn : Turn (onRecord b checked kept r)
+  unfolding trimmedFrom joined leftOf onRecord keptAfter checkedAfter
   turn = pick (eqb (kind r) 1) refl (eqb (kind r) 2) refl (eqb (kind r) 15) refl (stays b checked r) refl
     where
       file : (k : Bool) → joined (keptBefore k r (trimmedFrom b checked k rs)) ≡ leftOf b (if k then Copied else Dropped) r ++ joined (trimmedFrom b checked (isKept (if k then Copied else Dropped)) rs)
       file true = refl
       file false = refl
 
-      pick : (x : Bool) → eqb (kind r) 1 ≡ x → (y : Bool) → eqb (kind r) 2 ≡ y → (z : Bool) → eqb (kind r) 15 ≡ z → (s : Bool) → stays b checked r ≡ s → Turn (recordFate b checked kept r)
+      pick : (x : Bool) → eqb (kind r) 1 ≡ x → (y : Bool) → eqb (kind r) 2 ≡ y → (z : Bool) → eqb (kind r) 15 ≡ z → (s : Bool) → stays b checked r ≡ s → Turn (onRecord b checked kept r)
       pick true e y d z f s g = rw e
       pick false e true d z f s g = rw (e, d)
       pick false e false d true f s g = rw (e, d, f) (file kept)
       pick false e false d false f true g = rw (e, d, f, g, ← left-as b checked r g, ← stays-as b checked r, g)
       pick false e false d false f false g = rw (e, d, f, g, ← gone-as b checked r g, ← stays-as b checked r, g)
 
-  pub record-turn : (fate : Fate) → fate ≡ recordFate b checked kept r → Turn fate
+  pub record-turn : (fate : TrimAction) → fate ≡ onRecord b checked kept r → Turn fate
   record-turn fate e = rw e turn

@@ -12,12 +12,12 @@ ghost use Rattle.rules.specs.Trim.{keptBits, isChecked, actionPasses};
 ghost use Rattle.bundle_facts.specs.Found.{policyAs};
 ghost use Rattle.bundle_facts.specs.Places.{Found};
 ghost use Rattle.desk_steps.specs.Steps.{failureAs};
-ghost use Rattle.trim_records.specs.Fates.{keptBit, isKept, sizeOf, actionFate, fileFate, recordFate, keptAfter, checkedAfter};
+ghost use Rattle.trim_records.specs.Fates.{keptBit, isKept, sizeOf, onAction, onBlobfile, onRecord, keptAfter, checkedAfter};
 use bundle_facts::Policy;
 use desk_steps::Failure;
 
 // What becomes of a record.
-pub enum Fate {
+pub enum TrimAction {
     Copied,
     Fewer,
     Dropped,
@@ -95,86 +95,86 @@ fn passes(places: &[usize; bundle_facts::ENTRIES], bundle: &[u8], rec: &[u8]) ->
 }
 
 // What becomes of an action. One of permissions stays with those that pass, even with none; a blob action that fails a step goes.
-pub fn action_fate(
+pub fn on_action(
     places: &[usize; bundle_facts::ENTRIES],
     bundle: &[u8],
     checked: bool,
     rec: &[u8],
-) -> Fate
+) -> TrimAction
     requires { ⌜ (length (now rec) ≡ recordBytes) × Found (now bundle) (now places) ⌝ }
-    ensures { λ r. ⌜ r ≡ actionFate (records (now (bundle .entry))) checked (now (rec .entry)) ⌝ }
+    ensures { λ r. ⌜ r ≡ onAction (records (now (bundle .entry))) checked (now (rec .entry)) ⌝ }
 {
     if !checked {
-        return Fate::Copied;
+        return TrimAction::Copied;
     }
     if passes(places, bundle, rec) {
-        return Fate::Copied;
+        return TrimAction::Copied;
     }
     if rec[0] == 3 {
-        return Fate::Fewer;
+        return TrimAction::Fewer;
     }
-    Fate::Dropped
+    TrimAction::Dropped
 }
 
 // What becomes of a record of kind 15: it goes with its action.
-fn file_fate(kept: bool) -> Fate
-    ensures { λ r. ⌜ r ≡ fileFate kept ⌝ }
+fn on_blobfile(kept: bool) -> TrimAction
+    ensures { λ r. ⌜ r ≡ onBlobfile kept ⌝ }
 {
     if kept {
-        return Fate::Copied;
+        return TrimAction::Copied;
     }
-    Fate::Dropped
+    TrimAction::Dropped
 }
 
 // What becomes of a record. Limits and records of kind 15 are copied or dropped too, so the tool looks at every record instead of using the
 // walk over actions. `checked` says whether actions are checked here, `kept` whether the last one stayed.
-pub fn record_fate(
+pub fn on_record(
     places: &[usize; bundle_facts::ENTRIES],
     bundle: &[u8],
     checked: bool,
     kept: bool,
     rec: &[u8],
-) -> Fate
+) -> TrimAction
     requires { ⌜ (length (now rec) ≡ recordBytes) × Found (now bundle) (now places) ⌝ }
-    ensures { λ r. ⌜ r ≡ recordFate (records (now (bundle .entry))) checked kept (now (rec .entry)) ⌝ }
+    ensures { λ r. ⌜ r ≡ onRecord (records (now (bundle .entry))) checked kept (now (rec .entry)) ⌝ }
 {
     let kind = rec[0];
     if kind == 1 {
-        return Fate::Copied;
+        return TrimAction::Copied;
     }
     if kind == 2 {
-        return Fate::Copied;
+        return TrimAction::Copied;
     }
     if kind == 15 {
-        return file_fate(kept);
+        return on_blobfile(kept);
     }
-    action_fate(places, bundle, checked, rec)
+    on_action(places, bundle, checked, rec)
 }
 
 // Whether a record is still there.
-pub fn is_kept(fate: Fate) -> bool
+pub fn is_kept(fate: TrimAction) -> bool
     ensures { λ r. ⌜ r ≡ isKept fate ⌝ }
 {
     match fate {
-        Fate::Copied => true,
-        Fate::Fewer => true,
-        Fate::Dropped => false,
+        TrimAction::Copied => true,
+        TrimAction::Fewer => true,
+        TrimAction::Dropped => false,
     }
 }
 
 // The bytes that are left of a record.
-pub fn size_of(fate: Fate) -> usize
+pub fn size_of(fate: TrimAction) -> usize
     ensures { λ r. ⌜ (r ≡ sizeOf fate) × (r ≤ recordBytes) ⌝ }
 {
     match fate {
-        Fate::Copied => record_sizes::RECORD,
-        Fate::Fewer => record_sizes::RECORD,
-        Fate::Dropped => 0,
+        TrimAction::Copied => record_sizes::RECORD,
+        TrimAction::Fewer => record_sizes::RECORD,
+        TrimAction::Dropped => 0,
     }
 }
 
 // Whether the last action stayed, after a record with that fate.
-pub fn kept_after(fate: Fate, kept: bool, rec: &[u8]) -> bool
+pub fn kept_after(fate: TrimAction, kept: bool, rec: &[u8]) -> bool
     requires { ⌜ length (now rec) ≡ recordBytes ⌝ }
     ensures { λ r. ⌜ r ≡ keptAfter fate kept (now (rec .entry)) ⌝ }
 {

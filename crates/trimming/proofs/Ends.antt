@@ -11,9 +11,9 @@ use lib.Dec.{eqb}
 use Rattle.rules.specs.Sizes.{recordBytes}
 use Rattle.rules.specs.Numbers.{shortBuffer}
 use Rattle.rules.specs.Basics.{Bytes, Every, kind, scan, records}
-use Rattle.rules.specs.Acl.{AclPlace, aclStart, afterRecord, aclRecordFault, aclFaultUnder, aclFault}
+use Rattle.rules.specs.Acl.{AclState, aclStart, afterRecord, aclRecordFault, aclFaultUnder, aclFault}
 use Rattle.rules.specs.Desk.{Step, beforeAcl, deskFault}
-use Rattle.rules.specs.Trim.{isChecked, keptPlaces, hintsFrom, trimmedAcl, trimHints, TrimReply, trimmed, untrimmed, unread, trimFault, trimReply, trimAclBuffer, trimHintBuffer, roomy}
+use Rattle.rules.specs.Trim.{isChecked, keptIndices, hintsFrom, trimmedAcl, trimHints, TrimReply, trimmed, untrimmed, unread, trimFault, trimReply, trimAclBuffer, trimHintBuffer, roomy}
 use Rattle.rules.proofs.Laws.{and-both, orNext-next, fault-none-every}
 use Rattle.rules.proofs.Joined.{Whole, joined-length}
 use Rattle.rules.proofs.Places.{aclFrom}
@@ -22,14 +22,14 @@ use Rattle.rules.proofs.Trim.{group-places, fault-refused, fault-step, fault-sh
 use Rattle.subject.specs.Writing.{overwritten}
 
 -- Each hint has 64 bytes.
-hints-whole : (b : List Bytes) (place : ℕ) (s : AclPlace) (rs : List Bytes) → aclFrom s rs ≡ none → Every Whole (hintsFrom b place rs)
+hints-whole : (b : List Bytes) (place : ℕ) (s : AclState) (rs : List Bytes) → aclFrom s rs ≡ none → Every Whole (hintsFrom b place rs)
 unfolding scan hintsFrom
 hints-whole b place s [] e = tt
 hints-whole b place s (r ∷ rs) e =
     pick (eqb (kind r) 1) refl (orNext-next (aclRecordFault s r) _ e) (λ k. hints-whole b k (afterRecord s r) rs (orNext-next (aclRecordFault s r) _ e))
   where
     pick : (x : Bool) → eqb (kind r) 1 ≡ x → aclFrom (afterRecord s r) rs ≡ none → ((k : ℕ) → Every Whole (hintsFrom b k rs)) → Every Whole (hintsFrom b place (r ∷ rs))
-    pick true p d f = rw p (hint-whole place (keptPlaces b (isChecked b r) 0 rs) (group-places b s r rs p d), f (place + 1))
+    pick true p d f = rw p (hint-whole place (keptIndices b (isChecked b r) 0 rs) (group-places b s r rs p d), f (place + 1))
     pick false p d f = rw p (f place)
 
 hints-length : (b : List Bytes) (acl : Bytes) → aclFault (records acl) ≡ none → length (trimHints b acl) ≡ length (hintsFrom b 0 (records acl)) * recordBytes

@@ -15,9 +15,9 @@ use Rattle.rules.specs.Written.{bigEndian}
 use Rattle.rules.proofs.Rows.{rows-lent, lentRecord, lent-record, lent-rest}
 use Rattle.rules.proofs.Trim.{trim-end, hints-group, hints-other, hints-end}
 use Rattle.subject.specs.Writing.{overwritten}
-use Rattle.trim_records.specs.declared.Fate.{Fate}
-use Rattle.trim_records.specs.declared.Fate.the-variants.{Copied, Fewer, Dropped}
-use Rattle.trim_records.specs.Fates.{recordFate, sizeOf, leftOf, keptAfter, checkedAfter}
+use Rattle.trim_records.specs.declared.TrimAction.{TrimAction}
+use Rattle.trim_records.specs.declared.TrimAction.the-variants.{Copied, Fewer, Dropped}
+use Rattle.trim_records.specs.Fates.{onRecord, sizeOf, leftOf, keptAfter, checkedAfter}
 use Rattle.trim_records.proofs.Laws.{left-size, record-turn}
 use Rattle.trim_hints.proofs.Written.{Writing, writing-start, writing-room, writing-next, writing-done}
 use Rattle.trimming.specs.Trimming.{hintSize}
@@ -28,7 +28,7 @@ lent-whole s at h = ap length (lent-record s at) ∙ length-take-le recordBytes 
 
 -- One record of the ACL: what is left of it, and what is left of the rest.
 module _ (b : List Bytes) (acl : Bytes) (at : ℕ) (checked kept : Bool) where
-  pub acl-turn : (fate : Fate) → recordBytes ≤ length acl - at → fate ≡ recordFate b checked kept (lentRecord acl at)
+  pub acl-turn : (fate : TrimAction) → recordBytes ≤ length acl - at → fate ≡ onRecord b checked kept (lentRecord acl at)
       → joined (trimmedFrom b checked kept (recordsFrom acl at))
       ≡ leftOf b fate (lentRecord acl at) ++ joined (trimmedFrom b (checkedAfter b checked (lentRecord acl at)) (keptAfter fate kept (lentRecord acl at)) (recordsFrom acl (at + recordBytes)))
   acl-turn fate h e =
@@ -53,7 +53,7 @@ module _ (b : List Bytes) (acl : Bytes) (at place m : ℕ) (total : ℕ) (inv : 
   hints-counted false e = let d = ap length (hints-other b place acl at h e) in omega (arith, inv)
 
 module _ (b : List Bytes) (acl : Bytes) (at n m : ℕ) (checked kept : Bool) (inv : Measuring b acl checked kept at n m) where
-  pub measure-next : (fate : Fate) (size hint : ℕ) (checked′ kept′ : Bool) → recordBytes ≤ length acl - at → fate ≡ recordFate b checked kept (lentRecord acl at)
+  pub measure-next : (fate : TrimAction) (size hint : ℕ) (checked′ kept′ : Bool) → recordBytes ≤ length acl - at → fate ≡ onRecord b checked kept (lentRecord acl at)
       → size ≡ sizeOf fate → hint ≡ hintSize (lentRecord acl at) → kept′ ≡ keptAfter fate kept (lentRecord acl at) → checked′ ≡ checkedAfter b checked (lentRecord acl at)
       → Measuring b acl checked′ kept′ (at + recordBytes) (n + size) (m + hint)
   unfolding hintSize
@@ -93,7 +93,7 @@ fewer-put b policy n m r d e w z q p h =
     ∙ ap (λ (k : ℕ). overwritten (withBits k r) d) (p ∙ ap₂ keptBits z q)
 
 -- What a fate leaves, by the case that the code met.
-module _ (b : List Bytes) (fate : Fate) (r d e : Bytes) where
+module _ (b : List Bytes) (fate : TrimAction) (r d e : Bytes) where
   pub put-copied : fate ≡ Copied → e ≡ overwritten r d → e ≡ overwritten (leftOf b fate r) d
   unfolding leftOf
   put-copied t h = rw t h
@@ -109,7 +109,7 @@ module _ (b : List Bytes) (fate : Fate) (r d e : Bytes) where
 -- The trimmed ACL: room for what is left of a record, and one record more.
 module _ (b : List Bytes) (acl old new : Bytes) (at to : ℕ) (checked kept : Bool)
     (inv : Writing (trimmedAcl b acl) old new (joined (trimmedFrom b checked kept (recordsFrom acl at))) to) (fits : length (trimmedAcl b acl) ≤ length old) where
-  pub acl-room : (fate : Fate) → length new ≡ length old → recordBytes ≤ length acl - at → fate ≡ recordFate b checked kept (lentRecord acl at)
+  pub acl-room : (fate : TrimAction) → length new ≡ length old → recordBytes ≤ length acl - at → fate ≡ onRecord b checked kept (lentRecord acl at)
       → sizeOf fate ≤ length (take (length new - to) (drop to new))
   acl-room fate s h e =
       let more : Bytes = joined (trimmedFrom b (checkedAfter b checked (lentRecord acl at)) (keptAfter fate kept (lentRecord acl at)) (recordsFrom acl (at + recordBytes))) in
@@ -119,7 +119,7 @@ module _ (b : List Bytes) (acl old new : Bytes) (at to : ℕ) (checked kept : Bo
       let r = ap length (lent-rest new to) ∙ length-drop to new in
       omega (arith, l, t, z, r)
 
-  pub acl-next : (fate : Fate) (size : ℕ) (e : Bytes) (checked′ kept′ : Bool) → recordBytes ≤ length acl - at → fate ≡ recordFate b checked kept (lentRecord acl at)
+  pub acl-next : (fate : TrimAction) (size : ℕ) (e : Bytes) (checked′ kept′ : Bool) → recordBytes ≤ length acl - at → fate ≡ onRecord b checked kept (lentRecord acl at)
       → size ≡ sizeOf fate → e ≡ overwritten (leftOf b fate (lentRecord acl at)) (take (length new - to) (drop to new))
       → kept′ ≡ keptAfter fate kept (lentRecord acl at) → checked′ ≡ checkedAfter b checked (lentRecord acl at)
       → Writing (trimmedAcl b acl) old (take to new ++ (e ++ drop (length new - to) (drop to new))) (joined (trimmedFrom b checked′ kept′ (recordsFrom acl (at + recordBytes)))) (to + size)

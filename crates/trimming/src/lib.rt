@@ -16,7 +16,7 @@ use desk_steps::Failure;
 use desk_steps::Step;
 use files::Checked;
 use refusals::Refusal;
-use trim_records::Fate;
+use trim_records::TrimAction;
 
 // The answer: the lengths of the new ACL and of the hints, the step before the ACL that fails, or why nothing was trimmed.
 pub enum TrimReply {
@@ -54,7 +54,7 @@ fn measure(places: &[usize; bundle_facts::ENTRIES], bundle: &[u8], acl: &[u8]) -
     let mut at = 0;
     while record_sizes::RECORD <= acl.len() - at {
         let rec = &acl[at..at + record_sizes::RECORD];
-        let fate = trim_records::record_fate(places, bundle, checked, kept, rec);
+        let fate = trim_records::on_record(places, bundle, checked, kept, rec);
         n += trim_records::size_of(fate);
         m += hint_size(rec);
         kept = trim_records::kept_after(fate, kept, rec);
@@ -80,7 +80,7 @@ fn put_fewer(places: &[usize; bundle_facts::ENTRIES], bundle: &[u8], rec: &[u8],
 fn put(
     places: &[usize; bundle_facts::ENTRIES],
     bundle: &[u8],
-    fate: Fate,
+    fate: TrimAction,
     rec: &[u8],
     out: &mut [u8],
 )
@@ -88,9 +88,9 @@ fn put(
     ensures { λ _. ⌜ now (out .exit) ≡ overwritten (leftOf (records (now (bundle .entry))) fate (now (rec .entry))) (now (out .entry)) ⌝ }
 {
     match fate {
-        Fate::Copied => subject::copy(rec, out),
-        Fate::Fewer => put_fewer(places, bundle, rec, out),
-        Fate::Dropped => {}
+        TrimAction::Copied => subject::copy(rec, out),
+        TrimAction::Fewer => put_fewer(places, bundle, rec, out),
+        TrimAction::Dropped => {}
     }
 }
 
@@ -105,7 +105,7 @@ fn write_acl(places: &[usize; bundle_facts::ENTRIES], bundle: &[u8], acl: &[u8],
     let mut to = 0;
     while record_sizes::RECORD <= acl.len() - at {
         let rec = &acl[at..at + record_sizes::RECORD];
-        let fate = trim_records::record_fate(places, bundle, checked, kept, rec);
+        let fate = trim_records::on_record(places, bundle, checked, kept, rec);
         put(places, bundle, fate, rec, &mut new[to..]);
         to += trim_records::size_of(fate);
         kept = trim_records::kept_after(fate, kept, rec);

@@ -4,13 +4,13 @@ use lib.ListN.{length, drop}
 use Rattle.rules.specs.Basics.{records, recordsFrom}
 use Rattle.rules.specs.Acl.{groupsOf}
 use Rattle.acl_groups.proofs.Laws.{from-skip, from-next, place-skip, place-next, place-here, place-none, found-here, found-none}
-use Rattle.acl_groups.specs.Parts.{groupPlace}
+use Rattle.acl_groups.specs.Parts.{groupOffset}
 use borrow.Author.Needs.{needs}
 use Rattle.acl_groups.proofs.group_at.Statement.{statement}
 use Rattle.acl_groups.proofs.group_at.Tie as tie
 
 abbrev Inv-loop : tie.InvT-loop
-Inv-loop acl at g left₀ i₀ left i = (i ≤ length acl) × ((drop left (groupsOf (recordsFrom acl i)) ≡ drop g (groupsOf (records (drop at acl)))) × (groupPlace left (recordsFrom acl i) i (length acl) ≡ groupPlace g (records (drop at acl)) at (length acl)))
+Inv-loop acl at g left₀ i₀ left i = (i ≤ length acl) × ((drop left (groupsOf (recordsFrom acl i)) ≡ drop g (groupsOf (records (drop at acl)))) × (groupOffset left (recordsFrom acl i) i (length acl) ≡ groupOffset g (records (drop at acl)) at (length acl)))
 
 abbrev μ-loop : tie.MeasureT-loop
 μ-loop acl at g left₀ i₀ left i = length acl - i

@@ -1,4 +1,4 @@
-use Rattle.acl_reader.specs.Places.{aclPlaceAs}
+use Rattle.acl_reader.specs.Places.{aclStateAs}
 use Rattle.acl_reader.proofs.Laws.{fault-read}
 use borrow.Author.Needs.{needs}
 use Rattle.acl_reader.proofs.acl_records.Statement.{statement}
@@ -20,7 +20,7 @@ returns : tie.Need-returns
 returns c =
     let n = c .before in
     let d = n .before in
-    fault-read _ (aclPlaceAs (d .read .result .place)) (d .read .result .found) _ _ _ (d .before .start .ensures .0) (d .read .ensures .0) (n .end .ensures) (c .first-fault .ensures)
+    fault-read _ (aclStateAs (d .read .result .place)) (d .read .result .found) _ _ _ (d .before .start .ensures .0) (d .read .ensures .0) (n .end .ensures) (c .first-fault .ensures)
 
 pub acl-records-spec : {M : Type 1} → statement M
 acl-records-spec = tie.close (tie.spec start-requires read-requires end-requires first-fault-requires returns)

@@ -15,8 +15,8 @@ returns c =
     let v = c .before .whole2 .ensures in
     (bad-lengths _ _ _ _ w v (c .if1 .taken), (λ z. refused _ z), table-kept _ _ _ _ w v _ (search needs) (c .if1 .taken))
 
-find-places-requires : tie.Need-find-places-requires
-find-places-requires c κs = search needs
+find-offsets-requires : tie.Need-find-offsets-requires
+find-offsets-requires c κs = search needs
 
 bundle-records-requires : tie.Need-bundle-records-requires
 bundle-records-requires c κs = search needs
@@ -39,8 +39,8 @@ returns-2 c =
     let l = b .before .before .before in (
       good-lengths _ _ _ _ (l .before .before .whole .ensures) (l .before .whole2 .ensures) _ _ _ _ _ (l .if1 .left) (c .first-fault2 .ensures) (c .before .first-fault .ensures)
           (b .bundle-records .ensures) (c .before .before .before .before .acl-records .ensures) (c .before .before .suite-known .ensures),
-      (λ z. b .before .find-places .ensures .0),
-      table-filled _ _ _ _ (l .before .before .whole .ensures) (l .before .whole2 .ensures) _ (b .before .find-places .ensures .1) (l .if1 .left),
+      (λ z. b .before .find-offsets .ensures .0),
+      table-filled _ _ _ _ (l .before .before .whole .ensures) (l .before .whole2 .ensures) _ (b .before .find-offsets .ensures .1) (l .if1 .left),
     )
 
 pub read-both-spec : {M : Type 1} → statement M
@@ -50,7 +50,7 @@ read-both-spec =
     whole-requires
     whole-requires-2
     returns
-    find-places-requires
+    find-offsets-requires
     bundle-records-requires
     acl-records-requires
     suite-known-requires

@@ -15,8 +15,8 @@ returns-2 c = search (needs, recovery-blob)
 admits-archive-requires : tie.Need-admits-archive-requires
 admits-archive-requires c κs = search needs
 
-admits-place-requires : tie.Need-admits-place-requires
-admits-place-requires c κs = search needs
+admits-blobfile-requires : tie.Need-admits-blobfile-requires
+admits-blobfile-requires c κs = search needs
 
 returns-3 : tie.Need-returns-3
 returns-3 c = search (needs, recovery-is)
@@ -29,5 +29,5 @@ admits-recovery-spec =
     returns
     returns-2
     admits-archive-requires
-    admits-place-requires
+    admits-blobfile-requires
     returns-3)

@@ -3,7 +3,7 @@ use mathlib.Core.Path.{_≡_}
 use lib.ListN.{length, drop}
 use Rattle.rules.specs.Basics.{any, records, recordsFrom}
 use Rattle.rules.specs.Acl.{actionsOf}
-use Rattle.rules.specs.Request.{blobFileNext, wantedOf}
+use Rattle.rules.specs.Request.{blobfileNext, wantedOf}
 use Rattle.rules.specs.Grant.{admits}
 use Rattle.acl_groups.specs.Parts.{actionsFrom}
 use Rattle.gate_admission.proofs.Laws.{acts-first, acts-found, acts-next, acts-none}
@@ -12,7 +12,7 @@ use Rattle.gate_admission.proofs.admits_some_blob.Statement.{statement}
 use Rattle.gate_admission.proofs.admits_some_blob.Tie as tie
 
 abbrev Inv-loop : tie.InvT-loop
-Inv-loop km0 rec rest body at₀ at = (at ≤ length body) × ((64 ≤ length body - at → actionsOf (records (drop at body)) ≡ actionsFrom body at) × (any (admits km0 (wantedOf rec (blobFileNext (records rest)))) (actionsOf (recordsFrom body at)) ≡ any (admits km0 (wantedOf rec (blobFileNext (records rest)))) (actionsOf (records body))))
+Inv-loop km0 rec rest body at₀ at = (at ≤ length body) × ((64 ≤ length body - at → actionsOf (records (drop at body)) ≡ actionsFrom body at) × (any (admits km0 (wantedOf rec (blobfileNext (records rest)))) (actionsOf (recordsFrom body at)) ≡ any (admits km0 (wantedOf rec (blobfileNext (records rest)))) (actionsOf (records body))))
 
 abbrev μ-loop : tie.MeasureT-loop
 μ-loop km0 rec rest body at₀ at = length body - at

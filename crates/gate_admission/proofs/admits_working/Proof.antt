@@ -9,8 +9,8 @@ shared-slice-read-if1 c = search needs
 returns : tie.Need-returns
 returns c = search (needs, working-other)
 
-admits-place-requires : tie.Need-admits-place-requires
-admits-place-requires c κs = search needs
+admits-blobfile-requires : tie.Need-admits-blobfile-requires
+admits-blobfile-requires c κs = search needs
 
 returns-2 : tie.Need-returns-2
 returns-2 c = search (needs, working-elsewhere)
@@ -27,7 +27,7 @@ admits-working-spec =
     (tie.spec
     shared-slice-read-if1
     returns
-    admits-place-requires
+    admits-blobfile-requires
     returns-2
     admits-blob-requires
     returns-3)

@@ -7,14 +7,14 @@ use Rattle.rules.specs.Request.{requestOf}
 use Rattle.rules.specs.Basics.{recordsFrom}
 use Rattle.rules.proofs.Rows.{lentRecord}
 use Rattle.gate_decision.specs.declared.Nearest.the-variants.{Nothing}
-use Rattle.gate_decision.specs.Standings.{judgedFrom, standing, Remembered}
+use Rattle.gate_decision.specs.Standings.{judgedFrom, groupResult, Remembered}
 use Rattle.gate_decision.proofs.Laws.{groups-grant, groups-next, groups-done, standing-at, told-none, told-next, seen-before}
 use borrow.Author.Needs.{needs}
 use Rattle.gate_decision.proofs.judge_groups.Statement.{statement}
 use Rattle.gate_decision.proofs.judge_groups.Tie as tie
 
 abbrev Inv-loop : tie.InvT-loop
-Inv-loop counts counters elapsed km0 req acl near₀ place₀ seen₀ some₀ held₀ at₀ near place seen some held at = (at ≤ length acl) × ((place ≤ at) × ((64 ≤ length acl - at → getD acl at 0 ≡ 1) × ((judgedFrom (standing counts counters elapsed km0 (requestOf req)) near place (groupsOf (recordsFrom acl at)) ≡ judgedFrom (standing counts counters elapsed km0 (requestOf req)) Nothing 0 (aclOf acl)) × ((seen ≤ at) × Remembered (requestOf req) (lentRecord acl seen) some held))))
+Inv-loop counts counters elapsed km0 req acl near₀ place₀ seen₀ some₀ held₀ at₀ near place seen some held at = (at ≤ length acl) × ((place ≤ at) × ((64 ≤ length acl - at → getD acl at 0 ≡ 1) × ((judgedFrom (groupResult counts counters elapsed km0 (requestOf req)) near place (groupsOf (recordsFrom acl at)) ≡ judgedFrom (groupResult counts counters elapsed km0 (requestOf req)) Nothing 0 (aclOf acl)) × ((seen ≤ at) × Remembered (requestOf req) (lentRecord acl seen) some held))))
 
 abbrev μ-loop : tie.MeasureT-loop
 μ-loop counts counters elapsed km0 req acl near₀ place₀ seen₀ some₀ held₀ at₀ near place seen some held at = length acl - at
@@ -70,8 +70,8 @@ part-last-start c = search needs
 part-last-end : tie.Need-part-last-end Inv-loop μ-loop
 part-last-end c = search needs
 
-group-standing-requires : tie.Need-group-standing-requires Inv-loop μ-loop
-group-standing-requires c κs = search needs
+group-result-requires : tie.Need-group-result-requires Inv-loop μ-loop
+group-result-requires c κs = search needs
 
 grants-requires : tie.Need-grants-requires Inv-loop μ-loop
 grants-requires c κs = search needs
@@ -84,7 +84,7 @@ returns c =
     let i = l .before .loop .inv .1 .1 in
     let t = l .loop-test .taken in
     let a = l .before .before .before .before .before .before .before .before .args in
-    let d = standing-at _ _ _ _ _ _ _ (a .acl .now) (l .before .loop .at) _ (o .count-at .ensures) (s .group-standing .ensures) in
+    let d = standing-at _ _ _ _ _ _ _ (a .acl .now) (l .before .loop .at) _ (o .count-at .ensures) (s .group-result .ensures) in
     groups-grant _ _ _ _ _ _ (i .1 .0) t (i .0 t) _ d _ (c .before .grants .ensures) (c .if1 .taken)
 
 near-with-requires : tie.Need-near-with-requires Inv-loop μ-loop
@@ -139,11 +139,11 @@ loop-again c =
     let t = l .loop-test .taken in
     let a = l .before .before .before .before .before .before .before .before .args in
     let e = c .next-group2 .ensures in
-    let d = standing-at _ _ _ _ _ _ _ (a .acl .now) (l .before .loop .at) _ (o .count-at .ensures) (s .group-standing .ensures) in
+    let d = standing-at _ _ _ _ _ _ _ (a .acl .now) (l .before .loop .at) _ (o .count-at .ensures) (s .group-result .ensures) in
     let p = l .before .loop .inv .1 .0 in
     let j = groups-next _ _ _ _ _ _ (i .1 .0) t (i .0 t) _ d _ (f .before .grants .ensures) _ _ (f .if1 .left) (n .near-with .ensures) (e .same) in
-    let m = told-next _ _ _ _ _ (a .acl .now) (l .before .loop .at) (l .before .loop .seen) _ _ _ _ (i .1 .1 .1) (s .group-standing .ensures) _ _ _ (v .seen-after .ensures) (b .some-after .ensures) (h .held-after .ensures) in
-    let z = seen-before (s .group-standing .result) (l .before .loop .seen) (l .before .loop .at) (v .seen-after .result) (i .1 .1 .0) (v .seen-after .ensures) in
+    let m = told-next _ _ _ _ _ (a .acl .now) (l .before .loop .at) (l .before .loop .seen) _ _ _ _ (i .1 .1 .1) (s .group-result .ensures) _ _ _ (v .seen-after .ensures) (b .some-after .ensures) (h .held-after .ensures) in
+    let z = seen-before (s .group-result .result) (l .before .loop .seen) (l .before .loop .at) (v .seen-after .result) (i .1 .1 .0) (v .seen-after .ensures) in
     (e .inside, (omega (arith, e .later, p), (e .head, (j, (omega (arith, e .later, z), m)))))
 
 why-not-requires : tie.Need-why-not-requires Inv-loop μ-loop
@@ -174,7 +174,7 @@ judge-groups-spec =
     sub-last
     part-last-start
     part-last-end
-    group-standing-requires
+    group-result-requires
     grants-requires
     returns
     near-with-requires

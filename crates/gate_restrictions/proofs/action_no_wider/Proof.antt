@@ -27,8 +27,8 @@ returns-2 c = search (needs, bits-compared)
 rule-no-wider-requires : tie.Need-rule-no-wider-requires
 rule-no-wider-requires c κs = search needs
 
-place-no-wider-requires : tie.Need-place-no-wider-requires
-place-no-wider-requires c κs = search needs
+blobfile-no-wider-requires : tie.Need-blobfile-no-wider-requires
+blobfile-no-wider-requires c κs = search needs
 
 returns-3 : tie.Need-returns-3
 returns-3 c = search (needs, rules-compared)
@@ -45,5 +45,5 @@ action-no-wider-spec =
     subset16-requires
     returns-2
     rule-no-wider-requires
-    place-no-wider-requires
+    blobfile-no-wider-requires
     returns-3)

@@ -1,4 +1,4 @@
-use Rattle.rules.specs.Layout.{fileRequestLaidOut}
+use Rattle.rules.specs.Layout.{blobfileRequestLaidOut}
 use borrow.Author.Needs.{needs}
 use Rattle.record_layout.proofs.file_request.Statement.{statement}
 use Rattle.record_layout.proofs.file_request.Tie as tie
@@ -16,7 +16,7 @@ one-bit-requires : tie.Need-one-bit-requires
 one-bit-requires c κs = search needs
 
 returns : tie.Need-returns
-unfolding fileRequestLaidOut
+unfolding blobfileRequestLaidOut
 returns c = cc
 
 pub file-request-spec : {M : Type 1} → statement M

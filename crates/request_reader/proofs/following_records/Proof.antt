@@ -15,17 +15,17 @@ returns c = search (needs, following-plain)
 returns-2 : tie.Need-returns-2
 returns-2 c = search (needs, following-missing)
 
-sub-file-record : tie.Need-sub-file-record
-sub-file-record c = search needs
+sub-blobfile-record : tie.Need-sub-blobfile-record
+sub-blobfile-record c = search needs
 
-part-file-record-start : tie.Need-part-file-record-start
-part-file-record-start c = search needs
+part-blobfile-record-start : tie.Need-part-blobfile-record-start
+part-blobfile-record-start c = search needs
 
-part-file-record-end : tie.Need-part-file-record-end
-part-file-record-end c = search needs
+part-blobfile-record-end : tie.Need-part-blobfile-record-end
+part-blobfile-record-end c = search needs
 
-file-record-requires : tie.Need-file-record-requires
-file-record-requires c κs = search needs
+blobfile-record-requires : tie.Need-blobfile-record-requires
+blobfile-record-requires c κs = search needs
 
 returns-3 : tie.Need-returns-3
 returns-3 c = search (needs, following-bad)
@@ -53,10 +53,10 @@ following-records-spec =
     presented-records-requires
     returns
     returns-2
-    sub-file-record
-    part-file-record-start
-    part-file-record-end
-    file-record-requires
+    sub-blobfile-record
+    part-blobfile-record-start
+    part-blobfile-record-end
+    blobfile-record-requires
     returns-3
     sub-presented-records
     part-presented-records-start

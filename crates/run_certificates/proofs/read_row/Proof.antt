@@ -42,10 +42,10 @@ use Rattle.rules.specs.Basics.{Bytes, all}
 use Rattle.rules.specs.Acl.{aclOf}
 use Rattle.rules.specs.Runs.{mechanismNamed}
 use Rattle.run_certificates.specs.declared.Certificate.{Certificate}
-use Rattle.run_certificates.specs.declared.Seen.{Seen}
+use Rattle.run_certificates.specs.declared.RowSummary.{RowSummary}
 use Rattle.run_certificates.specs.Rows.{rowAs, certifiedSet, readableOf, Saw}
-use Rattle.run_certificates.proofs.Seen as N
-use Rattle.run_certificates.proofs.Seen.Laws as N′
+use Rattle.run_certificates.proofs.RowSummary as N
+use Rattle.run_certificates.proofs.RowSummary.Laws as N′
 use Rattle.run_certificates.proofs.Lent.{R, lent, Row, bytes, lentBytes, File, copies-row, copies-file, learns-row}
 use Rattle.run_certificates.proofs.Calls.{asks}
 use Rattle.run_certificates.proofs.Laws.{saw}
@@ -108,7 +108,7 @@ module _ {M : Type 1} (𝓤 : URA M) (H : Heap 𝓤) (A : Atoms 𝓤) (W : Given
   abbrev Post : Val → SProp 𝓤
   Post = walkOf 𝓤 H A this.ended stayed (this.clauses 𝓤 H A mem run) .post (((κ, (κ′, tt)), (q, (q′, tt)), tt, x, at), tt)
 
-  exits : (r : Seen) (v : Val) → Saw r acl (rowAs ys) → ent 𝓤 (⋆ 𝓤 H A (‵ (flft κ q) ∷ ‵ (File κ b o γ acl) ∷ ‵ (flft κ′ q′) ∷ ‵ (Row κ′ b′ o′ γ′ ys) ∷ ‵ (S .own r (v ∷ [])) ∷ [])) (Post v)
+  exits : (r : RowSummary) (v : Val) → Saw r acl (rowAs ys) → ent 𝓤 (⋆ 𝓤 H A (‵ (flft κ q) ∷ ‵ (File κ b o γ acl) ∷ ‵ (flft κ′ q′) ∷ ‵ (Row κ′ b′ o′ γ′ ys) ∷ ‵ (S .own r (v ∷ [])) ∷ [])) (Post v)
   exits r v e =
       qed W (‵ (flft κ q) ∷ ‵ (File κ b o γ acl) ∷ ‵ (flft κ′ q′) ∷ ‵ (Row κ′ b′ o′ γ′ ys) ∷ ‵ (S .own r (v ∷ [])) ∷ []) ∵
       suffices ! _ (ends-at 𝓤 H A this.ended stayed (this.clauses 𝓤 H A mem run) W (((κ, (κ′, tt)), (q, (q′, tt)), tt, x, at), tt) v r (tt, (tt, tt)) (tt, (tt, tt))) $ says ! e $

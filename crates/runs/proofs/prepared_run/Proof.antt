@@ -45,10 +45,10 @@ use Rattle.run_form.specs.Forms.{formAs}
 use Rattle.run_form.proofs.Prepared as F
 use Rattle.run_form.proofs.Prepared.Laws as F′
 use Rattle.run_certificates.specs.declared.Certificate.{Certificate}
-use Rattle.run_certificates.specs.declared.Seen.{Seen}
+use Rattle.run_certificates.specs.declared.RowSummary.{RowSummary}
 use Rattle.run_certificates.specs.Rows.{rowAs, Saw}
-use Rattle.run_certificates.proofs.Seen as N
-use Rattle.run_certificates.proofs.Seen.Laws as N′
+use Rattle.run_certificates.proofs.RowSummary as N
+use Rattle.run_certificates.proofs.RowSummary.Laws as N′
 use Rattle.run_certificates.proofs.Lent.{R, Shared, copies}
 use Rattle.run_certificates.proofs.Calls.{asks}
 use Rattle.run_certificates.proofs.read_row as read-row
@@ -76,7 +76,7 @@ stayed = (stay-none (λ _. L.the-row) yes, (stay-none-slice (0 ∷ []) tt (plain
 abbrev ledger-val : Ledger → Val
 ledger-val l = LL.val L.the-type L′.the-laws l
 
-abbrev seen-val : Seen → Val
+abbrev seen-val : RowSummary → Val
 seen-val s = LL.val N.the-type N′.the-laws s
 
 abbrev form-val : Prepared → Val
@@ -128,7 +128,7 @@ module _ {M : Type 1} (𝓤 : URA M) (H : Heap 𝓤) (A : Atoms 𝓤) (W : Given
   goes-read =
       qed W Reading ∵ nothing ! $ move ! (4 ∷ 0 ∷ []) $ fjoin ! $ move ! (2 ∷ 0 ∷ []) $ fjoin ! $ nothing ! $ move ! (3 ∷ 0 ∷ []) $ join ! $ move ! (2 ∷ 0 ∷ []) $ join ! $ join ! $ frame ! $ done !
 
-  abbrev to-judged : Seen → Bound 𝓤 H A judged.signature
+  abbrev to-judged : RowSummary → Bound 𝓤 H A judged.signature
   to-judged s = (
     (κ₀, (κ₁, (κ₃, (κ₄, tt)))),
     (q₀, (q₁, (q₃, (q₄, tt)))),
@@ -140,7 +140,7 @@ module _ {M : Type 1} (𝓤 : URA M) (H : Heap 𝓤) (A : Atoms 𝓤) (W : Given
   abbrev Judging : List (Item 𝓤)
   Judging = ‵ (flft κ₀ q₀) ∷ ‵ (flft κ₁ q₁) ∷ ‵ (flft κ₃ q₃) ∷ ‵ (flft κ₄ q₄) ∷ ‵ (Shared u8 κ₀ km0) ∷ ‵ (Shared u8 κ₁ acl) ∷ ‵ (Shared u8 κ₃ requests) ∷ ‵ Answers ∷ []
 
-  goes-judged : (s : Seen) → Is N.the-row s (seen-val s ∷ []) → ent 𝓤 (⋆ 𝓤 H A Judging) (Judged 𝓤 H A mem runs .pre (to-judged s, tt))
+  goes-judged : (s : RowSummary) → Is N.the-row s (seen-val s ∷ []) → ent 𝓤 (⋆ 𝓤 H A Judging) (Judged 𝓤 H A mem runs .pre (to-judged s, tt))
   goes-judged s is =
       qed W Judging ∵ nothing ! $ move ! (8 ∷ 0 ∷ []) $ fjoin ! $ move ! (7 ∷ 0 ∷ []) $ fjoin ! $ owned ! F.the-row (Is F.the-row) (LL.makes F.the-type F′.the-plain 𝓤 H A) form (form-val form ∷ []) form-is $ fjoin ! $ owned ! N.the-row (Is N.the-row) (LL.makes N.the-type N′.the-plain 𝓤 H A) s (seen-val s ∷ []) is $ fjoin ! $
       move ! (6 ∷ 0 ∷ []) $ fjoin ! $ move ! (5 ∷ 0 ∷ []) $ fjoin ! $ owned ! L.the-row (Is L.the-row) (LL.makes L.the-type L′.the-plain 𝓤 H A) ledger (ledger-val ledger ∷ []) ledger-is $ fjoin ! $

@@ -3,8 +3,8 @@ use borrow.Author.Needs.{needs}
 use Rattle.runs.proofs.run_known.Statement.{statement}
 use Rattle.runs.proofs.run_known.Tie as tie
 
-fill-bodies-requires : tie.Need-fill-bodies-requires
-fill-bodies-requires c κs = (search needs, search (needs, zero-inside), search (needs, known-few))
+fill-offsets-requires : tie.Need-fill-offsets-requires
+fill-offsets-requires c κs = (search needs, search (needs, zero-inside), search (needs, known-few))
 
 sets-of-requires : tie.Need-sets-of-requires
 sets-of-requires c κs = search needs
@@ -19,4 +19,4 @@ returns : tie.Need-returns
 returns c = search (needs, ran-is)
 
 pub run-known-spec : {M : Type 1} → statement M
-run-known-spec = tie.close (tie.spec fill-bodies-requires sets-of-requires run-records-requires same-length returns)
+run-known-spec = tie.close (tie.spec fill-offsets-requires sets-of-requires run-records-requires same-length returns)

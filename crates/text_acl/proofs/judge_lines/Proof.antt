@@ -2,14 +2,14 @@ use Prim.Native.Nat.{_+_, _-_, _≤_}
 use lib.ListN.{length}
 use Rattle.rules.specs.Sizes.{limitsMax}
 use Rattle.text_rules.specs.Kinds.{aclKind}
-use Rattle.acl_reader.specs.Places.{aclPlaceAs}
+use Rattle.acl_reader.specs.Places.{aclStateAs}
 use Rattle.text_acl.proofs.Reading.{good-is, good-place, LinesJudged, judged-none, judged-bad, judged-line, judged-missing, judged-all, end-due, end-sound}
 use borrow.Author.Needs.{needs}
 use Rattle.text_acl.proofs.judge_lines.Statement.{statement}
 use Rattle.text_acl.proofs.judge_lines.Tie as tie
 
 abbrev Inv-loop : tie.InvT-loop
-Inv-loop text place₀ at₀ line₀ place at line = (at ≤ length text) × (line ≤ at + 1) × (1 ≤ line) × (place .limits ≤ limitsMax) × LinesJudged aclKind text (aclPlaceAs place) at line
+Inv-loop text place₀ at₀ line₀ place at line = (at ≤ length text) × (line ≤ at + 1) × (1 ≤ line) × (place .limits ≤ limitsMax) × LinesJudged aclKind text (aclStateAs place) at line
 
 abbrev μ-loop : tie.MeasureT-loop
 μ-loop text place₀ at₀ line₀ place at line = length text - at
@@ -59,8 +59,8 @@ returns c =
     let d = r .before .before in
     let n = d .before .before in
     let l = n .before .before in
-    let g = good-is _ (aclPlaceAs (r .read .result .place)) (r .read .result .found) _ _ _ (d .decoded-record .ensures) (search needs) (r .read .ensures .0) (c .before .is-good .ensures) in
-    judged-bad aclKind (l .before .before .before .args .text .now) (aclPlaceAs (l .loop .place)) (l .loop .at) (l .loop .line) (n .line-end .result) _ (n .line-end .ensures) g (l .loop .inv .4) (c .if1 .taken)
+    let g = good-is _ (aclStateAs (r .read .result .place)) (r .read .result .found) _ _ _ (d .decoded-record .ensures) (search needs) (r .read .ensures .0) (c .before .is-good .ensures) in
+    judged-bad aclKind (l .before .before .before .args .text .now) (aclStateAs (l .loop .place)) (l .loop .at) (l .loop .line) (n .line-end .result) _ (n .line-end .ensures) g (l .loop .inv .4) (c .if1 .taken)
 
 add-line : tie.Need-add-line Inv-loop μ-loop
 add-line c = search needs
@@ -75,9 +75,9 @@ loop-again c =
     let d = r .before .before in
     let n = d .before .before in
     let l = n .before .before in
-    let g = good-is _ (aclPlaceAs (r .read .result .place)) (r .read .result .found) _ _ _ (d .decoded-record .ensures) (search needs) (r .read .ensures .0) (i .before .is-good .ensures) in
-    let p = good-place _ (aclPlaceAs (r .read .result .place)) (r .read .result .found) _ _ _ (d .decoded-record .ensures) (search needs) (r .read .ensures .0) (i .before .is-good .ensures) (i .if1 .left) in
-    (search needs, search needs, search needs, search needs, judged-line aclKind (l .before .before .before .args .text .now) (aclPlaceAs (l .loop .place)) (l .loop .at) (l .loop .line) (n .line-end .result) _ (n .line-end .ensures) g (l .loop .inv .4) _ _ (i .if1 .left) (d .decoded-record .ensures) p)
+    let g = good-is _ (aclStateAs (r .read .result .place)) (r .read .result .found) _ _ _ (d .decoded-record .ensures) (search needs) (r .read .ensures .0) (i .before .is-good .ensures) in
+    let p = good-place _ (aclStateAs (r .read .result .place)) (r .read .result .found) _ _ _ (d .decoded-record .ensures) (search needs) (r .read .ensures .0) (i .before .is-good .ensures) (i .if1 .left) in
+    (search needs, search needs, search needs, search needs, judged-line aclKind (l .before .before .before .args .text .now) (aclStateAs (l .loop .place)) (l .loop .at) (l .loop .line) (n .line-end .result) _ (n .line-end .ensures) g (l .loop .inv .4) _ _ (i .if1 .left) (d .decoded-record .ensures) p)
 
 returns-2 : tie.Need-returns-2 Inv-loop μ-loop
 returns-2 c = search (needs, judged-missing, end-due)

@@ -3,8 +3,8 @@ use borrow.Author.Needs.{needs}
 use Rattle.text_states.proofs.blobfile_step.Statement.{statement}
 use Rattle.text_states.proofs.blobfile_step.Tie as tie
 
-file-record-requires : tie.Need-file-record-requires
-file-record-requires c κs = search needs
+blobfile-record-requires : tie.Need-blobfile-record-requires
+blobfile-record-requires c κs = search needs
 
 refused-requires : tie.Need-refused-requires
 refused-requires c κs = search needs
@@ -20,4 +20,4 @@ returns-2 c = search (needs, blobfile-good)
 
 pub blobfile-step-spec : {M : Type 1} → statement M
 blobfile-step-spec =
-    tie.close (tie.spec file-record-requires refused-requires returns passed-requires returns-2)
+    tie.close (tie.spec blobfile-record-requires refused-requires returns passed-requires returns-2)

@@ -30,8 +30,8 @@ part-rec-start c = search needs
 part-rec-end : tie.Need-part-rec-end Inv-loop μ-loop
 part-rec-end c = search needs
 
-record-fate-requires : tie.Need-record-fate-requires Inv-loop μ-loop
-record-fate-requires c κs = search needs
+on-record-requires : tie.Need-on-record-requires Inv-loop μ-loop
+on-record-requires c κs = search needs
 
 size-of-requires : tie.Need-size-of-requires Inv-loop μ-loop
 size-of-requires c κs = search needs
@@ -61,7 +61,7 @@ loop-again : tie.Need-loop-again Inv-loop μ-loop
 loop-again c =
     let f = c .before .before .before .before in
     let l = f .before .before in
-    (search needs, (search needs, (search needs, measure-next _ _ _ _ _ _ _ (l .before .loop .inv .1 .1 .1) _ _ _ _ _ (l .loop-test .taken) (f .record-fate .ensures) (c .before .before .before .size-of .ensures .0) (c .before .before .hint-size .ensures .0) (c .before .kept-after .ensures) (c .checked-after .ensures))))
+    (search needs, (search needs, (search needs, measure-next _ _ _ _ _ _ _ (l .before .loop .inv .1 .1 .1) _ _ _ _ _ (l .loop-test .taken) (f .on-record .ensures) (c .before .before .before .size-of .ensures .0) (c .before .before .hint-size .ensures .0) (c .before .kept-after .ensures) (c .checked-after .ensures))))
 
 returns : tie.Need-returns Inv-loop μ-loop
 returns c = (search (needs, measure-acl), search (needs, measure-hints))
@@ -78,7 +78,7 @@ measure-spec =
     sub-rec
     part-rec-start
     part-rec-end
-    record-fate-requires
+    on-record-requires
     size-of-requires
     add-n
     hint-size-requires

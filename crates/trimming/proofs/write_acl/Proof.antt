@@ -33,8 +33,8 @@ part-rec-start c = search needs
 part-rec-end : tie.Need-part-rec-end Inv-loop μ-loop
 part-rec-end c = search needs
 
-record-fate-requires : tie.Need-record-fate-requires Inv-loop μ-loop
-record-fate-requires c κs = search needs
+on-record-requires : tie.Need-on-record-requires Inv-loop μ-loop
+on-record-requires c κs = search needs
 
 sub-put : tie.Need-sub-put Inv-loop μ-loop
 sub-put c = search needs
@@ -51,7 +51,7 @@ put-requires c κs =
     let l = f .before .before in
     let s = l .before .before .before .before .before in
     let i = l .before .loop .inv in
-    (search needs, search needs, acl-room _ _ _ _ _ _ _ _ (i .1 .1 .1 .1) (s .pre .1) _ (i .1 .1 .0) (l .loop-test .taken) (f .record-fate .ensures))
+    (search needs, search needs, acl-room _ _ _ _ _ _ _ _ (i .1 .1 .1 .1) (s .pre .1) _ (i .1 .1 .0) (l .loop-test .taken) (f .on-record .ensures))
 
 size-of-requires : tie.Need-size-of-requires Inv-loop μ-loop
 size-of-requires c κs = search needs
@@ -78,7 +78,7 @@ loop-again c =
     let l = f .before .before in
     let s = l .before .before .before .before .before in
     let i = l .before .loop .inv in
-    let w = acl-next _ _ _ _ _ _ _ _ (i .1 .1 .1 .1) (s .pre .1) _ _ _ _ _ (l .loop-test .taken) (f .record-fate .ensures) (c .before .before .size-of .ensures .0) (p .put .ensures) (c .before .kept-after .ensures) (c .checked-after .ensures) in
+    let w = acl-next _ _ _ _ _ _ _ _ (i .1 .1 .1 .1) (s .pre .1) _ _ _ _ _ (l .loop-test .taken) (f .on-record .ensures) (c .before .before .size-of .ensures .0) (p .put .ensures) (c .before .kept-after .ensures) (c .checked-after .ensures) in
     (search needs, (search needs, (writing-kept _ _ _ _ _ w (s .pre .1), (writing-inside _ _ _ _ _ w (s .pre .1), w))))
 
 same-length : tie.Need-same-length Inv-loop μ-loop
@@ -101,7 +101,7 @@ write-acl-spec =
     sub-rec
     part-rec-start
     part-rec-end
-    record-fate-requires
+    on-record-requires
     sub-put
     part-put-start
     part-put-end

@@ -4,8 +4,8 @@ use borrow.Author.Needs.{needs}
 use Rattle.acl_reader.proofs.Place.in_place.Statement.{statement}
 use Rattle.acl_reader.proofs.Place.in_place.Tie as tie
 
-file-record-requires : tie.Need-file-record-requires
-file-record-requires c κs = search needs
+blobfile-record-requires : tie.Need-blobfile-record-requires
+blobfile-record-requires c κs = search needs
 
 returns : tie.Need-returns
 unfolding inPlaceUnder
@@ -19,4 +19,4 @@ unfolding inPlaceUnder
 returns-2 c = search (needs, picks)
 
 pub in-place-spec : {M : Type 1} → statement M
-in-place-spec = tie.close (tie.spec file-record-requires returns placed-by-kind-requires returns-2)
+in-place-spec = tie.close (tie.spec blobfile-record-requires returns placed-by-kind-requires returns-2)

@@ -11,8 +11,8 @@ use Rattle.cabinet.proofs.Cabinet.narrow.Tie as tie
 is-slot-requires : tie.Need-is-slot-requires
 is-slot-requires c κs = search needs
 
-place-requires : tie.Need-place-requires
-place-requires c κs = search needs
+slot-index-requires : tie.Need-slot-index-requires
+slot-index-requires c κs = search needs
 
 mul-s : tie.Need-mul-s
 mul-s c = search needs
@@ -53,7 +53,7 @@ returns c =
     let p = k .before .before in
     let i = p .before in
     let a = i .before .before .before .before .before .before .args in
-    slot-called (a .t1 .slots) _ (a .t1 .counters) (a .slot) _ _ (λ (l : Ledger). narrow l (a .km0 .now) (a .acl .now) (a .req .now) (a .new .now) (a .hints .now)) _ _ (i .is-slot .ensures) (p .place .ensures .1) (k .counts-of .ensures .0)
+    slot-called (a .t1 .slots) _ (a .t1 .counters) (a .slot) _ _ (λ (l : Ledger). narrow l (a .km0 .now) (a .acl .now) (a .req .now) (a .new .now) (a .hints .now)) _ _ (i .is-slot .ensures) (p .slot-index .ensures .1) (k .counts-of .ensures .0)
     (narrow-outcome _ _ _ _ _ _ _ _ _ _ _ (q .narrow-in .ensures) refl (n .charge-count .ensures .1) (h .carry-counts .ensures) (m .last-after .ensures) (t .time .ensures)) (c .hand-back .ensures)
 
 pub narrow-spec : {M : Type 1} → statement M
@@ -61,7 +61,7 @@ narrow-spec =
     tie.close
     (tie.spec
     is-slot-requires
-    place-requires
+    slot-index-requires
     mul-s
     element-copy-out-s
     counts-of-requires

@@ -16,8 +16,8 @@ returns-2 : tie.Need-returns-2
 unfolding recordHinted
 returns-2 c = search (needs, picks)
 
-action-fate-requires : tie.Need-action-fate-requires
-action-fate-requires c κs = search needs
+on-action-requires : tie.Need-on-action-requires
+on-action-requires c κs = search needs
 
 is-kept-requires : tie.Need-is-kept-requires
 is-kept-requires c κs = search needs
@@ -28,7 +28,7 @@ after-action-requires c κs = search needs
 returns-3 : tie.Need-returns-3
 returns-3 c =
     let f = c .before .before in
-    action-recorded _ _ _ _ _ _ (search needs) (search needs) (f .action-fate .ensures) (c .before .is-kept .ensures) (c .after-action .ensures)
+    action-recorded _ _ _ _ _ _ (search needs) (search needs) (f .on-action .ensures) (c .before .is-kept .ensures) (c .after-action .ensures)
 
 pub after-spec : {M : Type 1} → statement M
 after-spec =
@@ -37,7 +37,7 @@ after-spec =
     shared-slice-read-kind
     returns
     returns-2
-    action-fate-requires
+    on-action-requires
     is-kept-requires
     after-action-requires
     returns-3)

@@ -1,10 +1,10 @@
 use mathlib.Core.Path.{refl}
-use Rattle.gate_decision.specs.Standings.{recordStanding}
+use Rattle.gate_decision.specs.Standings.{recordResult}
 use Rattle.gate_decision.proofs.Laws.{admits-asked}
 use Rattle.rules.proofs.Choices.{via-not-true, via-not-false}
 use borrow.Author.Needs.{needs}
-use Rattle.gate_decision.proofs.group_standing.Statement.{statement}
-use Rattle.gate_decision.proofs.group_standing.Tie as tie
+use Rattle.gate_decision.proofs.group_result.Statement.{statement}
+use Rattle.gate_decision.proofs.group_result.Tie as tie
 
 sub-rest : tie.Need-sub-rest
 sub-rest c = search needs
@@ -28,7 +28,7 @@ group-admits-requires : tie.Need-group-admits-requires
 group-admits-requires c κs = search needs
 
 returns : tie.Need-returns
-unfolding recordStanding
+unfolding recordResult
 returns c =
     let g = c .before in
     let s = g .before .before .before .before .before .before .before .before .before in
@@ -39,7 +39,7 @@ certified-as-requires : tie.Need-certified-as-requires
 certified-as-requires c κs = search needs
 
 returns-2 : tie.Need-returns-2
-unfolding recordStanding
+unfolding recordResult
 returns-2 c =
     let f = c .before .before in
     let g = f .before in
@@ -51,7 +51,7 @@ is-unspent-requires : tie.Need-is-unspent-requires
 is-unspent-requires c κs = search needs
 
 returns-3 : tie.Need-returns-3
-unfolding recordStanding
+unfolding recordResult
 returns-3 c =
     let e = c .before .before in
     let f = e .before .before in
@@ -63,7 +63,7 @@ returns-3 c =
     (via-not-true _ _ _ _ _ (c .before .is-unspent .ensures) (c .if3 .taken) refl))
 
 returns-4 : tie.Need-returns-4
-unfolding recordStanding
+unfolding recordResult
 returns-4 c =
     let e = c .before .before in
     let f = e .before .before in
@@ -74,8 +74,8 @@ returns-4 c =
     (via-not-false _ _ _ _ _ (e .before .certified-as .ensures) (e .if2 .left)
     (via-not-false _ _ _ _ _ (c .before .is-unspent .ensures) (c .if3 .left) refl))
 
-pub group-standing-spec : {M : Type 1} → statement M
-group-standing-spec =
+pub group-result-spec : {M : Type 1} → statement M
+group-result-spec =
     tie.close
     (tie.spec
     sub-rest

@@ -3,14 +3,14 @@ use Prim.Native.Nat.{_≤_, _-_}
 use lib.ListN.{length}
 use Rattle.rules.specs.Sizes.{groupsMax}
 use Rattle.rules.specs.Basics.{records, recordsFrom}
-use Rattle.run_form.specs.Places.{bodiesFrom}
+use Rattle.run_form.specs.Places.{offsetsFrom}
 use Rattle.run_form.proofs.Placing.{Filling, filling-start, filling-done, filling-skip, filling-room, filling-next, filling-sized, put-start, put-skip, put-next, put-done}
 use borrow.Author.Needs.{needs}
-use Rattle.run_form.proofs.fill_bodies.Statement.{statement}
-use Rattle.run_form.proofs.fill_bodies.Tie as tie
+use Rattle.run_form.proofs.fill_offsets.Statement.{statement}
+use Rattle.run_form.proofs.fill_offsets.Tie as tie
 
 abbrev Inv-loop : tie.InvT-loop
-Inv-loop bodies₀ acl g₀ at₀ bodies g at = (at ≤ length acl) × ((length bodies ≡ groupsMax) × (Filling acl bodies g at × (bodiesFrom bodies g at (recordsFrom acl at) ≡ bodiesFrom bodies₀ 0 0 (records acl))))
+Inv-loop bodies₀ acl g₀ at₀ bodies g at = (at ≤ length acl) × ((length bodies ≡ groupsMax) × (Filling acl bodies g at × (offsetsFrom bodies g at (recordsFrom acl at) ≡ offsetsFrom bodies₀ 0 0 (records acl))))
 
 abbrev μ-loop : tie.MeasureT-loop
 μ-loop bodies₀ acl g₀ at₀ bodies g at = length acl - at
@@ -33,11 +33,11 @@ loop-less c = search needs
 loop-again : tie.Need-loop-again Inv-loop μ-loop
 loop-again c = (search needs, (search needs, (search (needs, filling-skip), search (needs, put-skip))))
 
-add-put-body : tie.Need-add-put-body Inv-loop μ-loop
-add-put-body c = search needs
+add-put-offset : tie.Need-add-put-offset Inv-loop μ-loop
+add-put-offset c = search needs
 
-put-body-requires : tie.Need-put-body-requires Inv-loop μ-loop
-put-body-requires c κs = (search needs, search (needs, filling-room))
+put-offset-requires : tie.Need-put-offset-requires Inv-loop μ-loop
+put-offset-requires c κs = (search needs, search (needs, filling-room))
 
 add-at-2 : tie.Need-add-at-2 Inv-loop μ-loop
 add-at-2 c = search needs
@@ -51,8 +51,8 @@ loop-again-2 c = (search needs, (search (needs, filling-sized), (search (needs, 
 returns : tie.Need-returns Inv-loop μ-loop
 returns c = (search (needs, filling-done), search (needs, put-done))
 
-pub fill-bodies-spec : {M : Type 1} → statement M
-fill-bodies-spec =
+pub fill-offsets-spec : {M : Type 1} → statement M
+fill-offsets-spec =
     tie.close
     (tie.spec
     Inv-loop
@@ -63,8 +63,8 @@ fill-bodies-spec =
     add-at
     loop-less
     loop-again
-    add-put-body
-    put-body-requires
+    add-put-offset
+    put-offset-requires
     add-at-2
     loop-less-2
     loop-again-2

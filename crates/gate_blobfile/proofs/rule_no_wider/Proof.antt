@@ -1,7 +1,7 @@
 use Rattle.gate_blobfile.proofs.Laws.{files-none, files-added, files-both}
 use borrow.Author.Needs.{needs}
-use Rattle.gate_blobfile.proofs.file_no_wider.Statement.{statement}
-use Rattle.gate_blobfile.proofs.file_no_wider.Tie as tie
+use Rattle.gate_blobfile.proofs.rule_no_wider.Statement.{statement}
+use Rattle.gate_blobfile.proofs.rule_no_wider.Tie as tie
 
 returns : tie.Need-returns
 returns c = search (needs, files-none)
@@ -18,7 +18,7 @@ kept-template-requires c κs = (c .before .before .before .before .before .pre .
 returns-3 : tie.Need-returns-3
 returns-3 c = search (needs, files-both)
 
-pub file-no-wider-spec : {M : Type 1} → statement M
-file-no-wider-spec =
+pub rule-no-wider-spec : {M : Type 1} → statement M
+rule-no-wider-spec =
     tie.close
     (tie.spec returns returns-2 kept-devices-requires kept-template-requires returns-3)

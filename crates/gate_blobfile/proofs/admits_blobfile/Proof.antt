@@ -1,7 +1,7 @@
 use mathlib.Core.Path.{_∙_}
 use borrow.Author.Needs.{needs}
-use Rattle.gate_blobfile.proofs.admits_place.Statement.{statement}
-use Rattle.gate_blobfile.proofs.admits_place.Tie as tie
+use Rattle.gate_blobfile.proofs.admits_blobfile.Statement.{statement}
+use Rattle.gate_blobfile.proofs.admits_blobfile.Tie as tie
 
 file-part-requires : tie.Need-file-part-requires
 file-part-requires c κs = search needs
@@ -15,6 +15,6 @@ admits-file-requires c κs = (c .before .file-part .ensures .whole, c .file-part
 returns : tie.Need-returns
 returns c = c .admits-file .ensures ∙ rw (c .before .before .file-part .ensures .file, c .before .file-part2 .ensures .blob)
 
-pub admits-place-spec : {M : Type 1} → statement M
-admits-place-spec =
+pub admits-blobfile-spec : {M : Type 1} → statement M
+admits-blobfile-spec =
     tie.close (tie.spec file-part-requires file-part-requires-2 admits-file-requires returns)

@@ -2,14 +2,14 @@ use Prim.Native.Nat.{_≤_, _-_}
 use mathlib.Core.Path.{_≡_}
 use lib.ListN.{length}
 use Rattle.rules.specs.Basics.{recordsFrom}
-use Rattle.bundle_facts.specs.Places.{entries, notedFrom, placesOf, Filling}
+use Rattle.bundle_facts.specs.Places.{entries, notedFrom, offsetsOf, Filling}
 use Rattle.bundle_facts.proofs.Places.{entry-below, filling-start, filling-kept, filling-put, filling-done, noted-start, noted-kept, noted-put, noted-done}
 use borrow.Author.Needs.{needs}
-use Rattle.bundle_facts.proofs.find_places.Statement.{statement}
-use Rattle.bundle_facts.proofs.find_places.Tie as tie
+use Rattle.bundle_facts.proofs.find_offsets.Statement.{statement}
+use Rattle.bundle_facts.proofs.find_offsets.Tie as tie
 
 abbrev Inv-loop : tie.InvT-loop
-Inv-loop places₀ bundle at₀ places at = (at ≤ length bundle) × ((length places ≡ entries) × (Filling bundle places (recordsFrom bundle at) × (notedFrom places at (recordsFrom bundle at) ≡ placesOf bundle)))
+Inv-loop places₀ bundle at₀ places at = (at ≤ length bundle) × ((length places ≡ entries) × (Filling bundle places (recordsFrom bundle at) × (notedFrom places at (recordsFrom bundle at) ≡ offsetsOf bundle)))
 
 abbrev μ-loop : tie.MeasureT-loop
 μ-loop places₀ bundle at₀ places at = length bundle - at
@@ -68,8 +68,8 @@ loop-again-2 c = (search needs, (search needs, (search (needs, filling-put), sea
 returns : tie.Need-returns Inv-loop μ-loop
 returns c = (search (needs, filling-done), search (needs, noted-done))
 
-pub find-places-spec : {M : Type 1} → statement M
-find-places-spec =
+pub find-offsets-spec : {M : Type 1} → statement M
+find-offsets-spec =
     tie.close
     (tie.spec
     Inv-loop
