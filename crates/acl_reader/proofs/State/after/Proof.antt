@@ -2,8 +2,8 @@ use Rattle.rules.specs.Acl.{afterRecord}
 use Rattle.rules.proofs.Choices.{picks}
 use Rattle.acl_reader.proofs.Laws.{group-fits, limit-fits, action-fits, limit-next, group-begun, action-added}
 use borrow.Author.Needs.{needs}
-use Rattle.acl_reader.proofs.Place.after.Statement.{statement}
-use Rattle.acl_reader.proofs.Place.after.Tie as tie
+use Rattle.acl_reader.proofs.State.after.Statement.{statement}
+use Rattle.acl_reader.proofs.State.after.Tie as tie
 
 shared-slice-read-kind : tie.Need-shared-slice-read-kind
 shared-slice-read-kind c = search needs

@@ -1,7 +1,7 @@
 use Rattle.acl_reader.proofs.Laws.{place-added}
 use borrow.Author.Needs.{needs}
-use Rattle.acl_reader.proofs.Place.after_limit.Statement.{statement}
-use Rattle.acl_reader.proofs.Place.after_limit.Tie as tie
+use Rattle.acl_reader.proofs.State.after_limit.Statement.{statement}
+use Rattle.acl_reader.proofs.State.after_limit.Tie as tie
 
 mul-self : tie.Need-mul-self
 mul-self c = search needs

@@ -1,8 +1,8 @@
 use Rattle.rules.specs.Acl.{inPlaceUnder}
 use Rattle.rules.proofs.Choices.{picks}
 use borrow.Author.Needs.{needs}
-use Rattle.acl_reader.proofs.Place.in_place.Statement.{statement}
-use Rattle.acl_reader.proofs.Place.in_place.Tie as tie
+use Rattle.acl_reader.proofs.State.in_place.Statement.{statement}
+use Rattle.acl_reader.proofs.State.in_place.Tie as tie
 
 blobfile-record-requires : tie.Need-blobfile-record-requires
 blobfile-record-requires c κs = search needs

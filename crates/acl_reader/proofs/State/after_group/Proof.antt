@@ -1,7 +1,7 @@
 use Rattle.acl_reader.specs.Places.{keysOf}
 use borrow.Author.Needs.{needs}
-use Rattle.acl_reader.proofs.Place.after_group.Statement.{statement}
-use Rattle.acl_reader.proofs.Place.after_group.Tie as tie
+use Rattle.acl_reader.proofs.State.after_group.Statement.{statement}
+use Rattle.acl_reader.proofs.State.after_group.Tie as tie
 
 add-self : tie.Need-add-self
 add-self c = search needs

@@ -6,8 +6,8 @@ use Rattle.rules.specs.Basics.{records, recordsFrom}
 use Rattle.acl_reader.specs.Places.{aclStateAs, reading}
 use Rattle.acl_reader.proofs.Laws.{was-true, acl-bad, acl-full, acl-open, acl-sound, read-stop, read-next, read-done}
 use borrow.Author.Needs.{needs}
-use Rattle.acl_reader.proofs.Place.read.Statement.{statement}
-use Rattle.acl_reader.proofs.Place.read.Tie as tie
+use Rattle.acl_reader.proofs.State.read.Statement.{statement}
+use Rattle.acl_reader.proofs.State.read.Tie as tie
 
 abbrev Inv-loop : tie.InvT-loop
 Inv-loop acl place₀ at₀ place at = (at ≤ length acl) × ((place .limits ≤ limitsMax) × (reading (aclStateAs place) (recordsFrom acl at) ≡ reading (aclStateAs place₀) (records acl)))

@@ -1,7 +1,7 @@
 use Rattle.acl_reader.specs.Places.{keysOf}
 use borrow.Author.Needs.{needs}
-use Rattle.acl_reader.proofs.Place.start.Statement.{statement}
-use Rattle.acl_reader.proofs.Place.start.Tie as tie
+use Rattle.acl_reader.proofs.State.start.Statement.{statement}
+use Rattle.acl_reader.proofs.State.start.Tie as tie
 
 returns : tie.Need-returns
 unfolding keysOf

@@ -2,8 +2,8 @@ use Rattle.rules.proofs.Choices.{picks}
 use Rattle.rules.specs.Acl.{hasRoomUnder}
 use Rattle.acl_reader.proofs.Laws.{room-left}
 use borrow.Author.Needs.{needs}
-use Rattle.acl_reader.proofs.Place.has_room.Statement.{statement}
-use Rattle.acl_reader.proofs.Place.has_room.Tie as tie
+use Rattle.acl_reader.proofs.State.has_room.Statement.{statement}
+use Rattle.acl_reader.proofs.State.has_room.Tie as tie
 
 shared-slice-read-kind : tie.Need-shared-slice-read-kind
 shared-slice-read-kind c = search needs

@@ -1,7 +1,7 @@
 use Rattle.rules.specs.Acl.{keyed}
 use borrow.Author.Needs.{needs}
-use Rattle.acl_reader.proofs.Place.is_keyed.Statement.{statement}
-use Rattle.acl_reader.proofs.Place.is_keyed.Tie as tie
+use Rattle.acl_reader.proofs.State.is_keyed.Statement.{statement}
+use Rattle.acl_reader.proofs.State.is_keyed.Tie as tie
 
 shared-slice-read-kind : tie.Need-shared-slice-read-kind
 shared-slice-read-kind c = search needs

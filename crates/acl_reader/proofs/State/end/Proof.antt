@@ -1,7 +1,7 @@
 use Rattle.acl_reader.proofs.Laws.{end-due, end-sound}
 use borrow.Author.Needs.{needs}
-use Rattle.acl_reader.proofs.Place.end.Statement.{statement}
-use Rattle.acl_reader.proofs.Place.end.Tie as tie
+use Rattle.acl_reader.proofs.State.end.Statement.{statement}
+use Rattle.acl_reader.proofs.State.end.Tie as tie
 
 returns : tie.Need-returns
 returns c = search (needs, end-due)

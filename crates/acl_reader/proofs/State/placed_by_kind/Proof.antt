@@ -3,8 +3,8 @@ use Rattle.acl_reader.proofs.Laws.{limit-placed, action-placed}
 use Rattle.rules.proofs.Choices.{picks}
 use Rattle.record_layout.proofs.Chain.{chain}
 use borrow.Author.Needs.{needs}
-use Rattle.acl_reader.proofs.Place.placed_by_kind.Statement.{statement}
-use Rattle.acl_reader.proofs.Place.placed_by_kind.Tie as tie
+use Rattle.acl_reader.proofs.State.placed_by_kind.Statement.{statement}
+use Rattle.acl_reader.proofs.State.placed_by_kind.Tie as tie
 
 shared-slice-read-kind : tie.Need-shared-slice-read-kind
 shared-slice-read-kind c = search needs

@@ -2,8 +2,8 @@ use Rattle.rules.specs.Acl.{limitInPlace}
 use Rattle.acl_reader.proofs.Laws.{not-is}
 use Rattle.record_layout.proofs.Chain.{chain}
 use borrow.Author.Needs.{needs}
-use Rattle.acl_reader.proofs.Place.takes_limit.Statement.{statement}
-use Rattle.acl_reader.proofs.Place.takes_limit.Tie as tie
+use Rattle.acl_reader.proofs.State.takes_limit.Statement.{statement}
+use Rattle.acl_reader.proofs.State.takes_limit.Tie as tie
 
 returns : tie.Need-returns
 unfolding limitInPlace
