@@ -55,13 +55,13 @@ use Rattle.run_certificates.proofs.Lent.{R, Shared, copies}
 use Rattle.run_certificates.proofs.Calls.{asks}
 use Rattle.cabinet_runs.proofs.run as plain-run
 use Rattle.cabinet_runs.proofs.run.Symbol as plain-run-def
-use Rattle.cabinet_runs.proofs.run.Symbol.{name as #slots·run}
+use Rattle.cabinet_runs.proofs.run.Symbol.{name as #cabinet-runs·run}
 use Rattle.cabinet_runs.proofs.run.Met as plain-run-thm
 use Rattle.c_run_answers.proofs.cabinet_run as told
 use Rattle.c_run_answers.proofs.cabinet_run.Symbol as told-def
-use Rattle.c_run_answers.proofs.cabinet_run.Symbol.{name as #surface-runs·cabinet-run}
+use Rattle.c_run_answers.proofs.cabinet_run.Symbol.{name as #c-run-answers·cabinet-run}
 use Rattle.c_run_answers.proofs.cabinet_run.Met as told-thm
-use Rattle.c_runs.proofs.akubolinfe_cabinet_run.Key.{name as #host-runs·akubolinfe-cabinet-run}
+use Rattle.c_runs.proofs.akubolinfe_cabinet_run.Key.{name as #c-runs·akubolinfe-cabinet-run}
 use Rattle.c_runs.proofs.akubolinfe_cabinet_run as this
 use Rattle.c_runs.proofs.akubolinfe_cabinet_run.Statement as stated
 use Rattle.c_runs.proofs.akubolinfe_cabinet_run.Code as code
@@ -114,7 +114,7 @@ module _ {M : Type 1} (𝓤 : URA M) (H : Heap 𝓤) (A : Atoms 𝓤) (W : Given
   goes-told : (o : CabinetRan) → Is CabinetRan-type.the-row o (LL.val CabinetRan-type.the-type CabinetRan-type-laws.the-laws o ∷ []) → ent 𝓤 (⋆ 𝓤 H A (items-told o)) (C-told 𝓤 H A mem run .pre (to-told o, tt))
   goes-told o o-is = qed W (items-told o) ∵ nothing ! $ owned ! CabinetRan-type.the-row (Is CabinetRan-type.the-row) (LL.makes CabinetRan-type.the-type CabinetRan-type-laws.the-plain 𝓤 H A) o (LL.val CabinetRan-type.the-type CabinetRan-type-laws.the-laws o ∷ []) o-is $ fjoin ! $ nothing ! $ join ! $ frame ! $ done !
 
-  walk : (𝓣 : Tables 𝓤 H) → Triple 𝓤 (𝓣 .C #slots·run) (C-plain-run 𝓤 H A mem run) → Triple 𝓤 (𝓣 .C #surface-runs·cabinet-run) (C-told 𝓤 H A mem run)
+  walk : (𝓣 : Tables 𝓤 H) → Triple 𝓤 (𝓣 .C #cabinet-runs·run) (C-plain-run 𝓤 H A mem run) → Triple 𝓤 (𝓣 .C #c-run-answers·cabinet-run) (C-told 𝓤 H A mem run)
       → ent 𝓤 (onEntry 𝓤 H A this.signature (κ₀, (κ₁, (κ₂, (κ₃, (κ₄, tt))))) (q₀, (q₁, (q₂, (q₃, (q₄, tt))))) x at) (WpFn 𝓤 H (𝓣 .C) (𝓣 .Λ) code.function (LL.val Cabinet-type.the-type Cabinet-type-laws.the-laws cabinet ∷ vint w64 slot ∷ only (slice-vals km0) ∷ only (slice-vals acl) ∷ only (slice-vals row) ∷ only (slice-vals requests) ∷ only (slice-vals answers) ∷ []) Post)
   walk 𝓣 known-plain-run known-told =
       qed W ((‵ (flft κ₀ q₀) ⊛ (‵ (flft κ₁ q₁) ⊛ (‵ (flft κ₂ q₂) ⊛ (‵ (flft κ₃ q₃) ⊛ (‵ (flft κ₄ q₄) ⊛ (‵ ftrue)))))) ∷ ‵ (owns (Cabinet-type.the-row ∷ usize ∷ ShrSlice (named 0) κ₀ u8 ∷ ShrSlice (named 1) κ₁ u8 ∷ ShrSlice (named 2) κ₂ R ∷ ShrSlice (named 3) κ₃ u8 ∷ MutSlice (named 4) κ₄ u8 ∷ []) x at) ∷ []) ∵ enter ! (𝓣 .C) (𝓣 .Λ) code.function (LL.val Cabinet-type.the-type Cabinet-type-laws.the-laws cabinet ∷ vint w64 slot ∷ only (slice-vals km0) ∷ only (slice-vals acl) ∷ only (slice-vals row) ∷ only (slice-vals requests) ∷ only (slice-vals answers) ∷ []) _ $
@@ -252,7 +252,7 @@ module _ {M : Type 1} (𝓤 : URA M) (H : Heap 𝓤) (A : Atoms 𝓤) (W : Given
       move ! (6 ∷ 5 ∷ 4 ∷ 3 ∷ 2 ∷ 10 ∷ 9 ∷ 8 ∷ 7 ∷ 1 ∷ 0 ∷ []) $
       by ! (exits r v (ws₀ .1 .1 .1 .1 .1 .1 .0) (tells _ ∙ ap hostCabinetRunFor e) fits-last))))))))))))))))))
 
-module _ {M : Type 1} (𝓤 : URA M) (H : Heap 𝓤) (A : Atoms 𝓤) (W : Given 𝓤 H A) (mem : Memory → SProp 𝓤) (run : Routine → Fun 𝓤) (𝓣 : Tables 𝓤 H) (known-plain-run : Triple 𝓤 (𝓣 .C #slots·run) (C-plain-run 𝓤 H A mem run)) (known-told : Triple 𝓤 (𝓣 .C #surface-runs·cabinet-run) (C-told 𝓤 H A mem run)) where
+module _ {M : Type 1} (𝓤 : URA M) (H : Heap 𝓤) (A : Atoms 𝓤) (W : Given 𝓤 H A) (mem : Memory → SProp 𝓤) (run : Routine → Fun 𝓤) (𝓣 : Tables 𝓤 H) (known-plain-run : Triple 𝓤 (𝓣 .C #cabinet-runs·run) (C-plain-run 𝓤 H A mem run)) (known-told : Triple 𝓤 (𝓣 .C #c-run-answers·cabinet-run) (C-told 𝓤 H A mem run)) where
   walks : Walks 𝓤 H A this.ended stayed (WpFn 𝓤 H (𝓣 .C) (𝓣 .Λ) code.function) (this.clauses 𝓤 H A mem run)
   walks = walked 𝓤 H A this.ended stayed (this.clauses 𝓤 H A mem run) (WpFn 𝓤 H (𝓣 .C) (𝓣 .Λ) code.function) (λ κs. (LL.vals Cabinet-type.the-type Cabinet-type-laws.the-laws, (uint-vals w64, (slice-vals, (slice-vals, (slice-vals, (slice-vals, (slice-vals, tt))))))))
       (λ κs. (LL.tells Cabinet-type.the-type Cabinet-type-laws.the-laws, (uint-tells w64, (shr-slice-tells (named 0) (κs .0) u8, (shr-slice-tells (named 1) (κs .1 .0) u8, (shr-slice-tells (named 2) (κs .1 .1 .0) R, (shr-slice-tells (named 3) (κs .1 .1 .1 .0) u8, (mut-slice-tells (named 4) (κs .1 .1 .1 .1 .0) u8, tt))))))))
@@ -267,7 +267,7 @@ pub akubolinfe-cabinet-run-spec : {M : Type 1} → stated.statement M
 unfolding code.routine tablesOf
 akubolinfe-cabinet-run-spec 𝓤 H 𝓜 𝓖 𝓡 =
     entered 𝓤 H (tripleOf 𝓤 H (𝓖 .A) this.signature (this.spec 𝓤 H (𝓖 .A) (𝓜 .mem) (𝓡 .run)))
-    (tables 𝓤 H 𝓜 𝓡 code.env .C) (tables 𝓤 H 𝓜 𝓡 code.env .Λ) #host-runs·akubolinfe-cabinet-run code.function (code.unfolded 𝓤 H 𝓜 𝓡)
+    (tables 𝓤 H 𝓜 𝓡 code.env .C) (tables 𝓤 H 𝓜 𝓡 code.env .Λ) #c-runs·akubolinfe-cabinet-run code.function (code.unfolded 𝓤 H 𝓜 𝓡)
     (meets 𝓤 H (𝓖 .A) (givenOf 𝓤 H 𝓜 𝓖) (𝓜 .mem) (𝓡 .run) (tablesOf 𝓤 H 𝓜 (tables 𝓤 H 𝓜 𝓡 code.env))
-    (cited 𝓤 H (C-plain-run 𝓤 H (𝓖 .A) (𝓜 .mem) (𝓡 .run)) 𝓜 𝓡 code.env #slots·run plain-run-def.routine code.calls-slots·run (plain-run-thm.met 𝓤 H 𝓜 𝓖 𝓡))
-    (cited 𝓤 H (C-told 𝓤 H (𝓖 .A) (𝓜 .mem) (𝓡 .run)) 𝓜 𝓡 code.env #surface-runs·cabinet-run told-def.routine code.calls-surface-runs·cabinet-run (told-thm.met 𝓤 H 𝓜 𝓖 𝓡)))
+    (cited 𝓤 H (C-plain-run 𝓤 H (𝓖 .A) (𝓜 .mem) (𝓡 .run)) 𝓜 𝓡 code.env #cabinet-runs·run plain-run-def.routine code.calls-cabinet-runs·run (plain-run-thm.met 𝓤 H 𝓜 𝓖 𝓡))
+    (cited 𝓤 H (C-told 𝓤 H (𝓖 .A) (𝓜 .mem) (𝓡 .run)) 𝓜 𝓡 code.env #c-run-answers·cabinet-run told-def.routine code.calls-c-run-answers·cabinet-run (told-thm.met 𝓤 H 𝓜 𝓖 𝓡)))

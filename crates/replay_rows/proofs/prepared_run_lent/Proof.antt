@@ -63,7 +63,7 @@ use Rattle.runs.proofs.prepared_run as prepared
 use Rattle.runs.proofs.prepared_run.Symbol as prepared-def
 use Rattle.runs.proofs.prepared_run.Symbol.{name as #runs·prepared-run}
 use Rattle.runs.proofs.prepared_run.Met as prepared-thm
-use Rattle.replay_rows.proofs.prepared_run_lent.Key.{name as #lending·prepared-run-lent}
+use Rattle.replay_rows.proofs.prepared_run_lent.Key.{name as #replay-rows·prepared-run-lent}
 use Rattle.replay_rows.proofs.prepared_run_lent as this
 use Rattle.replay_rows.proofs.prepared_run_lent.Statement as stated
 use Rattle.replay_rows.proofs.prepared_run_lent.Code as code
@@ -268,6 +268,6 @@ pub prepared-run-lent-spec : {M : Type 1} → stated.statement M
 unfolding code.routine tablesOf
 prepared-run-lent-spec 𝓤 H 𝓜 𝓖 𝓡 =
     entered 𝓤 H (tripleOf 𝓤 H (𝓖 .A) this.signature (this.spec 𝓤 H (𝓖 .A) (𝓜 .mem) (𝓡 .run)))
-    (tables 𝓤 H 𝓜 𝓡 code.env .C) (tables 𝓤 H 𝓜 𝓡 code.env .Λ) #lending·prepared-run-lent code.function (code.unfolded 𝓤 H 𝓜 𝓡)
+    (tables 𝓤 H 𝓜 𝓡 code.env .C) (tables 𝓤 H 𝓜 𝓡 code.env .Λ) #replay-rows·prepared-run-lent code.function (code.unfolded 𝓤 H 𝓜 𝓡)
     (meets 𝓤 H (𝓖 .A) (givenOf 𝓤 H 𝓜 𝓖) (𝓜 .mem) (𝓡 .run) (tablesOf 𝓤 H 𝓜 (tables 𝓤 H 𝓜 𝓡 code.env))
     (cited 𝓤 H (C-prepared 𝓤 H (𝓖 .A) (𝓜 .mem) (𝓡 .run)) 𝓜 𝓡 code.env #runs·prepared-run prepared-def.routine code.calls-runs·prepared-run (prepared-thm.met 𝓤 H 𝓜 𝓖 𝓡)))

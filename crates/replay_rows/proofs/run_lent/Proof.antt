@@ -59,7 +59,7 @@ use Rattle.runs.proofs.run as plain-run
 use Rattle.runs.proofs.run.Symbol as plain-run-def
 use Rattle.runs.proofs.run.Symbol.{name as #runs·run}
 use Rattle.runs.proofs.run.Met as plain-run-thm
-use Rattle.replay_rows.proofs.run_lent.Key.{name as #lending·run-lent}
+use Rattle.replay_rows.proofs.run_lent.Key.{name as #replay-rows·run-lent}
 use Rattle.replay_rows.proofs.run_lent as this
 use Rattle.replay_rows.proofs.run_lent.Statement as stated
 use Rattle.replay_rows.proofs.run_lent.Code as code
@@ -256,6 +256,6 @@ pub run-lent-spec : {M : Type 1} → stated.statement M
 unfolding code.routine tablesOf
 run-lent-spec 𝓤 H 𝓜 𝓖 𝓡 =
     entered 𝓤 H (tripleOf 𝓤 H (𝓖 .A) this.signature (this.spec 𝓤 H (𝓖 .A) (𝓜 .mem) (𝓡 .run)))
-    (tables 𝓤 H 𝓜 𝓡 code.env .C) (tables 𝓤 H 𝓜 𝓡 code.env .Λ) #lending·run-lent code.function (code.unfolded 𝓤 H 𝓜 𝓡)
+    (tables 𝓤 H 𝓜 𝓡 code.env .C) (tables 𝓤 H 𝓜 𝓡 code.env .Λ) #replay-rows·run-lent code.function (code.unfolded 𝓤 H 𝓜 𝓡)
     (meets 𝓤 H (𝓖 .A) (givenOf 𝓤 H 𝓜 𝓖) (𝓜 .mem) (𝓡 .run) (tablesOf 𝓤 H 𝓜 (tables 𝓤 H 𝓜 𝓡 code.env))
     (cited 𝓤 H (C-plain-run 𝓤 H (𝓖 .A) (𝓜 .mem) (𝓡 .run)) 𝓜 𝓡 code.env #runs·run plain-run-def.routine code.calls-runs·run (plain-run-thm.met 𝓤 H 𝓜 𝓖 𝓡)))

@@ -52,9 +52,9 @@ use Rattle.run_certificates.proofs.Calls.{asks}
 use Rattle.run_certificates.proofs.Laws.{all-next, all-done}
 use Rattle.run_certificates.proofs.named_too as too
 use Rattle.run_certificates.proofs.named_too.Symbol as too-def
-use Rattle.run_certificates.proofs.named_too.Symbol.{name as #row·named-too}
+use Rattle.run_certificates.proofs.named_too.Symbol.{name as #run-certificates·named-too}
 use Rattle.run_certificates.proofs.named_too.Met as too-thm
-use Rattle.run_certificates.proofs.all_named.Key.{name as #row·all-named}
+use Rattle.run_certificates.proofs.all_named.Key.{name as #run-certificates·all-named}
 use Rattle.run_certificates.proofs.all_named as this
 use Rattle.run_certificates.proofs.all_named.Statement as stated
 use Rattle.run_certificates.proofs.all_named.Code as code
@@ -103,7 +103,7 @@ module _ {M : Type 1} (𝓤 : URA M) (H : Heap 𝓤) (A : Atoms 𝓤) (W : Given
       nothing ! $ move ! (1 ∷ 0 ∷ []) $ join ! $ nothing ! $ move ! (2 ∷ 0 ∷ []) $ fjoin ! $ move ! (1 ∷ 0 ∷ []) $
       frame ! $ frame ! $ owned ! bool (Is bool) (bool-makes 𝓤 H A W) f (vbool f ∷ []) refl $ done !
 
-  module _ (𝓣 : Tables 𝓤 H) (known : Triple 𝓤 (𝓣 .C #row·named-too) (Too 𝓤 H A mem run)) (gn : Room R n) (l₀ l₁ l₂ l₃ l₄ l₅ l₆ l₇ : ℕ) where
+  module _ (𝓣 : Tables 𝓤 H) (known : Triple 𝓤 (𝓣 .C #run-certificates·named-too) (Too 𝓤 H A mem run)) (gn : Room R n) (l₀ l₁ l₂ l₃ l₄ l₅ l₆ l₇ : ℕ) where
     abbrev En : Env 𝓤 H
     En = (tyBool, l₀) ∷ (slice (named 0), l₁) ∷ (tyBool, l₂) ∷ (word, l₃) ∷ (word, l₄) ∷ (tyBool, l₅) ∷ (tyPtr, l₆) ∷ (T′.mir, l₇) ∷ []
 
@@ -174,7 +174,7 @@ module _ {M : Type 1} (𝓤 : URA M) (H : Heap 𝓤) (A : Atoms 𝓤) (W : Given
         pick false e = let l : n ≤ s .0 = ltb-false (s .0) n e in ends (s .0) (s .1) l (all-done mechanismNamed ys (s .0) (s .1) Answer l (h .1)) Z
 
   -- the MIR, up to the loop
-  walk : (𝓣 : Tables 𝓤 H) → Triple 𝓤 (𝓣 .C #row·named-too) (Too 𝓤 H A mem run) → Room R n → ent 𝓤 (onEntry 𝓤 H A this.signature (κ, tt) (q, tt) x at) (WpFn 𝓤 H (𝓣 .C) (𝓣 .Λ) code.function (sliceVal (b, o) n ∷ []) Post)
+  walk : (𝓣 : Tables 𝓤 H) → Triple 𝓤 (𝓣 .C #run-certificates·named-too) (Too 𝓤 H A mem run) → Room R n → ent 𝓤 (onEntry 𝓤 H A this.signature (κ, tt) (q, tt) x at) (WpFn 𝓤 H (𝓣 .C) (𝓣 .Λ) code.function (sliceVal (b, o) n ∷ []) Post)
   walk 𝓣 known gn =
       qed W ((‵ (flft κ q) ⊛ ‵ ftrue) ∷ ‵ (owns (ShrSlice (named 0) κ R ∷ []) x at) ∷ []) ∵ enter ! (𝓣 .C) (𝓣 .Λ) code.function (sliceVal (b, o) n ∷ []) _ $
       alloc1 ! (λ l₀. alloc1 ! (λ l₁. alloc1 ! (λ l₂. alloc1 ! (λ l₃. alloc1 ! (λ l₄. alloc1 ! (λ l₅. alloc1 ! (λ l₆. alloc1 ! (λ l₇. alloc0 ! $ params1 ! $
@@ -185,7 +185,7 @@ module _ {M : Type 1} (𝓤 : URA M) (H : Heap 𝓤) (A : Atoms 𝓤) (W : Given
       by ! (loops 𝓤 H A W 𝓣 (En 𝓣 known gn l₀ l₁ l₂ l₃ l₄ l₅ l₆ l₇) body.turn-1 (Left 𝓣 known gn l₀ l₁ l₂ l₃ l₄ l₅ l₆ l₇) (ℕ × Bool) (Known 𝓣 known gn l₀ l₁ l₂ l₃ l₄ l₅ l₆ l₇) (λ s. n - s .0)
       (At 𝓣 known gn l₀ l₁ l₂ l₃ l₄ l₅ l₆ l₇) (turn 𝓣 known gn l₀ l₁ l₂ l₃ l₄ l₅ l₆ l₇) (0, true) (omega arith, refl))))))))))
 
-module _ {M : Type 1} (𝓤 : URA M) (H : Heap 𝓤) (A : Atoms 𝓤) (W : Given 𝓤 H A) (mem : Memory → SProp 𝓤) (run : Routine → Fun 𝓤) (𝓣 : Tables 𝓤 H) (known : Triple 𝓤 (𝓣 .C #row·named-too) (Too 𝓤 H A mem run)) where
+module _ {M : Type 1} (𝓤 : URA M) (H : Heap 𝓤) (A : Atoms 𝓤) (W : Given 𝓤 H A) (mem : Memory → SProp 𝓤) (run : Routine → Fun 𝓤) (𝓣 : Tables 𝓤 H) (known : Triple 𝓤 (𝓣 .C #run-certificates·named-too) (Too 𝓤 H A mem run)) where
   walks : Walks 𝓤 H A this.ended stayed (WpFn 𝓤 H (𝓣 .C) (𝓣 .Λ) code.function) (this.clauses 𝓤 H A mem run)
   walks = walked 𝓤 H A this.ended stayed (this.clauses 𝓤 H A mem run) (WpFn 𝓤 H (𝓣 .C) (𝓣 .Λ) code.function) (λ κs. (slice-vals, tt)) (λ κs. (shr-slice-tells (named 0) (κs .0) R, tt))
       (λ κs qs bounds a g are. via 𝓤 _ (fst∗ 𝓤 _ (emp 𝓤)) (walk 𝓤 H A W mem run (κs .0) (qs .0) (a .0 .ptr .0) (a .0 .ptr .1) (a .0 .name) (a .0 .now) 𝓣 known (are .0 .0 .1)))
@@ -197,6 +197,6 @@ pub all-named-spec : {M : Type 1} → stated.statement M
 unfolding code.routine tablesOf
 all-named-spec 𝓤 H 𝓜 𝓖 𝓡 =
     entered 𝓤 H (tripleOf 𝓤 H (𝓖 .A) this.signature (this.spec 𝓤 H (𝓖 .A) (𝓜 .mem) (𝓡 .run)))
-    (tables 𝓤 H 𝓜 𝓡 code.env .C) (tables 𝓤 H 𝓜 𝓡 code.env .Λ) #row·all-named code.function (code.unfolded 𝓤 H 𝓜 𝓡)
+    (tables 𝓤 H 𝓜 𝓡 code.env .C) (tables 𝓤 H 𝓜 𝓡 code.env .Λ) #run-certificates·all-named code.function (code.unfolded 𝓤 H 𝓜 𝓡)
     (meets 𝓤 H (𝓖 .A) (givenOf 𝓤 H 𝓜 𝓖) (𝓜 .mem) (𝓡 .run) (tablesOf 𝓤 H 𝓜 (tables 𝓤 H 𝓜 𝓡 code.env))
-    (cited 𝓤 H (Too 𝓤 H (𝓖 .A) (𝓜 .mem) (𝓡 .run)) 𝓜 𝓡 code.env #row·named-too too-def.routine code.calls-row·named-too (too-thm.met 𝓤 H 𝓜 𝓖 𝓡)))
+    (cited 𝓤 H (Too 𝓤 H (𝓖 .A) (𝓜 .mem) (𝓡 .run)) 𝓜 𝓡 code.env #run-certificates·named-too too-def.routine code.calls-run-certificates·named-too (too-thm.met 𝓤 H 𝓜 𝓖 𝓡)))

@@ -53,17 +53,17 @@ use Rattle.run_certificates.proofs.Calls.{asks, asks-last}
 use Rattle.run_certificates.proofs.Marks.{Marked, mark-start, mark-within, mark-next, mark-done}
 use Rattle.run_certificates.proofs.unmarked as unmarked
 use Rattle.run_certificates.proofs.unmarked.Symbol as unmarked-def
-use Rattle.run_certificates.proofs.unmarked.Symbol.{name as #row·unmarked}
+use Rattle.run_certificates.proofs.unmarked.Symbol.{name as #run-certificates·unmarked}
 use Rattle.run_certificates.proofs.unmarked.Met as unmarked-thm
 use Rattle.run_certificates.proofs.presented as presented
 use Rattle.run_certificates.proofs.presented.Symbol as presented-def
-use Rattle.run_certificates.proofs.presented.Symbol.{name as #row·presented}
+use Rattle.run_certificates.proofs.presented.Symbol.{name as #run-certificates·presented}
 use Rattle.run_certificates.proofs.presented.Met as presented-thm
 use Rattle.run_certificates.proofs.marked as marked
 use Rattle.run_certificates.proofs.marked.Symbol as marked-def
-use Rattle.run_certificates.proofs.marked.Symbol.{name as #row·marked}
+use Rattle.run_certificates.proofs.marked.Symbol.{name as #run-certificates·marked}
 use Rattle.run_certificates.proofs.marked.Met as marked-thm
-use Rattle.run_certificates.proofs.certified_groups.Key.{name as #row·certified-groups}
+use Rattle.run_certificates.proofs.certified_groups.Key.{name as #run-certificates·certified-groups}
 use Rattle.run_certificates.proofs.certified_groups as this
 use Rattle.run_certificates.proofs.certified_groups.Statement as stated
 use Rattle.run_certificates.proofs.certified_groups.Code as code
@@ -143,7 +143,7 @@ module _ {M : Type 1} (𝓤 : URA M) (H : Heap 𝓤) (A : Atoms 𝓤) (W : Given
       qed W (‵ (flft κ q) ∷ ‵ (File κ b o γ acl) ∷ []) ∵ says ! within $ nothing ! $ move ! (1 ∷ 0 ∷ []) $ join ! $ frame ! $
       nothing ! $ owned ! bool (Is bool) (bool-makes 𝓤 H A W) f (vbool f ∷ []) refl $ fjoin ! $ owned ! S (Is S) (LL.makes N.the-type N′.the-plain 𝓤 H A) m (state m ∷ []) gm $ fjoin ! $ move ! (1 ∷ 0 ∷ []) $ fjoin ! $ done !
 
-  module _ (𝓣 : Tables 𝓤 H) (begins : Triple 𝓤 (𝓣 .C #row·unmarked) (Begin 𝓤 H A mem run)) (finds : Triple 𝓤 (𝓣 .C #row·presented) (Find 𝓤 H A mem run)) (marks : Triple 𝓤 (𝓣 .C #row·marked) (Mark 𝓤 H A mem run)) (l₀ l₁ l₂ l₃ l₄ : ℕ) where
+  module _ (𝓣 : Tables 𝓤 H) (begins : Triple 𝓤 (𝓣 .C #run-certificates·unmarked) (Begin 𝓤 H A mem run)) (finds : Triple 𝓤 (𝓣 .C #run-certificates·presented) (Find 𝓤 H A mem run)) (marks : Triple 𝓤 (𝓣 .C #run-certificates·marked) (Mark 𝓤 H A mem run)) (l₀ l₁ l₂ l₃ l₄ : ℕ) where
     abbrev En : Env 𝓤 H
     En = (word, l₀) ∷ (bytes (named 0), l₁) ∷ (slice (named 1), l₂) ∷ (N′.mir, l₃) ∷ (tyBool, l₄) ∷ []
 
@@ -215,7 +215,7 @@ module _ {M : Type 1} (𝓤 : URA M) (H : Heap 𝓤) (A : Atoms 𝓤) (W : Given
         pick false e = ends m h (ltb-false 0 (m .end) e) Z
 
   -- the MIR, up to the loop
-  walk : (𝓣 : Tables 𝓤 H) → Triple 𝓤 (𝓣 .C #row·unmarked) (Begin 𝓤 H A mem run) → Triple 𝓤 (𝓣 .C #row·presented) (Find 𝓤 H A mem run) → Triple 𝓤 (𝓣 .C #row·marked) (Mark 𝓤 H A mem run) → Room u8 (length acl) → Room R (length ys)
+  walk : (𝓣 : Tables 𝓤 H) → Triple 𝓤 (𝓣 .C #run-certificates·unmarked) (Begin 𝓤 H A mem run) → Triple 𝓤 (𝓣 .C #run-certificates·presented) (Find 𝓤 H A mem run) → Triple 𝓤 (𝓣 .C #run-certificates·marked) (Mark 𝓤 H A mem run) → Room u8 (length acl) → Room R (length ys)
       → ent 𝓤 (onEntry 𝓤 H A this.signature (κ, (κ′, tt)) (q, (q′, tt)) x at) (WpFn 𝓤 H (𝓣 .C) (𝓣 .Λ) code.function (sliceVal (b, o) (length acl) ∷ sliceVal (b′, o′) (length ys) ∷ []) Post)
   walk 𝓣 begins finds marks ga gn =
       qed W ((‵ (flft κ q) ⊛ (‵ (flft κ′ q′) ⊛ ‵ ftrue)) ∷ ‵ (owns (ShrSlice (named 0) κ u8 ∷ ShrSlice (named 1) κ′ R ∷ []) x at) ∷ []) ∵ enter ! (𝓣 .C) (𝓣 .Λ) code.function (sliceVal (b, o) (length acl) ∷ sliceVal (b′, o′) (length ys) ∷ []) _ $
@@ -234,7 +234,7 @@ module _ {M : Type 1} (𝓤 : URA M) (H : Heap 𝓤) (A : Atoms 𝓤) (W : Given
       (At 𝓣 begins finds marks l₀ l₁ l₂ l₃ l₄) (turn 𝓣 begins finds marks l₀ l₁ l₂ l₃ l₄) r (subst (Is S r) (LL.tells N.the-type N′.the-laws r (v ∷ []) is) is, mark-start (rowAs ys) acl (r .end) (r .set) (d .0) (d .1))))))))))
 
 module _ {M : Type 1} (𝓤 : URA M) (H : Heap 𝓤) (A : Atoms 𝓤) (W : Given 𝓤 H A) (mem : Memory → SProp 𝓤) (run : Routine → Fun 𝓤) (𝓣 : Tables 𝓤 H)
-    (begins : Triple 𝓤 (𝓣 .C #row·unmarked) (Begin 𝓤 H A mem run)) (finds : Triple 𝓤 (𝓣 .C #row·presented) (Find 𝓤 H A mem run)) (marks : Triple 𝓤 (𝓣 .C #row·marked) (Mark 𝓤 H A mem run)) where
+    (begins : Triple 𝓤 (𝓣 .C #run-certificates·unmarked) (Begin 𝓤 H A mem run)) (finds : Triple 𝓤 (𝓣 .C #run-certificates·presented) (Find 𝓤 H A mem run)) (marks : Triple 𝓤 (𝓣 .C #run-certificates·marked) (Mark 𝓤 H A mem run)) where
   walks : Walks 𝓤 H A this.ended stayed (WpFn 𝓤 H (𝓣 .C) (𝓣 .Λ) code.function) (this.clauses 𝓤 H A mem run)
   walks = walked 𝓤 H A this.ended stayed (this.clauses 𝓤 H A mem run) (WpFn 𝓤 H (𝓣 .C) (𝓣 .Λ) code.function) (λ κs. (slice-vals, (slice-vals, tt)))
       (λ κs. (shr-slice-tells (named 0) (κs .0) u8, (shr-slice-tells (named 1) (κs .1 .0) R, tt)))
@@ -249,8 +249,8 @@ pub certified-groups-spec : {M : Type 1} → stated.statement M
 unfolding code.routine tablesOf
 certified-groups-spec 𝓤 H 𝓜 𝓖 𝓡 =
     entered 𝓤 H (tripleOf 𝓤 H (𝓖 .A) this.signature (this.spec 𝓤 H (𝓖 .A) (𝓜 .mem) (𝓡 .run)))
-    (tables 𝓤 H 𝓜 𝓡 code.env .C) (tables 𝓤 H 𝓜 𝓡 code.env .Λ) #row·certified-groups code.function (code.unfolded 𝓤 H 𝓜 𝓡)
+    (tables 𝓤 H 𝓜 𝓡 code.env .C) (tables 𝓤 H 𝓜 𝓡 code.env .Λ) #run-certificates·certified-groups code.function (code.unfolded 𝓤 H 𝓜 𝓡)
     (meets 𝓤 H (𝓖 .A) (givenOf 𝓤 H 𝓜 𝓖) (𝓜 .mem) (𝓡 .run) (tablesOf 𝓤 H 𝓜 (tables 𝓤 H 𝓜 𝓡 code.env))
-    (cited 𝓤 H (Begin 𝓤 H (𝓖 .A) (𝓜 .mem) (𝓡 .run)) 𝓜 𝓡 code.env #row·unmarked unmarked-def.routine code.calls-row·unmarked (unmarked-thm.met 𝓤 H 𝓜 𝓖 𝓡))
-    (cited 𝓤 H (Find 𝓤 H (𝓖 .A) (𝓜 .mem) (𝓡 .run)) 𝓜 𝓡 code.env #row·presented presented-def.routine code.calls-row·presented (presented-thm.met 𝓤 H 𝓜 𝓖 𝓡))
-    (cited 𝓤 H (Mark 𝓤 H (𝓖 .A) (𝓜 .mem) (𝓡 .run)) 𝓜 𝓡 code.env #row·marked marked-def.routine code.calls-row·marked (marked-thm.met 𝓤 H 𝓜 𝓖 𝓡)))
+    (cited 𝓤 H (Begin 𝓤 H (𝓖 .A) (𝓜 .mem) (𝓡 .run)) 𝓜 𝓡 code.env #run-certificates·unmarked unmarked-def.routine code.calls-run-certificates·unmarked (unmarked-thm.met 𝓤 H 𝓜 𝓖 𝓡))
+    (cited 𝓤 H (Find 𝓤 H (𝓖 .A) (𝓜 .mem) (𝓡 .run)) 𝓜 𝓡 code.env #run-certificates·presented presented-def.routine code.calls-run-certificates·presented (presented-thm.met 𝓤 H 𝓜 𝓖 𝓡))
+    (cited 𝓤 H (Mark 𝓤 H (𝓖 .A) (𝓜 .mem) (𝓡 .run)) 𝓜 𝓡 code.env #run-certificates·marked marked-def.routine code.calls-run-certificates·marked (marked-thm.met 𝓤 H 𝓜 𝓖 𝓡)))

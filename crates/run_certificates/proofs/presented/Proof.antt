@@ -51,9 +51,9 @@ use Rattle.run_certificates.proofs.Calls.{asks}
 use Rattle.run_certificates.proofs.Laws.{any-next, any-done}
 use Rattle.run_certificates.proofs.found_too as too
 use Rattle.run_certificates.proofs.found_too.Symbol as too-def
-use Rattle.run_certificates.proofs.found_too.Symbol.{name as #row·found-too}
+use Rattle.run_certificates.proofs.found_too.Symbol.{name as #run-certificates·found-too}
 use Rattle.run_certificates.proofs.found_too.Met as too-thm
-use Rattle.run_certificates.proofs.presented.Key.{name as #row·presented}
+use Rattle.run_certificates.proofs.presented.Key.{name as #run-certificates·presented}
 use Rattle.run_certificates.proofs.presented as this
 use Rattle.run_certificates.proofs.presented.Statement as stated
 use Rattle.run_certificates.proofs.presented.Code as code
@@ -113,7 +113,7 @@ module _ {M : Type 1} (𝓤 : URA M) (H : Heap 𝓤) (A : Atoms 𝓤) (W : Given
       nothing ! $ owned ! usize (Is usize) (uint-makes 𝓤 H A W w64) end _ (refl, end-fits) $ fjoin ! $ move ! (1 ∷ 0 ∷ []) $ fjoin ! $
       owned ! R (Is R) (LL.makes T.the-type T′.the-plain 𝓤 H A) d (machine d ∷ []) gd $ fjoin ! $ owned ! bool (Is bool) (bool-makes 𝓤 H A W) f (vbool f ∷ []) refl $ fjoin ! $ done !
 
-  module _ (𝓣 : Tables 𝓤 H) (known : Triple 𝓤 (𝓣 .C #row·found-too) (Too 𝓤 H A mem run)) (gn : Room R n) (ga : Room u8 (length acl)) (l₀ l₁ l₂ l₃ l₄ l₅ l₆ l₇ l₈ l₉ : ℕ) where
+  module _ (𝓣 : Tables 𝓤 H) (known : Triple 𝓤 (𝓣 .C #run-certificates·found-too) (Too 𝓤 H A mem run)) (gn : Room R n) (ga : Room u8 (length acl)) (l₀ l₁ l₂ l₃ l₄ l₅ l₆ l₇ l₈ l₉ : ℕ) where
     abbrev En : Env 𝓤 H
     En = (tyBool, l₀) ∷ (slice (named 0), l₁) ∷ (bytes (named 1), l₂) ∷ (word, l₃) ∷ (tyBool, l₄) ∷ (word, l₅) ∷ (word, l₆) ∷ (tyBool, l₇) ∷ (tyPtr, l₈) ∷ (T′.mir, l₉) ∷ []
 
@@ -188,7 +188,7 @@ module _ {M : Type 1} (𝓤 : URA M) (H : Heap 𝓤) (A : Atoms 𝓤) (W : Given
         pick false e = let l : n ≤ s .0 = ltb-false (s .0) n e in ends (s .0) (s .1) l (any-done (serving (recordBefore acl end)) ys (s .0) (s .1) Answer l (h .1)) Z
 
   -- the MIR, up to the loop
-  walk : (𝓣 : Tables 𝓤 H) → Triple 𝓤 (𝓣 .C #row·found-too) (Too 𝓤 H A mem run) → Room R n → Room u8 (length acl)
+  walk : (𝓣 : Tables 𝓤 H) → Triple 𝓤 (𝓣 .C #run-certificates·found-too) (Too 𝓤 H A mem run) → Room R n → Room u8 (length acl)
       → ent 𝓤 (onEntry 𝓤 H A this.signature (κ, (κ′, tt)) (q, (q′, tt)) x at) (WpFn 𝓤 H (𝓣 .C) (𝓣 .Λ) code.function (sliceVal (b, o) n ∷ sliceVal (b′, o′) (length acl) ∷ vint w64 end ∷ []) Post)
   walk 𝓣 known gn ga =
       qed W ((‵ (flft κ q) ⊛ (‵ (flft κ′ q′) ⊛ ‵ ftrue)) ∷ ‵ (owns (ShrSlice (named 0) κ R ∷ ShrSlice (named 1) κ′ u8 ∷ usize ∷ []) x at) ∷ []) ∵ enter ! (𝓣 .C) (𝓣 .Λ) code.function (sliceVal (b, o) n ∷ sliceVal (b′, o′) (length acl) ∷ vint w64 end ∷ []) _ $
@@ -200,7 +200,7 @@ module _ {M : Type 1} (𝓤 : URA M) (H : Heap 𝓤) (A : Atoms 𝓤) (W : Given
       by ! (loops 𝓤 H A W 𝓣 (En 𝓣 known gn ga l₀ l₁ l₂ l₃ l₄ l₅ l₆ l₇ l₈ l₉) body.turn-1 (Left 𝓣 known gn ga l₀ l₁ l₂ l₃ l₄ l₅ l₆ l₇ l₈ l₉) (ℕ × Bool) (Known 𝓣 known gn ga l₀ l₁ l₂ l₃ l₄ l₅ l₆ l₇ l₈ l₉) (λ s. n - s .0)
       (At 𝓣 known gn ga l₀ l₁ l₂ l₃ l₄ l₅ l₆ l₇ l₈ l₉) (turn 𝓣 known gn ga l₀ l₁ l₂ l₃ l₄ l₅ l₆ l₇ l₈ l₉) (0, false) (omega arith, refl))))))))))))
 
-module _ {M : Type 1} (𝓤 : URA M) (H : Heap 𝓤) (A : Atoms 𝓤) (W : Given 𝓤 H A) (mem : Memory → SProp 𝓤) (run : Routine → Fun 𝓤) (𝓣 : Tables 𝓤 H) (known : Triple 𝓤 (𝓣 .C #row·found-too) (Too 𝓤 H A mem run)) where
+module _ {M : Type 1} (𝓤 : URA M) (H : Heap 𝓤) (A : Atoms 𝓤) (W : Given 𝓤 H A) (mem : Memory → SProp 𝓤) (run : Routine → Fun 𝓤) (𝓣 : Tables 𝓤 H) (known : Triple 𝓤 (𝓣 .C #run-certificates·found-too) (Too 𝓤 H A mem run)) where
   walks : Walks 𝓤 H A this.ended stayed (WpFn 𝓤 H (𝓣 .C) (𝓣 .Λ) code.function) (this.clauses 𝓤 H A mem run)
   walks = walked 𝓤 H A this.ended stayed (this.clauses 𝓤 H A mem run) (WpFn 𝓤 H (𝓣 .C) (𝓣 .Λ) code.function) (λ κs. (slice-vals, (slice-vals, (uint-vals w64, tt))))
       (λ κs. (shr-slice-tells (named 0) (κs .0) R, (shr-slice-tells (named 1) (κs .1 .0) u8, (uint-tells w64, tt))))
@@ -215,6 +215,6 @@ pub presented-spec : {M : Type 1} → stated.statement M
 unfolding code.routine tablesOf
 presented-spec 𝓤 H 𝓜 𝓖 𝓡 =
     entered 𝓤 H (tripleOf 𝓤 H (𝓖 .A) this.signature (this.spec 𝓤 H (𝓖 .A) (𝓜 .mem) (𝓡 .run)))
-    (tables 𝓤 H 𝓜 𝓡 code.env .C) (tables 𝓤 H 𝓜 𝓡 code.env .Λ) #row·presented code.function (code.unfolded 𝓤 H 𝓜 𝓡)
+    (tables 𝓤 H 𝓜 𝓡 code.env .C) (tables 𝓤 H 𝓜 𝓡 code.env .Λ) #run-certificates·presented code.function (code.unfolded 𝓤 H 𝓜 𝓡)
     (meets 𝓤 H (𝓖 .A) (givenOf 𝓤 H 𝓜 𝓖) (𝓜 .mem) (𝓡 .run) (tablesOf 𝓤 H 𝓜 (tables 𝓤 H 𝓜 𝓡 code.env))
-    (cited 𝓤 H (Too 𝓤 H (𝓖 .A) (𝓜 .mem) (𝓡 .run)) 𝓜 𝓡 code.env #row·found-too too-def.routine code.calls-row·found-too (too-thm.met 𝓤 H 𝓜 𝓖 𝓡)))
+    (cited 𝓤 H (Too 𝓤 H (𝓖 .A) (𝓜 .mem) (𝓡 .run)) 𝓜 𝓡 code.env #run-certificates·found-too too-def.routine code.calls-run-certificates·found-too (too-thm.met 𝓤 H 𝓜 𝓖 𝓡)))

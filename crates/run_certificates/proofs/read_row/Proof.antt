@@ -51,21 +51,21 @@ use Rattle.run_certificates.proofs.Calls.{asks}
 use Rattle.run_certificates.proofs.Laws.{saw}
 use Rattle.run_certificates.proofs.all_named as named-all
 use Rattle.run_certificates.proofs.all_named.Symbol as named-all-def
-use Rattle.run_certificates.proofs.all_named.Symbol.{name as #row·all-named}
+use Rattle.run_certificates.proofs.all_named.Symbol.{name as #run-certificates·all-named}
 use Rattle.run_certificates.proofs.all_named.Met as named-all-thm
 use Rattle.run_certificates.proofs.readable as readable
 use Rattle.run_certificates.proofs.readable.Symbol as readable-def
-use Rattle.run_certificates.proofs.readable.Symbol.{name as #row·readable}
+use Rattle.run_certificates.proofs.readable.Symbol.{name as #run-certificates·readable}
 use Rattle.run_certificates.proofs.readable.Met as readable-thm
 use Rattle.run_certificates.proofs.certified_groups as groups
 use Rattle.run_certificates.proofs.certified_groups.Symbol as groups-def
-use Rattle.run_certificates.proofs.certified_groups.Symbol.{name as #row·certified-groups}
+use Rattle.run_certificates.proofs.certified_groups.Symbol.{name as #run-certificates·certified-groups}
 use Rattle.run_certificates.proofs.certified_groups.Met as groups-thm
 use Rattle.run_certificates.proofs.noted as noted
 use Rattle.run_certificates.proofs.noted.Symbol as noted-def
-use Rattle.run_certificates.proofs.noted.Symbol.{name as #row·noted}
+use Rattle.run_certificates.proofs.noted.Symbol.{name as #run-certificates·noted}
 use Rattle.run_certificates.proofs.noted.Met as noted-thm
-use Rattle.run_certificates.proofs.read_row.Key.{name as #row·read-row}
+use Rattle.run_certificates.proofs.read_row.Key.{name as #run-certificates·read-row}
 use Rattle.run_certificates.proofs.read_row as this
 use Rattle.run_certificates.proofs.read_row.Statement as stated
 use Rattle.run_certificates.proofs.read_row.Code as code
@@ -148,8 +148,8 @@ module _ {M : Type 1} (𝓤 : URA M) (H : Heap 𝓤) (A : Atoms 𝓤) (W : Given
       qed W (‵ ftrue ∷ []) ∵ owned ! u64 (Is u64) (uint-makes 𝓤 H A W w64) c _ (refl, c-fits) $ fjoin ! $ owned ! bool (Is bool) (bool-makes 𝓤 H A W) f (vbool f ∷ []) refl $ fjoin ! $
       owned ! usize (Is usize) (uint-makes 𝓤 H A W w64) n _ (refl, n-fits) $ fjoin ! $ nothing ! $ join ! $ frame ! $ done !
 
-  module _ (𝓣 : Tables 𝓤 H) (names : Triple 𝓤 (𝓣 .C #row·all-named) (Named 𝓤 H A mem run)) (reads : Triple 𝓤 (𝓣 .C #row·readable) (Readable 𝓤 H A mem run))
-      (marks : Triple 𝓤 (𝓣 .C #row·certified-groups) (Groups 𝓤 H A mem run)) (notes : Triple 𝓤 (𝓣 .C #row·noted) (Noted 𝓤 H A mem run)) where
+  module _ (𝓣 : Tables 𝓤 H) (names : Triple 𝓤 (𝓣 .C #run-certificates·all-named) (Named 𝓤 H A mem run)) (reads : Triple 𝓤 (𝓣 .C #run-certificates·readable) (Readable 𝓤 H A mem run))
+      (marks : Triple 𝓤 (𝓣 .C #run-certificates·certified-groups) (Groups 𝓤 H A mem run)) (notes : Triple 𝓤 (𝓣 .C #run-certificates·noted) (Noted 𝓤 H A mem run)) where
     walk : Room u8 (length acl) → Room R n → ent 𝓤 (onEntry 𝓤 H A this.signature (κ, (κ′, tt)) (q, (q′, tt)) x at) (WpFn 𝓤 H (𝓣 .C) (𝓣 .Λ) code.function (sliceVal (b, o) (length acl) ∷ sliceVal (b′, o′) n ∷ []) Post)
     walk ga gn =
         qed W ((‵ (flft κ q) ⊛ (‵ (flft κ′ q′) ⊛ ‵ ftrue)) ∷ ‵ (owns (ShrSlice (named 0) κ u8 ∷ ShrSlice (named 1) κ′ R ∷ []) x at) ∷ []) ∵ enter ! (𝓣 .C) (𝓣 .Λ) code.function (sliceVal (b, o) (length acl) ∷ sliceVal (b′, o′) n ∷ []) _ $
@@ -193,8 +193,8 @@ module _ {M : Type 1} (𝓤 : URA M) (H : Heap 𝓤) (A : Atoms 𝓤) (W : Given
         move ! (17 ∷ 18 ∷ []) $ free1 ! $ move ! (15 ∷ 16 ∷ []) $ free1 ! $ move ! (13 ∷ 14 ∷ []) $ free1 ! $ move ! (11 ∷ 12 ∷ []) $ free1 ! $ move ! (9 ∷ 10 ∷ []) $ free1 ! $ move ! (7 ∷ 8 ∷ []) $ free1 ! $ move ! (5 ∷ 6 ∷ []) $ free1 ! $ free0 ! $
         move ! (2 ∷ 4 ∷ 1 ∷ 3 ∷ 0 ∷ []) $ by ! (exits r v (saw r acl (now y) ys f c r-is named-is y-is c-is sized))))))))))))))))))
 
-module _ {M : Type 1} (𝓤 : URA M) (H : Heap 𝓤) (A : Atoms 𝓤) (W : Given 𝓤 H A) (mem : Memory → SProp 𝓤) (run : Routine → Fun 𝓤) (𝓣 : Tables 𝓤 H) (names : Triple 𝓤 (𝓣 .C #row·all-named) (Named 𝓤 H A mem run))
-    (reads : Triple 𝓤 (𝓣 .C #row·readable) (Readable 𝓤 H A mem run)) (marks : Triple 𝓤 (𝓣 .C #row·certified-groups) (Groups 𝓤 H A mem run)) (notes : Triple 𝓤 (𝓣 .C #row·noted) (Noted 𝓤 H A mem run)) where
+module _ {M : Type 1} (𝓤 : URA M) (H : Heap 𝓤) (A : Atoms 𝓤) (W : Given 𝓤 H A) (mem : Memory → SProp 𝓤) (run : Routine → Fun 𝓤) (𝓣 : Tables 𝓤 H) (names : Triple 𝓤 (𝓣 .C #run-certificates·all-named) (Named 𝓤 H A mem run))
+    (reads : Triple 𝓤 (𝓣 .C #run-certificates·readable) (Readable 𝓤 H A mem run)) (marks : Triple 𝓤 (𝓣 .C #run-certificates·certified-groups) (Groups 𝓤 H A mem run)) (notes : Triple 𝓤 (𝓣 .C #run-certificates·noted) (Noted 𝓤 H A mem run)) where
   walks : Walks 𝓤 H A this.ended stayed (WpFn 𝓤 H (𝓣 .C) (𝓣 .Λ) code.function) (this.clauses 𝓤 H A mem run)
   walks = walked 𝓤 H A this.ended stayed (this.clauses 𝓤 H A mem run) (WpFn 𝓤 H (𝓣 .C) (𝓣 .Λ) code.function) (λ κs. (slice-vals, (slice-vals, tt)))
       (λ κs. (shr-slice-tells (named 0) (κs .0) u8, (shr-slice-tells (named 1) (κs .1 .0) R, tt)))
@@ -209,9 +209,9 @@ pub read-row-spec : {M : Type 1} → stated.statement M
 unfolding code.routine tablesOf
 read-row-spec 𝓤 H 𝓜 𝓖 𝓡 =
     entered 𝓤 H (tripleOf 𝓤 H (𝓖 .A) this.signature (this.spec 𝓤 H (𝓖 .A) (𝓜 .mem) (𝓡 .run)))
-    (tables 𝓤 H 𝓜 𝓡 code.env .C) (tables 𝓤 H 𝓜 𝓡 code.env .Λ) #row·read-row code.function (code.unfolded 𝓤 H 𝓜 𝓡)
+    (tables 𝓤 H 𝓜 𝓡 code.env .C) (tables 𝓤 H 𝓜 𝓡 code.env .Λ) #run-certificates·read-row code.function (code.unfolded 𝓤 H 𝓜 𝓡)
     (meets 𝓤 H (𝓖 .A) (givenOf 𝓤 H 𝓜 𝓖) (𝓜 .mem) (𝓡 .run) (tablesOf 𝓤 H 𝓜 (tables 𝓤 H 𝓜 𝓡 code.env))
-    (cited 𝓤 H (Named 𝓤 H (𝓖 .A) (𝓜 .mem) (𝓡 .run)) 𝓜 𝓡 code.env #row·all-named named-all-def.routine code.calls-row·all-named (named-all-thm.met 𝓤 H 𝓜 𝓖 𝓡))
-    (cited 𝓤 H (Readable 𝓤 H (𝓖 .A) (𝓜 .mem) (𝓡 .run)) 𝓜 𝓡 code.env #row·readable readable-def.routine code.calls-row·readable (readable-thm.met 𝓤 H 𝓜 𝓖 𝓡))
-    (cited 𝓤 H (Groups 𝓤 H (𝓖 .A) (𝓜 .mem) (𝓡 .run)) 𝓜 𝓡 code.env #row·certified-groups groups-def.routine code.calls-row·certified-groups (groups-thm.met 𝓤 H 𝓜 𝓖 𝓡))
-    (cited 𝓤 H (Noted 𝓤 H (𝓖 .A) (𝓜 .mem) (𝓡 .run)) 𝓜 𝓡 code.env #row·noted noted-def.routine code.calls-row·noted (noted-thm.met 𝓤 H 𝓜 𝓖 𝓡)))
+    (cited 𝓤 H (Named 𝓤 H (𝓖 .A) (𝓜 .mem) (𝓡 .run)) 𝓜 𝓡 code.env #run-certificates·all-named named-all-def.routine code.calls-run-certificates·all-named (named-all-thm.met 𝓤 H 𝓜 𝓖 𝓡))
+    (cited 𝓤 H (Readable 𝓤 H (𝓖 .A) (𝓜 .mem) (𝓡 .run)) 𝓜 𝓡 code.env #run-certificates·readable readable-def.routine code.calls-run-certificates·readable (readable-thm.met 𝓤 H 𝓜 𝓖 𝓡))
+    (cited 𝓤 H (Groups 𝓤 H (𝓖 .A) (𝓜 .mem) (𝓡 .run)) 𝓜 𝓡 code.env #run-certificates·certified-groups groups-def.routine code.calls-run-certificates·certified-groups (groups-thm.met 𝓤 H 𝓜 𝓖 𝓡))
+    (cited 𝓤 H (Noted 𝓤 H (𝓖 .A) (𝓜 .mem) (𝓡 .run)) 𝓜 𝓡 code.env #run-certificates·noted noted-def.routine code.calls-run-certificates·noted (noted-thm.met 𝓤 H 𝓜 𝓖 𝓡)))

@@ -53,7 +53,7 @@ use Rattle.run_certificates.proofs.Lent.{R, Shared, copies}
 use Rattle.run_certificates.proofs.Calls.{asks}
 use Rattle.run_certificates.proofs.read_row as read-row
 use Rattle.run_certificates.proofs.read_row.Symbol as read-row-def
-use Rattle.run_certificates.proofs.read_row.Symbol.{name as #row·read-row}
+use Rattle.run_certificates.proofs.read_row.Symbol.{name as #run-certificates·read-row}
 use Rattle.run_certificates.proofs.read_row.Met as read-row-thm
 use Rattle.runs.specs.declared.RunOutcome.{RunOutcome}
 use Rattle.runs.specs.Judged.{runOutcomeAs, preparedSeen}
@@ -146,7 +146,7 @@ module _ {M : Type 1} (𝓤 : URA M) (H : Heap 𝓤) (A : Atoms 𝓤) (W : Given
       move ! (6 ∷ 0 ∷ []) $ fjoin ! $ move ! (5 ∷ 0 ∷ []) $ fjoin ! $ owned ! L.the-row (Is L.the-row) (LL.makes L.the-type L′.the-plain 𝓤 H A) ledger (ledger-val ledger ∷ []) ledger-is $ fjoin ! $
       nothing ! $ move ! (5 ∷ 0 ∷ []) $ join ! $ move ! (4 ∷ 0 ∷ []) $ join ! $ move ! (3 ∷ 0 ∷ []) $ join ! $ move ! (2 ∷ 0 ∷ []) $ join ! $ join ! $ frame ! $ done !
 
-  module _ (𝓣 : Tables 𝓤 H) (reads : Triple 𝓤 (𝓣 .C #row·read-row) (Read 𝓤 H A mem runs)) (judges : Triple 𝓤 (𝓣 .C #runs·prepared-judged) (Judged 𝓤 H A mem runs)) where
+  module _ (𝓣 : Tables 𝓤 H) (reads : Triple 𝓤 (𝓣 .C #run-certificates·read-row) (Read 𝓤 H A mem runs)) (judges : Triple 𝓤 (𝓣 .C #runs·prepared-judged) (Judged 𝓤 H A mem runs)) where
     walk : Room u8 (length (now km0)) → Room u8 (length (now acl)) → Room R (length (now row)) → Room u8 (length (now requests)) → Room u8 (length (now answers))
         → ent 𝓤 (onEntry 𝓤 H A this.signature (κ₀, (κ₁, (κ₂, (κ₃, (κ₄, tt))))) (q₀, (q₁, (q₂, (q₃, (q₄, tt))))) x at)
         (WpFn 𝓤 H (𝓣 .C) (𝓣 .Λ) code.function (ledger-val ledger ∷ only (slice-vals km0) ∷ only (slice-vals acl) ∷ only (slice-vals row) ∷ form-val form ∷ only (slice-vals requests) ∷ only (slice-vals answers) ∷ []) Post)
@@ -195,7 +195,7 @@ module _ {M : Type 1} (𝓤 : URA M) (H : Heap 𝓤) (A : Atoms 𝓤) (W : Given
         move ! (5 ∷ 4 ∷ 9 ∷ 3 ∷ 2 ∷ 6 ∷ 8 ∷ 10 ∷ 7 ∷ 1 ∷ 0 ∷ []) $
         by ! (exits r w (ws .1 .1 .1 .1 .1 .1 .0) (e ∙ prepared-seen (ledgerAs ledger) (now km0) (now acl) (rowAs (now row)) s (formAs form) (now requests) (now answers) saw) l)))))))))))))))))
 
-module _ {M : Type 1} (𝓤 : URA M) (H : Heap 𝓤) (A : Atoms 𝓤) (W : Given 𝓤 H A) (mem : Memory → SProp 𝓤) (runs : Routine → Fun 𝓤) (𝓣 : Tables 𝓤 H) (reads : Triple 𝓤 (𝓣 .C #row·read-row) (Read 𝓤 H A mem runs)) (judges : Triple 𝓤 (𝓣 .C #runs·prepared-judged) (Judged 𝓤 H A mem runs)) where
+module _ {M : Type 1} (𝓤 : URA M) (H : Heap 𝓤) (A : Atoms 𝓤) (W : Given 𝓤 H A) (mem : Memory → SProp 𝓤) (runs : Routine → Fun 𝓤) (𝓣 : Tables 𝓤 H) (reads : Triple 𝓤 (𝓣 .C #run-certificates·read-row) (Read 𝓤 H A mem runs)) (judges : Triple 𝓤 (𝓣 .C #runs·prepared-judged) (Judged 𝓤 H A mem runs)) where
   walks : Walks 𝓤 H A this.ended stayed (WpFn 𝓤 H (𝓣 .C) (𝓣 .Λ) code.function) (this.clauses 𝓤 H A mem runs)
   walks = walked 𝓤 H A this.ended stayed (this.clauses 𝓤 H A mem runs) (WpFn 𝓤 H (𝓣 .C) (𝓣 .Λ) code.function)
       (λ κs. (LL.vals L.the-type L′.the-laws, (slice-vals, (slice-vals, (slice-vals, (LL.vals F.the-type F′.the-laws, (slice-vals, (slice-vals, tt))))))))
@@ -223,5 +223,5 @@ prepared-run-spec 𝓤 H 𝓜 𝓖 𝓡 =
     entered 𝓤 H (tripleOf 𝓤 H (𝓖 .A) this.signature (this.spec 𝓤 H (𝓖 .A) (𝓜 .mem) (𝓡 .run)))
     (tables 𝓤 H 𝓜 𝓡 code.env .C) (tables 𝓤 H 𝓜 𝓡 code.env .Λ) #runs·prepared-run code.function (code.unfolded 𝓤 H 𝓜 𝓡)
     (meets 𝓤 H (𝓖 .A) (givenOf 𝓤 H 𝓜 𝓖) (𝓜 .mem) (𝓡 .run) (tablesOf 𝓤 H 𝓜 (tables 𝓤 H 𝓜 𝓡 code.env))
-    (cited 𝓤 H (Read 𝓤 H (𝓖 .A) (𝓜 .mem) (𝓡 .run)) 𝓜 𝓡 code.env #row·read-row read-row-def.routine code.calls-row·read-row (read-row-thm.met 𝓤 H 𝓜 𝓖 𝓡))
+    (cited 𝓤 H (Read 𝓤 H (𝓖 .A) (𝓜 .mem) (𝓡 .run)) 𝓜 𝓡 code.env #run-certificates·read-row read-row-def.routine code.calls-run-certificates·read-row (read-row-thm.met 𝓤 H 𝓜 𝓖 𝓡))
     (cited 𝓤 H (Judged 𝓤 H (𝓖 .A) (𝓜 .mem) (𝓡 .run)) 𝓜 𝓡 code.env #runs·prepared-judged judged-def.routine code.calls-runs·prepared-judged (judged-thm.met 𝓤 H 𝓜 𝓖 𝓡)))
