@@ -7,6 +7,9 @@ use crate::desk::{attest, Verdict};
 use crate::gate;
 use crate::ledger::Ledger;
 use crate::listing::write_listing;
+use crate::locate_call::{locate_expand, locate_narrow, locate_request};
+use crate::locate_verdict::locate_verdict;
+use crate::place::{locate_file, Place};
 use crate::prepare::{form_bytes, prepare, prepared_run, Form};
 use crate::read_listing::read_listing;
 use crate::read_text::read_text;
@@ -26,6 +29,7 @@ pub enum Answer {
     Form(Form),
     /// Of a trimmed ACL and its hints.
     Lengths(usize, usize),
+    Place(Place),
 }
 
 /// What a script carries from call to call.
@@ -66,7 +70,7 @@ impl State {
 }
 
 /// Makes one call of those that know of no cabinet.
-fn answer_call(ledger: &mut Ledger, call: &mut Call) -> Answer {
+pub fn answer_call(ledger: &mut Ledger, call: &mut Call) -> Answer {
     match call {
         Call::Fresh => done(ledger, Ok(Ledger::fresh())),
         Call::Load { time } => done(ledger, Ok(ledger.loaded(*time))),
@@ -120,6 +124,36 @@ fn answer_call(ledger: &mut Ledger, call: &mut Call) -> Answer {
             Ok(Err(step)) => Answer::Desk(Verdict::Fail(step)),
             Err(refusal) => Answer::Refuse(refusal),
         },
+        Call::LocateFile { kind, file } => Answer::Place(Place::File(locate_file(*kind, file))),
+        Call::Locate(call) => Answer::Place(place_of(ledger, call)),
+        Call::SetCount { index, value } => {
+            let restored = ledger.with_entry(*index as usize, *value as u32);
+            done(ledger, Ok(restored))
+        }
+    }
+}
+
+/// The place behind the refusal that the call would get.
+fn place_of(ledger: &Ledger, call: &Call) -> Place {
+    match call {
+        Call::Request { km0, acl, request } => {
+            Place::Call(locate_request(ledger, km0, acl, request))
+        }
+        Call::Narrow {
+            km0,
+            acl,
+            request,
+            new_acl,
+            hints,
+        } => Place::Call(locate_narrow(ledger, km0, acl, request, new_acl, hints)),
+        Call::Expand {
+            km0,
+            acl,
+            request,
+            new_acl,
+        } => Place::Call(locate_expand(ledger, km0, acl, request, new_acl)),
+        Call::Desk { bundle, acl } => Place::Verdict(locate_verdict(bundle, acl)),
+        _ => unreachable!("no places are asked for this call"),
     }
 }
 
@@ -187,6 +221,7 @@ impl Answer {
             Answer::Length(length) => format!("length {length}"),
             Answer::Lengths(acl, hints) => format!("lengths {acl} {hints}"),
             Answer::Form(form) => format!("form {}", hex(&form_bytes(&form))),
+            Answer::Place(place) => place.words(),
         }
     }
 
@@ -197,6 +232,7 @@ impl Answer {
             Answer::Permit(_) => "permit".to_string(),
             Answer::Length(_) => "length".to_string(),
             Answer::Form(_) => "form".to_string(),
+            Answer::Place(place) => place.kind(),
             Answer::Lengths(..) => "lengths".to_string(),
             Answer::Refuse(refusal) => format!("refuse {}", refusal.number()),
             _ => self.words(),

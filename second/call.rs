@@ -1,5 +1,7 @@
 //! The calls of a replay script and their arguments, in the order in which they stand there.
 
+use crate::acl::MOST_GROUPS;
+use crate::ledger::COUNTERS;
 use crate::text::TextKind;
 
 pub type Bytes = Vec<u8>;
@@ -64,7 +66,7 @@ pub enum Call {
     ClearShared {
         counter: u64,
     },
-    /// A load, request, narrowing or expansion in a slot of the cabinet.
+    /// A load, request, narrowing, expansion or run in a slot of the cabinet.
     InSlot {
         slot: u64,
         call: Box<Call>,
@@ -82,6 +84,18 @@ pub enum Call {
         acl: Bytes,
         acl_buffer: Bytes,
         hints_buffer: Bytes,
+    },
+    /// The place of a file's first fault, by the number of its kind.
+    LocateFile {
+        kind: u64,
+        file: Bytes,
+    },
+    /// The place behind the refusal of a request, a narrowing, an expansion or the desk.
+    Locate(Box<Call>),
+    /// A host that restores a ledger: one count, or one named counter, becomes a number.
+    SetCount {
+        index: u64,
+        value: u64,
     },
 }
 
@@ -145,6 +159,9 @@ impl FileKind {
     }
 }
 
+/// The counts of the ledger's groups, and after them the named counters.
+pub const TABLE_ENTRIES: u64 = (MOST_GROUPS + COUNTERS) as u64;
+
 /// One argument of a call.
 pub enum Argument<'a> {
     Number(&'a mut u64),
@@ -173,6 +190,14 @@ impl Call {
             Call::Prepare { .. } => 'P',
             Call::PreparedRun { .. } => 'Q',
             Call::Trim { .. } => 'M',
+            Call::LocateFile { .. } => 'A',
+            Call::Locate(call) => match **call {
+                Call::Request { .. } => 'G',
+                Call::Narrow { .. } => 'H',
+                Call::Expand { .. } => 'I',
+                _ => 'J',
+            },
+            Call::SetCount { .. } => 'K',
         }
     }
 
@@ -231,7 +256,7 @@ impl Call {
             },
             b'f' => Call::FreshCabinet,
             b'c' => Call::ClearShared { counter: 0 },
-            b'l' | b'r' | b'n' | b'x' => Call::InSlot {
+            b'l' | b'r' | b'n' | b'x' | b'b' | b'q' => Call::InSlot {
                 slot: 0,
                 call: Box::new(Call::blank(letter.to_ascii_uppercase())?),
             },
@@ -247,8 +272,27 @@ impl Call {
                 acl_buffer: none(),
                 hints_buffer: none(),
             },
+            b'A' => Call::LocateFile {
+                kind: 0,
+                file: none(),
+            },
+            b'G' => Call::Locate(Box::new(Call::blank(b'R')?)),
+            b'H' => Call::Locate(Box::new(Call::blank(b'N')?)),
+            b'I' => Call::Locate(Box::new(Call::blank(b'X')?)),
+            b'J' => Call::Locate(Box::new(Call::blank(b'D')?)),
+            b'K' => Call::SetCount { index: 0, value: 0 },
             _ => return None,
         })
+    }
+
+    /// Whether a script may hold its numbers: a count that there is, and a value of 32 bits.
+    pub fn numbers_fit(&self) -> bool {
+        match self {
+            Call::SetCount { index, value } => {
+                *index < TABLE_ENTRIES && *value <= u64::from(u32::MAX)
+            }
+            _ => true,
+        }
     }
 
     /// The arguments in the order in which a script has them.
@@ -330,6 +374,12 @@ impl Call {
                 Bytes(Buffer, acl_buffer),
                 Bytes(Buffer, hints_buffer),
             ],
+            Call::LocateFile { kind, file } => {
+                let file_kind = FileKind::written_as(*kind);
+                vec![Number(kind), Bytes(file_kind, file)]
+            }
+            Call::Locate(call) => call.arguments(),
+            Call::SetCount { index, value } => vec![Number(index), Number(value)],
         }
     }
 }

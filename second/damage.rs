@@ -278,7 +278,7 @@ impl Maker {
 }
 
 /// The files of records that a call lends, and its KM0, each with its kind.
-fn files_of(call: &mut Call) -> Vec<(FileKind, &mut Bytes)> {
+pub fn files_of(call: &mut Call) -> Vec<(FileKind, &mut Bytes)> {
     let file = |argument| match argument {
         Argument::Bytes(kind, bytes) if kind.weight() > 0 => Some((kind, bytes)),
         _ => None,

@@ -23,6 +23,12 @@ pub enum Verdict {
     Fail(&'static str),
 }
 
+/// The steps of approach 2, in the order in which they run.
+pub const STEPS: [&str; 21] = [
+    "WV1", "MSCV1", "MSCV2", "MSCV3", "MSCV4", "MSCV5", "WBCV1", "WBCV2", "WBCV3", "KGCV1",
+    "KGCV2", "ACLV3", "WB1", "WB2", "WB3", "WB6", "RB1", "RB2", "RB3", "KV3", "CSRL1",
+];
+
 /// The class of each permission, by bit.
 #[derive(Clone, Copy, PartialEq)]
 enum Class {

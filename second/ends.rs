@@ -1,6 +1,6 @@
 //! What may stand after the last call of a script to end the run with a stop.
 
-use crate::call::{Argument, Bytes, Call, FileKind};
+use crate::call::{Argument, Bytes, Call, FileKind, TABLE_ENTRIES};
 use crate::generate::Generator;
 use crate::script::{call_bytes, length_places, LONGEST_BYTES};
 
@@ -18,8 +18,15 @@ impl Generator {
         }
         let letter = self.maker.random.pick(&letters);
         let (call, _) = self.make_call(letter);
-        if matches!(call, Call::Batch(_) | Call::PreparedRun { .. }) {
-            return self.broken_run(call);
+        match &call {
+            Call::Batch(_) | Call::PreparedRun { .. } => return self.broken_run(call),
+            Call::InSlot { call: inner, .. }
+                if matches!(**inner, Call::Batch(_) | Call::PreparedRun { .. }) =>
+            {
+                return self.broken_run(call)
+            }
+            Call::SetCount { .. } => return self.no_such_count(),
+            _ => {}
         }
         match self.seed / 16 % 3 {
             0 => self.cut_call(&call),
@@ -44,6 +51,18 @@ impl Generator {
         [call_bytes(&call), b"FF".to_vec()].concat()
     }
 
+    /// A count that there is not, or a value of more than 32 bits.
+    fn no_such_count(&mut self) -> Bytes {
+        let (index, value) = self.maker.random.pick(&[
+            (TABLE_ENTRIES, 0),
+            (u64::MAX, 1),
+            (1 << 32, 1),
+            (0, 1 << 32),
+            (64, u64::MAX),
+        ]);
+        [call_bytes(&Call::SetCount { index, value }), b"FF".to_vec()].concat()
+    }
+
     fn cut_call(&mut self, call: &Call) -> Bytes {
         let mut bytes = call_bytes(call);
         let length = self.maker.random.between(1, bytes.len() as u64 - 1) as usize;
@@ -56,7 +75,7 @@ impl Generator {
     /// a stop as well.
     fn unknown_byte(&mut self) -> Bytes {
         let is_unknown = |byte: &u8| !self.kinds.contains(byte);
-        let choices: Vec<u8> = b"\x00\n 1EdGKHUYZs\x80\xffLCRNXDSWTVlcrnxBPQM"
+        let choices: Vec<u8> = b"\x00\n 1EdOYZs\x80\xffLCRNXDSWTVUlcrnxBPQMbqAGHIJK"
             .iter()
             .copied()
             .filter(is_unknown)

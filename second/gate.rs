@@ -133,7 +133,8 @@ pub fn is_unspent(group: &Group, place: usize, ledger: &Ledger, time: u64) -> bo
             .all(|limit| is_open(limit, own_count, elapsed, ledger))
 }
 
-fn is_open(limit: &Limit, own_count: u32, elapsed: u64, ledger: &Ledger) -> bool {
+/// Whether a limit is not spent.
+pub fn is_open(limit: &Limit, own_count: u32, elapsed: u64, ledger: &Ledger) -> bool {
     match limit.sort {
         Sort::UsesPerLoad => own_count < limit.maximum,
         Sort::Counter(counter) => {

@@ -4,9 +4,13 @@
 use std::io::{self, Write};
 
 use crate::acl::Acl;
+#[cfg(test)]
+use crate::answer::answer_call;
 use crate::answer::{Answer, State};
 use crate::cabinet::SLOTS;
 use crate::call::Call;
+#[cfg(test)]
+use crate::ledger::Ledger;
 use crate::make_request::{load_is_due, FAR_TIME};
 use crate::maker::Maker;
 use crate::read_acl::read_acl;
@@ -15,7 +19,7 @@ use crate::request::{EXPAND_ACL, REDUCE_ACL};
 use crate::script::write_call;
 
 /// How often each letter is drawn.
-const WEIGHTS: [(u8, u64); 22] = [
+const WEIGHTS: [(u8, u64); 30] = [
     (b'F', 12),
     (b'L', 60),
     (b'C', 45),
@@ -38,6 +42,14 @@ const WEIGHTS: [(u8, u64); 22] = [
     (b'P', 40),
     (b'Q', 90),
     (b'M', 130),
+    (b'b', 50),
+    (b'q', 50),
+    (b'A', 130),
+    (b'G', 110),
+    (b'H', 150),
+    (b'I', 50),
+    (b'J', 170),
+    (b'K', 25),
 ];
 
 /// After so many refusals in a row the host takes another ACL.
@@ -224,6 +236,10 @@ impl Generator {
             b'B' => self.batch_call(by_host),
             b'P' => self.prepare_call(by_host),
             b'Q' => self.prepared_run_call(by_host),
+            b'A' => self.maker.locate_file_call(),
+            b'G' | b'H' | b'I' => self.locate_call(letter, by_host),
+            b'J' => self.maker.locate_verdict_call(),
+            b'K' => self.set_count_call(),
             _ => return self.call_in_slot(letter),
         };
         (call, by_host && matches!(letter, b'R' | b'N' | b'X'))
@@ -263,6 +279,20 @@ impl Generator {
             _ => u64::MAX - random.below(20),
         }
     }
+}
+
+/// The calls of a script, each with the ledger before it and its answer.
+#[cfg(test)]
+pub fn calls_of(seed: u64, calls: u64, kinds: &str) -> Vec<(Ledger, Call, Answer)> {
+    let mut generator = Generator::new(seed, kinds);
+    let mut made = Vec::new();
+    for _ in 0..calls {
+        let before = generator.state.ledger.clone();
+        let call = generator.next_call();
+        let answer = answer_call(&mut before.clone(), &mut call.clone());
+        made.push((before, call, answer));
+    }
+    made
 }
 
 #[cfg(test)]

@@ -28,7 +28,7 @@ impl Generator {
     }
 
     /// The same for a replacement, whose use some group should allow.
-    fn acl_allowing(&mut self, by_host: bool, permission: u8) -> Acl {
+    pub fn acl_allowing(&mut self, by_host: bool, permission: u8) -> Acl {
         let mut acl = self.acl_for(by_host);
         if !by_host && self.maker.random.chance(95) {
             self.maker.allow(&mut acl, permission);
@@ -85,7 +85,12 @@ impl Generator {
 
     pub fn narrow_call(&mut self, by_host: bool) -> Call {
         let old = self.acl_allowing(by_host, REDUCE_ACL);
-        let Narrowing { old, new, hints } = self.some_narrowing(old);
+        let narrowing = self.some_narrowing(old);
+        self.narrow_call_of(narrowing)
+    }
+
+    pub fn narrow_call_of(&mut self, narrowing: Narrowing) -> Call {
+        let Narrowing { old, new, hints } = narrowing;
         let asking = self.asking_to_replace(&old, REDUCE_ACL);
         let mut call = Call::Narrow {
             km0: self.maker.km0.to_vec(),
@@ -102,7 +107,7 @@ impl Generator {
 
     /// Sound and gentle, sound and strong, broken in one way, empty, or nothing to do with the old
     /// ACL.
-    fn some_narrowing(&mut self, old: Acl) -> Narrowing {
+    pub fn some_narrowing(&mut self, old: Acl) -> Narrowing {
         match self.maker.random.weighted(&[40, 20, 34, 3, 3]) {
             0 => self.maker.narrowing(&old, 10),
             1 => self.maker.narrowing(&old, 50),

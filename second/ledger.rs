@@ -43,6 +43,16 @@ impl Ledger {
         })
     }
 
+    /// A host that restores a ledger: the count of a group or, after those, a named counter.
+    pub fn with_entry(&self, index: usize, value: u32) -> Ledger {
+        let mut ledger = self.clone();
+        match index.checked_sub(MOST_GROUPS) {
+            None => ledger.group_counts[index] = value,
+            Some(counter) => ledger.counters[counter] = value,
+        }
+        ledger
+    }
+
     /// "Charged: own count and each named counter plus 1, last time set to the request's."
     pub fn charged(&self, group: &Group, place: usize, time: u64) -> Ledger {
         let mut ledger = self.clone();

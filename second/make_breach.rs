@@ -51,6 +51,8 @@ pub enum Breach {
     TemplateChanged,
 }
 
+/// The breaches of hints come first.
+pub const HINT_BREACHES: usize = 7;
 pub const BREACHES: [Breach; 40] = [
     Breach::SourcesEqual,
     Breach::SourcesFalling,

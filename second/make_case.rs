@@ -2,11 +2,12 @@
 
 use crate::acl::Action;
 use crate::call::{Bytes, Call};
+use crate::desk::STEPS;
 use crate::encode;
 use crate::gate::NULL_MODULE_KEY;
 use crate::grade::Keys;
 use crate::make_desk::DeskCase;
-use crate::make_fault::{FIRST_STEPS, STEPS};
+use crate::make_fault::FIRST_STEPS;
 use crate::maker::Maker;
 use crate::trim::trim;
 

@@ -14,12 +14,6 @@ use crate::maker::Maker;
 /// The steps of approach 1, in the order in which they run.
 pub const FIRST_STEPS: [&str; 6] = ["WV1", "MSCV1", "MSCV2", "KGCV1", "KGCV2", "CSRL1"];
 
-/// The steps of approach 2, in the order in which they run.
-pub const STEPS: [&str; 21] = [
-    "WV1", "MSCV1", "MSCV2", "MSCV3", "MSCV4", "MSCV5", "WBCV1", "WBCV2", "WBCV3", "KGCV1",
-    "KGCV2", "ACLV3", "WB1", "WB2", "WB3", "WB6", "RB1", "RB2", "RB3", "KV3", "CSRL1",
-];
-
 impl Maker {
     /// A case in which that step is the only one to fail, under approach 2.
     pub fn failing_case(&mut self, approach: u8, step: &str) -> DeskCase {
@@ -214,7 +208,7 @@ impl Maker {
 #[cfg(test)]
 mod tests {
     use super::*;
-    use crate::desk::{attest, Verdict};
+    use crate::desk::{attest, Verdict, STEPS};
     use crate::encode;
 
     fn verdict(case: &DeskCase) -> Verdict {

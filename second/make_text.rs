@@ -89,7 +89,7 @@ impl Maker {
     }
 
     /// The number of the kind that was made; now and then that of another, or none of them.
-    fn kind_number(&mut self, made: TextKind) -> u64 {
+    pub fn kind_number(&mut self, made: TextKind) -> u64 {
         let own = made as u64;
         let other = self.random.below(5);
         let none = self.random.pick(&[

@@ -2,15 +2,12 @@
 //! read like one of a file.
 
 use crate::blobfile::BLOBFILE_FLAG;
-use crate::bundle::BundleReader;
 use crate::call::Bytes;
 use crate::encode::{put, put_hash, record, RecordBytes};
 use crate::listing::PERMISSIONS;
-use crate::read_acl::AclReader;
+use crate::read_file::FileReader;
 use crate::read_listing::{acl_record, optional_flag, put_mechanism, Words};
 use crate::record::{write_front, Record, Refusal};
-use crate::replace::read_hint;
-use crate::request::RequestReader;
 use crate::text::{TextKind, FACTS, SIGNATURES};
 
 /// Reads a text of that kind: 15 and the first bad line, then 9. An unknown kind is refused before
@@ -36,51 +33,6 @@ pub fn file_of(kind: TextKind, text: &[u8]) -> Result<Bytes, Refusal> {
     }
     reader.end().or(Err(Refusal::NotALine { line: next }))?;
     Ok(file)
-}
-
-/// Reads the records of one kind of file, one by one.
-enum FileReader {
-    Acl(AclReader),
-    Request(RequestReader),
-    Requests,
-    Bundle(BundleReader),
-    Hints,
-}
-
-impl FileReader {
-    fn of(kind: TextKind) -> FileReader {
-        match kind {
-            TextKind::Acl => FileReader::Acl(AclReader::default()),
-            TextKind::Request => FileReader::Request(RequestReader::taking(None)),
-            TextKind::Requests => FileReader::Requests,
-            TextKind::Bundle => FileReader::Bundle(BundleReader::default()),
-            TextKind::Hints => FileReader::Hints,
-        }
-    }
-
-    fn add(&mut self, record: Record) -> Result<(), Refusal> {
-        match self {
-            FileReader::Acl(reader) => reader.add(record),
-            FileReader::Request(reader) => reader.add(record),
-            // Each record is a request of its own.
-            FileReader::Requests => {
-                let mut alone = RequestReader::taking(None);
-                alone.add(record)?;
-                alone.end().map(|_| ())
-            }
-            FileReader::Bundle(reader) => reader.add(record),
-            FileReader::Hints => read_hint(record).map(|_| ()),
-        }
-    }
-
-    fn end(self) -> Result<(), Refusal> {
-        match self {
-            FileReader::Acl(reader) => reader.end().map(|_| ()),
-            FileReader::Request(reader) => reader.end().map(|_| ()),
-            FileReader::Bundle(reader) => reader.end().map(|_| ()),
-            FileReader::Requests | FileReader::Hints => Ok(()),
-        }
-    }
 }
 
 /// The record of a line, which the file's reader may still refuse; none if the line has no known

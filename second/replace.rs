@@ -108,14 +108,16 @@ pub fn is_narrowing(old: &Acl, new: &Acl, hints: &[Hint]) -> bool {
 }
 
 fn group_is_narrower(new: &Group, source: &Group, hint: &Hint) -> bool {
-    // "Keeps any certifier and mechanism (it may add them)."
-    let certification_kept =
-        kept(&source.certifier, &new.certifier) && kept(&source.mechanism, &new.mechanism);
     let limits_kept = source
         .limits
         .iter()
         .all(|old| limit_is_answered(old, &new.limits));
-    certification_kept && limits_kept && actions_are_narrower(new, source, hint)
+    keeps_certification(source, new) && limits_kept && actions_are_narrower(new, source, hint)
+}
+
+/// "Keeps any certifier and mechanism (it may add them)."
+pub fn keeps_certification(source: &Group, new: &Group) -> bool {
+    kept(&source.certifier, &new.certifier) && kept(&source.mechanism, &new.mechanism)
 }
 
 /// A restriction is "kept equal or added": what the source has, the new one has too.
@@ -124,7 +126,7 @@ fn kept<T: PartialEq>(source: &Option<T>, new: &Option<T>) -> bool {
 }
 
 /// "Answers each old limit by one of the same sort and counter with a maximum no larger."
-fn limit_is_answered(old: &Limit, new_limits: &[Limit]) -> bool {
+pub fn limit_is_answered(old: &Limit, new_limits: &[Limit]) -> bool {
     new_limits
         .iter()
         .any(|new| new.sort == old.sort && new.maximum <= old.maximum)
@@ -142,7 +144,7 @@ fn actions_are_narrower(new: &Group, source: &Group, hint: &Hint) -> bool {
     used_good && unused.iter().all(|&byte| byte == 0)
 }
 
-fn action_is_narrower(new: &Action, source: &Action) -> bool {
+pub fn action_is_narrower(new: &Action, source: &Action) -> bool {
     let no_wider = match (new, source) {
         // "Subset of permission bits."
         (Action::OpPermissions(new), Action::OpPermissions(old)) => new & !old == 0,

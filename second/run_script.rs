@@ -5,7 +5,7 @@ use std::fmt::Write as _;
 use std::io::{self, Read, Write};
 
 use crate::answer::{Answer, State};
-use crate::cabinet::check_slot;
+use crate::cabinet::{check_slot, Cabinet};
 use crate::call::Call;
 use crate::ledger::Ledger;
 use crate::record::hex;
@@ -63,7 +63,7 @@ pub fn tally_script(input: &mut impl Read, output: &mut impl Write, kinds: &str)
 fn answer_line(number: u64, call: &Call, answer: Answer, state: &State) -> String {
     let mut line = format!("{number} {}", answer.words());
     match call {
-        Call::Desk { .. } | Call::Prepare { .. } => {}
+        Call::Desk { .. } | Call::Prepare { .. } | Call::LocateFile { .. } | Call::Locate(_) => {}
         Call::Subject { buffer, .. }
         | Call::WriteListing { buffer, .. }
         | Call::ReadListing { buffer, .. }
@@ -84,13 +84,12 @@ fn answer_line(number: u64, call: &Call, answer: Answer, state: &State) -> Strin
         Call::FreshCabinet | Call::ClearShared { .. } => {
             add_counters(&mut line, &state.cabinet.counters)
         }
-        Call::InSlot { slot, .. } => match check_slot(*slot) {
-            Ok(place) => {
-                let _ = write!(line, " slot {place}");
-                add_ledger(&mut line, &state.cabinet.ledger(place));
+        Call::InSlot { slot, call } => {
+            if let Call::Batch(batch) | Call::PreparedRun { batch, .. } = &**call {
+                add_hex(&mut line, &batch.buffer);
             }
-            Err(_) => add_counters(&mut line, &state.cabinet.counters),
-        },
+            add_slot(&mut line, *slot, &state.cabinet);
+        }
         _ => add_ledger(&mut line, &state.ledger),
     }
     line
@@ -99,6 +98,17 @@ fn answer_line(number: u64, call: &Call, answer: Answer, state: &State) -> Strin
 fn add_hex(line: &mut String, bytes: &[u8]) {
     line.push(' ');
     line.push_str(&hex(bytes));
+}
+
+/// The slot that was called, where there is one, and the counters that the slots share.
+fn add_slot(line: &mut String, slot: u64, cabinet: &Cabinet) {
+    match check_slot(slot) {
+        Ok(place) => {
+            let _ = write!(line, " slot {place}");
+            add_ledger(line, &cabinet.ledger(place));
+        }
+        Err(_) => add_counters(line, &cabinet.counters),
+    }
 }
 
 /// " load T last T counts I:V I:V counters I:V with only the entries that are not zero".
@@ -129,8 +139,15 @@ mod tests {
     use crate::acl::{Acl, Action, Group, Limit, Sort};
     use crate::call::Batch;
     use crate::encode;
+    use crate::prepare::{form_bytes, prepare};
     use crate::request::{Asked, Presented, Request};
     use crate::script::{call_bytes, ALL_KINDS};
+
+    /// No use per load.
+    const LIMIT_OF_NONE: Limit = Limit {
+        sort: Sort::UsesPerLoad,
+        maximum: 0,
+    };
 
     fn answers(script: &[u8], kinds: &str) -> String {
         let mut output = Vec::new();
@@ -240,6 +257,89 @@ mod tests {
         let zeros = |sets: usize| "0".repeat(16 * sets);
         let form = format!("4 form {}0000000000000001{}\n", zeros(4), zeros(13));
         assert_eq!(answers(&script, ALL_KINDS), format!("{lines}{form}"));
+    }
+
+    #[test]
+    fn runs_in_slots_and_a_restored_count() {
+        let Call::Request { km0, acl, request } = sign(&[], 5) else {
+            unreachable!("a request");
+        };
+        let batch = Batch {
+            km0,
+            acl: acl.clone(),
+            row: Vec::new(),
+            run: [request.clone(), request].concat(),
+            buffer: vec![0xee; 17],
+        };
+        let Ok(form) = prepare(&acl) else {
+            unreachable!("a form");
+        };
+        let prepared = Call::PreparedRun {
+            form: form_bytes(&form),
+            batch: Batch {
+                buffer: vec![0xee; 15],
+                ..batch.clone()
+            },
+        };
+        let in_slot = |slot, call| Call::InSlot {
+            slot,
+            call: Box::new(call),
+        };
+        let calls = [
+            in_slot(7, Call::Batch(batch.clone())),
+            in_slot(8, Call::Batch(batch)),
+            in_slot(7, prepared),
+            Call::SetCount {
+                index: 0,
+                value: u64::from(u32::MAX),
+            },
+            Call::SetCount {
+                index: 319,
+                value: 1,
+            },
+            sign(&[], 5),
+        ];
+        let script: Vec<u8> = calls.iter().flat_map(call_bytes).collect();
+        let answers_of = |letters: &str| answers(&script, letters);
+        let (zeros, old) = ("0".repeat(32), "ee".repeat(17));
+        let full = u32::MAX;
+        let lines = format!(
+            "1 length 2 {zeros}ee slot 7 load 0 last 5 counts 0:2 counters\n\
+             2 refuse 13 {old} counters\n\
+             3 refuse 9 {} slot 7 load 0 last 5 counts 0:2 counters\n\
+             4 done load 0 last 0 counts 0:{full} counters\n\
+             5 done load 0 last 0 counts 0:{full} counters 255:1\n\
+             6 refuse 7 0 load 0 last 0 counts 0:{full} counters 255:1\n",
+            "ee".repeat(15)
+        );
+        assert_eq!(answers_of(ALL_KINDS), lines);
+        assert_eq!(answers_of("q"), "1 stop\n");
+    }
+
+    #[test]
+    fn places_show_every_number() {
+        let file = |kind, file: &[u8]| Call::LocateFile {
+            kind,
+            file: file.to_vec(),
+        };
+        let desk = Call::Desk {
+            bundle: vec![0; 65],
+            acl: Vec::new(),
+        };
+        let request = sign(&[], 0);
+        let calls = [
+            file(0, &[]),
+            file(1, &[]),
+            file(2, &[0; 64]),
+            file(9, &[]),
+            Call::Locate(Box::new(request)),
+            Call::Locate(Box::new(sign(&[LIMIT_OF_NONE], 0))),
+            Call::Locate(Box::new(desk)),
+        ];
+        let script: Vec<u8> = calls.iter().flat_map(call_bytes).collect();
+        let lines = "1 place 0 0 -\n2 place 2 3 0\n3 place 2 2 0\n4 place 10 0 -\n\
+                     5 place 0 0 0 - - 0 -\n6 place 7 0 0 - 0 5 0\n7 place 1 0 6 1 - 0 0 - - -\n";
+        assert_eq!(answers(&script, ALL_KINDS), lines);
     }
 
     #[test]

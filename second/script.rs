@@ -7,7 +7,7 @@ use crate::call::{Argument, Bytes, Call, FileKind};
 use crate::prepare::FORM_LENGTH;
 
 /// The letters of all calls.
-pub const ALL_KINDS: &str = "FLCRNXDSWTVUflcrnxBPQM";
+pub const ALL_KINDS: &str = "FLCRNXDSWTVUflcrnxBPQMbqAGHIJK";
 /// "Bytes are a 4-byte big-endian length and then that many bytes, at most [...] 262,144".
 pub const LONGEST_BYTES: usize = 262_144;
 
@@ -65,7 +65,11 @@ fn read_arguments(input: &mut impl Read, letter: u8) -> Result<Call, Trouble> {
             }
         }
     }
-    Ok(call)
+    if call.numbers_fit() {
+        Ok(call)
+    } else {
+        Err(Trouble::Stop)
+    }
 }
 
 /// "A length that is no multiple of 22 is a `K stop`", for a row; "any other length of a form is a
