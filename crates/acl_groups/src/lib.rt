@@ -50,7 +50,7 @@ pub fn group_body(acl: &[u8], g: usize) -> &[u8]
 pub fn is_passed_over(kind: u8) -> bool
     ensures { λ r. ⌜ r ≡ passedOver kind ⌝ }
 {
-    (kind == 2) | (kind == 15)
+    (kind == record_kinds::LIMIT) | (kind == record_kinds::BLOBFILE)
 }
 
 // The offset of the next group or action, from the byte `at` on; if there is none, an offset with fewer bytes left than a record has.
@@ -91,7 +91,7 @@ pub fn file_part(rest: &[u8]) -> &[u8]
     if rest.len() < record_sizes::RECORD {
         return &rest[0..0];
     }
-    if rest[0] != 15 {
+    if rest[0] != record_kinds::BLOBFILE {
         return &rest[0..0];
     }
     &rest[0..record_sizes::RECORD]

@@ -52,13 +52,13 @@ fn action(rec: &[u8]) -> bool
     ensures { λ r. ⌜ r ≡ actionLaidOut (now (rec .entry)) ⌝ }
 {
     let kind = rec[0];
-    if kind == 3 {
+    if kind == record_kinds::OP_PERMISSIONS {
         return record_layout::permissions(rec);
     }
-    if kind == 4 {
+    if kind == record_kinds::MAKE_BLOB {
         return record_layout::blob_action(rec);
     }
-    if kind == 5 {
+    if kind == record_kinds::MAKE_ARCHIVE_BLOB {
         return record_layout::archive_action(rec);
     }
     false
@@ -69,7 +69,7 @@ fn blobfile_record(rec: &[u8]) -> bool
     requires { ⌜ length (now rec) ≡ recordBytes ⌝ }
     ensures { λ r. ⌜ r ≡ blobfileRecord (now (rec .entry)) ⌝ }
 {
-    (rec[0] == 15) & record_layout::file(rec)
+    (rec[0] == record_kinds::BLOBFILE) & record_layout::file(rec)
 }
 
 impl State {
@@ -117,10 +117,10 @@ impl State {
         ensures { λ r. ⌜ r ≡ placedByKind (aclStateAs self) (now (rec .entry)) ⌝ }
     {
         let kind = rec[0];
-        if kind == 1 {
+        if kind == record_kinds::GROUP {
             return record_layout::group(rec);
         }
-        if kind == 2 {
+        if kind == record_kinds::LIMIT {
             if !record_layout::limit(rec) {
                 return false;
             }
@@ -138,13 +138,13 @@ impl State {
         ensures { λ r. ⌜ r ≡ hasRoom (aclStateAs self) (now (rec .entry)) ⌝ }
     {
         let kind = rec[0];
-        if kind == 1 {
+        if kind == record_kinds::GROUP {
             return (self.groups as usize) < record_sizes::GROUPS;
         }
-        if kind == 2 {
+        if kind == record_kinds::LIMIT {
             return (self.limits as usize) < record_sizes::LIMITS;
         }
-        if kind == 15 {
+        if kind == record_kinds::BLOBFILE {
             return true;
         }
         (self.actions as usize) < record_sizes::ACTIONS
@@ -156,7 +156,8 @@ impl State {
         ensures { λ r. ⌜ r ≡ keyed (aclStateAs self .isOpen) (now (rec .entry)) ⌝ }
     {
         let kind = rec[0];
-        !(self.opened & (kind == 5)) | record_fields::flag_of(0, rec)
+        !(self.opened & (kind == record_kinds::MAKE_ARCHIVE_BLOB))
+            | record_fields::flag_of(record_kinds::KAHASH, rec)
     }
 
     // The state after a limit that is not one too many.
@@ -207,16 +208,16 @@ impl State {
         ensures { λ r. ⌜ (aclStateAs r ≡ afterRecord (aclStateAs self) (now (rec .entry))) × (r .limits ≤ limitsMax) ⌝ }
     {
         let kind = rec[0];
-        if kind == 1 {
-            return self.after_group(!record_fields::flag_of(0, rec));
+        if kind == record_kinds::GROUP {
+            return self.after_group(!record_fields::flag_of(record_kinds::CERTIFIER, rec));
         }
-        if kind == 2 {
+        if kind == record_kinds::LIMIT {
             return self.after_limit(record_fields::be16(rec, 4));
         }
-        if kind == 15 {
+        if kind == record_kinds::BLOBFILE {
             return self.after_file();
         }
-        self.after_action(record_fields::flag_of(6, rec))
+        self.after_action(record_fields::flag_of(record_kinds::HAS_BLOBFILE, rec))
     }
 
     // The fault of a file that ends here: 2 if a record of kind 15 is missing.

@@ -37,13 +37,13 @@ const UNASKED: usize = 25;
 fn entry(kind: u8, number: u8) -> usize
     ensures { λ r. ⌜ r ≡ entryOf kind number ⌝ }
 {
-    if (kind == 10) & (number < 16) {
+    if (kind == record_kinds::FACT) & (number < 16) {
         return number as usize;
     }
-    if (kind == 11) & (number < 8) {
+    if (kind == record_kinds::SIGNATURE) & (number < 8) {
         return 16 + (number as usize);
     }
-    if kind == 12 {
+    if kind == record_kinds::POLICY {
         return POLICY;
     }
     UNASKED
@@ -145,7 +145,7 @@ fn is_listing(key: &[u8], rec: &[u8]) -> bool
     requires { ⌜ length (now rec) ≡ recordBytes ⌝ }
     ensures { λ r. ⌜ r ≡ lists (now (key .entry)) (now (rec .entry)) ⌝ }
 {
-    if !((rec[0] == 10) & (rec[4] == 14)) {
+    if !((rec[0] == record_kinds::FACT) & (rec[4] == 14)) {
         return false;
     }
     record_fields::same_bytes(&rec[8..28], key)

@@ -28,7 +28,7 @@ pub fn record_order(rec: &[u8]) -> u16
     ensures { λ r. ⌜ r ≡ orderOf (now (rec .entry)) ⌝ }
 {
     let kind = rec[0];
-    if kind == 12 {
+    if kind == record_kinds::POLICY {
         return POLICY_ORDER;
     }
     order(kind, rec[4])
@@ -40,13 +40,13 @@ fn bundle_record(rec: &[u8]) -> bool
     ensures { λ r. ⌜ r ≡ bundleRecordLaidOut (now (rec .entry)) ⌝ }
 {
     let kind = rec[0];
-    if kind == 10 {
+    if kind == record_kinds::FACT {
         return record_layout::fact(rec);
     }
-    if kind == 11 {
+    if kind == record_kinds::SIGNATURE {
         return record_layout::signature(rec);
     }
-    if kind == 12 {
+    if kind == record_kinds::POLICY {
         return record_layout::policy(rec);
     }
     false

@@ -138,16 +138,18 @@ pub fn blob_steps(hkm: &[u8], rec: &[u8]) -> Failure
     requires { ⌜ length (now rec) ≡ recordBytes ⌝ }
     ensures { λ r. ⌜ failureAs r ≡ blobFailure (given (now (hkm .entry))) (blobRuleOf (now (rec .entry))) ⌝ }
 {
-    if !(record_fields::flag_of(0, rec) | record_fields::flag_of(3, rec)) {
+    if !(record_fields::flag_of(record_kinds::ALLOW_KM_ONLY, rec)
+        | record_fields::flag_of(record_kinds::KTHASH, rec)) {
         return Failure::At(Step::WB1);
     }
     if !under_module_key(hkm, rec) {
         return Failure::At(Step::WB2);
     }
-    if record_fields::flag_of(5, rec) {
+    if record_fields::flag_of(record_kinds::ALLOW_NULL_KM_TOKEN, rec) {
         return Failure::At(Step::WB3);
     }
-    if !(!record_fields::flag_of(3, rec) | record_fields::flag_of(4, rec)) {
+    if !(!record_fields::flag_of(record_kinds::KTHASH, rec)
+        | record_fields::flag_of(record_kinds::KTPARAMS, rec)) {
         return Failure::At(Step::WB6);
     }
     Failure::Nothing
@@ -196,10 +198,10 @@ pub fn action_steps(policy: Policy, hkm: &[u8], hkre: &[u8], rec: &[u8]) -> Fail
     ensures { λ r. ⌜ ((file : Option BlobfileRule) → failureAs r ≡ failureUnder (policyAs policy) (given (now (hkm .entry))) (given (now (hkre .entry))) (actionOf (now (rec .entry)) file)) ⌝ }
 {
     let kind = rec[0];
-    if kind == 3 {
+    if kind == record_kinds::OP_PERMISSIONS {
         return permission_step(policy, rec);
     }
-    if kind == 4 {
+    if kind == record_kinds::MAKE_BLOB {
         return blob_steps(hkm, rec);
     }
     archive_steps(policy, hkre, rec)
@@ -210,10 +212,12 @@ pub fn blob_protection(rec: &[u8]) -> u8
     requires { ⌜ length (now rec) ≡ recordBytes ⌝ }
     ensures { λ r. ⌜ r ≡ actionProtection (makeBlob (blobRuleOf (now (rec .entry))) none) ⌝ }
 {
-    if record_fields::flag_of(0, rec) {
+    if record_fields::flag_of(record_kinds::ALLOW_KM_ONLY, rec) {
         return BY_MODULE;
     }
-    if record_fields::flag_of(4, rec) & record_fields::bit_of(0, record_fields::be16(rec, 44)) {
+    if record_fields::flag_of(record_kinds::KTPARAMS, rec)
+        & record_fields::bit_of(0, record_fields::be16(rec, 44))
+    {
         return BY_SOFTCARD;
     }
     BY_CARDSET

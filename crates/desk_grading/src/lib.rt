@@ -51,14 +51,14 @@ fn action_grade(policy: Policy, hkm: &[u8], hkre: &[u8], rec: &[u8]) -> Grade
     ensures { λ r. ⌜ ((file : Option BlobfileRule) → gradedAs r ≡ actionGraded (policyAs policy) (given (now (hkm .entry))) (given (now (hkre .entry))) (actionOf (now (rec .entry)) file)) ⌝ }
 {
     let kind = rec[0];
-    if kind == 3 {
+    if kind == record_kinds::OP_PERMISSIONS {
         return Grade {
             failure: desk_actions::permission_step(policy, rec),
             protection: desk_actions::NOT_KEPT,
             recoverable: false,
         };
     }
-    if kind == 4 {
+    if kind == record_kinds::MAKE_BLOB {
         return Grade {
             failure: desk_actions::blob_steps(hkm, rec),
             protection: desk_actions::blob_protection(rec),
@@ -93,7 +93,7 @@ fn groups_grade(officer: &[u8], policy: Policy, hkm: &[u8], hkre: &[u8], acl: &[
     let mut at = acl_groups::next_part(acl, 0);
     while record_sizes::RECORD <= acl.len() - at {
         let rec = &acl[at..at + record_sizes::RECORD];
-        if acl[at] == 1 {
+        if acl[at] == record_kinds::GROUP {
             let officers = desk_actions::names_key(officer, 0, 4, rec);
             found = joined(found, no_actions(officers));
             checked = !officers;

@@ -83,8 +83,13 @@ fn admits_key(km0: &[u8], act: &[u8], key: &[u8]) -> bool
     requires { ⌜ length (now act) ≡ recordBytes ⌝ }
     ensures { λ r. ⌜ r ≡ admitsKey (now (km0 .entry)) (blobRuleOf (now (act .entry))) (now (key .entry)) ⌝ }
 {
-    matches_hash(record_fields::flag_of(2, act), &act[4..24], key)
-        & (record_fields::flag_of(1, act) | record_fields::same_bytes(key, km0))
+    matches_hash(
+        record_fields::flag_of(record_kinds::KMHASH, act),
+        &act[4..24],
+        key,
+    )
+        & (record_fields::flag_of(record_kinds::ALLOW_NON_KM0, act)
+            | record_fields::same_bytes(key, km0))
 }
 
 // A direct blob: AllowKmOnly, neither kthash nor ktparams, never under the null key.
@@ -92,9 +97,9 @@ fn admits_direct(act: &[u8], key: &[u8]) -> bool
     requires { ⌜ length (now act) ≡ recordBytes ⌝ }
     ensures { λ r. ⌜ r ≡ admitsDirect (blobRuleOf (now (act .entry))) (now (key .entry)) ⌝ }
 {
-    record_fields::flag_of(0, act)
-        & !record_fields::flag_of(3, act)
-        & !record_fields::flag_of(4, act)
+    record_fields::flag_of(record_kinds::ALLOW_KM_ONLY, act)
+        & !record_fields::flag_of(record_kinds::KTHASH, act)
+        & !record_fields::flag_of(record_kinds::KTPARAMS, act)
         & !is_null_key(key)
 }
 
@@ -103,9 +108,17 @@ fn admits_token(act: &[u8], key: &[u8], rec: &[u8]) -> bool
     requires { ⌜ (length (now act) ≡ recordBytes) × (length (now rec) ≡ recordBytes) ⌝ }
     ensures { λ r. ⌜ r ≡ admitsToken (blobRuleOf (now (act .entry))) (now (key .entry)) (tokenOf (now (rec .entry))) ⌝ }
 {
-    matches_hash(record_fields::flag_of(3, act), &act[24..44], &rec[24..44])
-        & meets_parameters(record_fields::flag_of(4, act), &act[44..52], &rec[44..52])
-        & (!is_null_key(key) | record_fields::flag_of(5, act))
+    matches_hash(
+        record_fields::flag_of(record_kinds::KTHASH, act),
+        &act[24..44],
+        &rec[24..44],
+    )
+        & meets_parameters(
+            record_fields::flag_of(record_kinds::KTPARAMS, act),
+            &act[44..52],
+            &rec[44..52],
+        )
+        & (!is_null_key(key) | record_fields::flag_of(record_kinds::ALLOW_NULL_KM_TOKEN, act))
 }
 
 // Whether a MakeBlob action admits a working blob.
@@ -114,7 +127,7 @@ fn admits_blob(km0: &[u8], act: &[u8], rec: &[u8]) -> bool
     ensures { λ r. ⌜ r ≡ admitsBlob (now (km0 .entry)) (blobRuleOf (now (act .entry))) (workingBlobOf (now (rec .entry))) ⌝ }
 {
     let key = &rec[4..24];
-    if record_fields::flag_of(0, rec) {
+    if record_fields::flag_of(record_kinds::TOKEN, rec) {
         return admits_key(km0, act, key) & admits_token(act, key, rec);
     }
     admits_key(km0, act, key) & admits_direct(act, key)
@@ -126,7 +139,11 @@ fn admits_archive(act: &[u8], rec: &[u8]) -> bool
     ensures { λ r. ⌜ r ≡ admitsArchive (archiveRuleOf (now (act .entry))) (recoveryBlobOf (now (rec .entry))) ⌝ }
 {
     (record_fields::be16(act, 24) == record_fields::be16(rec, 24))
-        & matches_hash(record_fields::flag_of(0, act), &act[4..24], &rec[4..24])
+        & matches_hash(
+            record_fields::flag_of(record_kinds::KAHASH, act),
+            &act[4..24],
+            &rec[4..24],
+        )
 }
 
 // Whether an action admits a use of permission p: the bit is set. No number has a bit past the sixteenth.
@@ -134,7 +151,7 @@ fn admits_use(p: u8, act: &[u8]) -> bool
     requires { ⌜ length (now act) ≡ recordBytes ⌝ }
     ensures { λ r. ⌜ ((file : Option BlobfileRule) → r ≡ admitsUse p (actionOf (now (act .entry)) file)) ⌝ }
 {
-    if act[0] != 3 {
+    if act[0] != record_kinds::OP_PERMISSIONS {
         return false;
     }
     let bits = record_fields::be16(act, 4);
@@ -150,7 +167,7 @@ fn admits_working(km0: &[u8], rec: &[u8], rest: &[u8], act: &[u8], after: &[u8])
     requires { ⌜ (length (now act) ≡ recordBytes) × (length (now rec) ≡ recordBytes) ⌝ }
     ensures { λ r. ⌜ r ≡ admitsWorking (now (km0 .entry)) (workingBlobOf (now (rec .entry))) (blobfileNext (records (now (rest .entry)))) (actionOf (now (act .entry)) (blobfileRuleNext (records (now (after .entry))))) ⌝ }
 {
-    if act[0] != 4 {
+    if act[0] != record_kinds::MAKE_BLOB {
         return false;
     }
     if !gate_blobfile::admits_blobfile(rest, after) {
@@ -165,10 +182,10 @@ fn admits_recovery(rec: &[u8], rest: &[u8], act: &[u8], after: &[u8]) -> bool
     ensures { λ r. ⌜ r ≡ admitsRecovery (recoveryBlobOf (now (rec .entry))) (blobfileNext (records (now (rest .entry)))) (actionOf (now (act .entry)) (blobfileRuleNext (records (now (after .entry))))) ⌝ }
 {
     let kind = act[0];
-    if kind == 3 {
+    if kind == record_kinds::OP_PERMISSIONS {
         return false;
     }
-    if kind == 4 {
+    if kind == record_kinds::MAKE_BLOB {
         return false;
     }
     admits_archive(act, rec) & gate_blobfile::admits_blobfile(rest, after)
@@ -179,7 +196,7 @@ fn action_admits(km0: &[u8], rec: &[u8], rest: &[u8], act: &[u8], after: &[u8]) 
     requires { ⌜ (length (now act) ≡ recordBytes) × (length (now rec) ≡ recordBytes) × (kind (now rec) ≡ 6 → ⊥) ⌝ }
     ensures { λ r. ⌜ r ≡ admits (now (km0 .entry)) (wantedOf (now (rec .entry)) (blobfileNext (records (now (rest .entry))))) (actionOf (now (act .entry)) (blobfileRuleNext (records (now (after .entry))))) ⌝ }
 {
-    if rec[0] == 7 {
+    if rec[0] == record_kinds::BLOB {
         return admits_working(km0, rec, rest, act, after);
     }
     admits_recovery(rec, rest, act, after)
@@ -229,7 +246,7 @@ pub fn group_admits(km0: &[u8], rec: &[u8], rest: &[u8], body: &[u8]) -> bool
     requires { ⌜ length (now rec) ≡ recordBytes ⌝ }
     ensures { λ r. ⌜ r ≡ any (admits (now (km0 .entry)) (wantedOf (now (rec .entry)) (blobfileNext (records (now (rest .entry)))))) (actionsOf (records (now (body .entry)))) ⌝ }
 {
-    if rec[0] == 6 {
+    if rec[0] == record_kinds::USE {
         return admits_some_use(rec[4], body);
     }
     admits_some_blob(km0, rec, rest, body)

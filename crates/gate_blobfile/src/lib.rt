@@ -15,7 +15,7 @@ fn admits_device(file: &[u8], stored: &[u8]) -> bool
     requires { ⌜ (length (now file) ≡ recordBytes) × (length (now stored) ≡ recordBytes) ⌝ }
     ensures { λ r. ⌜ r ≡ admitsDevice (blobfileRuleOf (now (file .entry)) .devices) (blobfileOf (now (stored .entry)) .device) ⌝ }
 {
-    if !record_fields::flag_of(0, file) {
+    if !record_fields::flag_of(record_kinds::DEVICES, file) {
         return true;
     }
     record_fields::subset32(record_fields::be32(stored, 4), record_fields::be32(file, 4))
@@ -26,10 +26,10 @@ fn admits_template(file: &[u8], stored: &[u8]) -> bool
     requires { ⌜ (length (now file) ≡ recordBytes) × (length (now stored) ≡ recordBytes) ⌝ }
     ensures { λ r. ⌜ r ≡ admitsTemplate (blobfileRuleOf (now (file .entry)) .template) (blobfileOf (now (stored .entry)) .template) ⌝ }
 {
-    if !record_fields::flag_of(1, file) {
+    if !record_fields::flag_of(record_kinds::TEMPLATE, file) {
         return true;
     }
-    if !record_fields::flag_of(1, stored) {
+    if !record_fields::flag_of(record_kinds::TEMPLATE, stored) {
         return false;
     }
     record_fields::same_bytes(&file[8..28], &stored[8..28])
@@ -61,10 +61,10 @@ fn kept_devices(new: &[u8], old: &[u8]) -> bool
     requires { ⌜ (length (now new) ≡ recordBytes) × (length (now old) ≡ recordBytes) ⌝ }
     ensures { λ r. ⌜ r ≡ keptDevices (blobfileRuleOf (now (new .entry)) .devices) (blobfileRuleOf (now (old .entry)) .devices) ⌝ }
 {
-    if !record_fields::flag_of(0, old) {
+    if !record_fields::flag_of(record_kinds::DEVICES, old) {
         return true;
     }
-    if !record_fields::flag_of(0, new) {
+    if !record_fields::flag_of(record_kinds::DEVICES, new) {
         return false;
     }
     record_fields::subset32(record_fields::be32(new, 4), record_fields::be32(old, 4))
@@ -75,10 +75,10 @@ fn kept_template(new: &[u8], old: &[u8]) -> bool
     requires { ⌜ (length (now new) ≡ recordBytes) × (length (now old) ≡ recordBytes) ⌝ }
     ensures { λ r. ⌜ r ≡ kept (blobfileRuleOf (now (new .entry)) .template) (blobfileRuleOf (now (old .entry)) .template) ⌝ }
 {
-    if !record_fields::flag_of(1, old) {
+    if !record_fields::flag_of(record_kinds::TEMPLATE, old) {
         return true;
     }
-    if !record_fields::flag_of(1, new) {
+    if !record_fields::flag_of(record_kinds::TEMPLATE, new) {
         return false;
     }
     record_fields::same_bytes(&new[8..28], &old[8..28])

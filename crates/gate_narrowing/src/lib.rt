@@ -97,7 +97,7 @@ fn limit_answered(new: &[u8], old: &[u8]) -> bool
 {
     let mut at = 0;
     while record_sizes::RECORD <= new.len() - at {
-        if new[at] != 2 {
+        if new[at] != record_kinds::LIMIT {
             return false;
         }
         if limit_answers(old, &new[at..at + record_sizes::RECORD]) {
@@ -114,7 +114,7 @@ fn limits_answered(new: &[u8], old: &[u8]) -> bool
 {
     let mut at = 0;
     while record_sizes::RECORD <= old.len() - at {
-        if old[at] != 2 {
+        if old[at] != record_kinds::LIMIT {
             return true;
         }
         if !limit_answered(new, &old[at..at + record_sizes::RECORD]) {

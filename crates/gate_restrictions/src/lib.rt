@@ -78,9 +78,9 @@ fn parameters_kept(new: &[u8], old: &[u8]) -> bool
     ensures { λ r. ⌜ r ≡ keptParameters (optional (flag 4 (now (new .entry))) (parametersOf (part 44 8 (now (new .entry))))) (optional (flag 4 (now (old .entry))) (parametersOf (part 44 8 (now (old .entry))))) ⌝ }
 {
     kept_parameters(
-        record_fields::flag_of(4, new),
+        record_fields::flag_of(record_kinds::KTPARAMS, new),
         &new[44..52],
-        record_fields::flag_of(4, old),
+        record_fields::flag_of(record_kinds::KTPARAMS, old),
         &old[44..52],
     )
 }
@@ -114,7 +114,7 @@ fn rule_no_wider(new: &[u8], old: &[u8]) -> bool
 {
     let kind = new[0];
     let was = old[0];
-    if kind == 4 {
+    if kind == record_kinds::MAKE_BLOB {
         if was != 4 {
             return false;
         }
@@ -134,8 +134,8 @@ pub fn action_no_wider(new: &[u8], after: &[u8], old: &[u8], behind: &[u8]) -> b
     requires { ⌜ (length (now new) ≡ recordBytes) × (length (now old) ≡ recordBytes) ⌝ }
     ensures { λ r. ⌜ r ≡ noWider (actionOf (now (new .entry)) (blobfileRuleNext (records (now (after .entry))))) (actionOf (now (old .entry)) (blobfileRuleNext (records (now (behind .entry))))) ⌝ }
 {
-    if new[0] == 3 {
-        if old[0] != 3 {
+    if new[0] == record_kinds::OP_PERMISSIONS {
+        if old[0] != record_kinds::OP_PERMISSIONS {
             return false;
         }
         return record_fields::subset16(record_fields::be16(new, 4), record_fields::be16(old, 4));
@@ -150,9 +150,9 @@ pub fn certifier_kept(new: &[u8], old: &[u8]) -> bool
 {
     hash_kept(0, 4, new, old)
         & kept_number(
-            record_fields::flag_of(1, new),
+            record_fields::flag_of(record_kinds::MECHANISM, new),
             record_fields::be16(new, 24),
-            record_fields::flag_of(1, old),
+            record_fields::flag_of(record_kinds::MECHANISM, old),
             record_fields::be16(old, 24),
         )
 }

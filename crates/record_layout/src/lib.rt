@@ -57,8 +57,8 @@ fn certifier_mechanism(s: &[u8]) -> bool
     requires { ⌜ length (now s) ≡ recordBytes ⌝ }
     ensures { λ r. ⌜ r ≡ certifierMechanism (now (s .entry)) ⌝ }
 {
-    if record_fields::flag_of(1, s) {
-        return record_fields::flag_of(0, s) & mechanism_at(24, s);
+    if record_fields::flag_of(record_kinds::MECHANISM, s) {
+        return record_fields::flag_of(record_kinds::CERTIFIER, s) & mechanism_at(24, s);
     }
     record_fields::zero_part(s, 24, 2)
 }
@@ -270,5 +270,7 @@ pub fn file_request(s: &[u8]) -> bool
     requires { ⌜ length (now s) ≡ recordBytes ⌝ }
     ensures { λ r. ⌜ r ≡ blobfileRequestLaidOut (now (s .entry)) ⌝ }
 {
-    file(s) & record_fields::flag_of(0, s) & record_fields::one_bit(record_fields::be32(s, 4))
+    file(s)
+        & record_fields::flag_of(record_kinds::DEVICES, s)
+        & record_fields::one_bit(record_fields::be32(s, 4))
 }

@@ -16,13 +16,13 @@ pub fn request_record(rec: &[u8]) -> bool
     ensures { λ r. ⌜ r ≡ requestLaidOut (now (rec .entry)) ⌝ }
 {
     let kind = rec[0];
-    if kind == 6 {
+    if kind == record_kinds::USE {
         return record_layout::use_request(rec);
     }
-    if kind == 7 {
+    if kind == record_kinds::BLOB {
         return record_layout::blob_request(rec);
     }
-    if kind == 8 {
+    if kind == record_kinds::RECOVERY_BLOB {
         return record_layout::recovery_request(rec);
     }
     false
@@ -33,7 +33,7 @@ pub fn stands_alone(rec: &[u8]) -> bool
     requires { ⌜ length (now rec) ≡ recordBytes ⌝ }
     ensures { λ r. ⌜ r ≡ standsAlone (now (rec .entry)) ⌝ }
 {
-    request_record(rec) & !record_fields::flag_of(6, rec)
+    request_record(rec) & !record_fields::flag_of(record_kinds::HAS_BLOBFILE, rec)
 }
 
 // Whether a record is a well-formed one of kind 15, as a request has it.
@@ -41,7 +41,7 @@ pub fn blobfile_record(rec: &[u8]) -> bool
     requires { ⌜ length (now rec) ≡ recordBytes ⌝ }
     ensures { λ r. ⌜ r ≡ blobfileRequestRecord (now (rec .entry)) ⌝ }
 {
-    (rec[0] == 15) & record_layout::file_request(rec)
+    (rec[0] == record_kinds::BLOBFILE) & record_layout::file_request(rec)
 }
 
 // Whether a record is a well-formed use of permission p.
@@ -49,7 +49,7 @@ fn use_record(p: u8, rec: &[u8]) -> bool
     requires { ⌜ length (now rec) ≡ recordBytes ⌝ }
     ensures { λ r. ⌜ r ≡ useOf p (now (rec .entry)) ⌝ }
 {
-    (rec[0] == 6) & record_layout::use_request(rec) & (rec[4] == p)
+    (rec[0] == record_kinds::USE) & record_layout::use_request(rec) & (rec[4] == p)
 }
 
 // Whether a record is a well-formed certificate.
@@ -57,7 +57,7 @@ pub fn certificate_record(rec: &[u8]) -> bool
     requires { ⌜ length (now rec) ≡ recordBytes ⌝ }
     ensures { λ r. ⌜ r ≡ certificateRecord (now (rec .entry)) ⌝ }
 {
-    (rec[0] == 9) & record_layout::certificate(rec)
+    (rec[0] == record_kinds::CERTIFICATE) & record_layout::certificate(rec)
 }
 
 // Whether a record is a well-formed delegation.
@@ -65,7 +65,7 @@ pub fn delegation_record(rec: &[u8]) -> bool
     requires { ⌜ length (now rec) ≡ recordBytes ⌝ }
     ensures { λ r. ⌜ r ≡ delegationRecord (now (rec .entry)) ⌝ }
 {
-    (rec[0] == 14) & record_layout::delegation(rec)
+    (rec[0] == record_kinds::DELEGATION) & record_layout::delegation(rec)
 }
 
 // The first fault of the certificates and delegations of a request.
@@ -76,7 +76,7 @@ fn presented_records(rest: &[u8]) -> Checked
     let mut dels = 0;
     let mut at = 0;
     while record_sizes::RECORD <= rest.len() - at {
-        if rest[at] == 9 {
+        if rest[at] == record_kinds::CERTIFICATE {
             if !(certificate_record(&rest[at..at + record_sizes::RECORD]) & (dels == 0)) {
                 return Checked::Refused(Refusal::Malformed);
             }
@@ -104,7 +104,7 @@ fn following_records(rec: &[u8], rest: &[u8]) -> Checked
     requires { ⌜ length (now rec) ≡ recordBytes ⌝ }
     ensures { λ r. ⌜ faultAs r ≡ followingFault (now (rec .entry)) (records (now (rest .entry))) ⌝ }
 {
-    if !record_fields::flag_of(6, rec) {
+    if !record_fields::flag_of(record_kinds::HAS_BLOBFILE, rec) {
         return presented_records(rest);
     }
     if rest.len() < record_sizes::RECORD {
@@ -147,7 +147,7 @@ pub fn hint_record(rec: &[u8]) -> bool
     requires { ⌜ length (now rec) ≡ recordBytes ⌝ }
     ensures { λ r. ⌜ r ≡ hintRecord (now (rec .entry)) ⌝ }
 {
-    (rec[0] == 13) & record_layout::hint(rec)
+    (rec[0] == record_kinds::HINT) & record_layout::hint(rec)
 }
 
 // The first fault of a hints file's records.

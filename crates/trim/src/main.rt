@@ -74,7 +74,7 @@ fn lost_permissions(
 fn print_gone(places: &[usize; bundle_facts::ENTRIES], bundle: &[u8], rec: &[u8])
     requires { ⌜ (length (now rec) ≡ recordBytes) × Found (now bundle) (now places) ⌝ }
 {
-    if rec[0] == 3 {
+    if rec[0] == record_kinds::OP_PERMISSIONS {
         let lost = lost_permissions(places, bundle, rec);
         print_record(&lost);
         return;
@@ -125,7 +125,7 @@ fn print_removed(places: &[usize; bundle_facts::ENTRIES], bundle: &[u8], acl: &[
     let mut place = 0;
     let mut at = acl_groups::next_part(acl, 0);
     while record_sizes::RECORD <= acl.len() - at {
-        if acl[at] == 1 {
+        if acl[at] == record_kinds::GROUP {
             checked = trim_records::is_checked(places, bundle, &acl[at..at + record_sizes::RECORD]);
             group = next;
             next += 1;

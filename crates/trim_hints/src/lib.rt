@@ -65,10 +65,10 @@ impl Hint {
         ensures { λ r. ⌜ r ≡ recordHinted self (onAction (records (now (bundle .entry))) checked (now (rec .entry))) (now (rec .entry)) ⌝ }
     {
         let kind = rec[0];
-        if kind == 2 {
+        if kind == record_kinds::LIMIT {
             return self;
         }
-        if kind == 15 {
+        if kind == record_kinds::BLOBFILE {
             return self;
         }
         let fate = trim_records::on_action(places, bundle, checked, rec);
@@ -114,7 +114,7 @@ pub fn write_hints(
     let mut to = 0;
     let mut at = 0;
     while record_sizes::RECORD <= acl.len() - at {
-        if acl[at] != 1 {
+        if acl[at] != record_kinds::GROUP {
             at += record_sizes::RECORD;
             continue;
         }

@@ -110,7 +110,7 @@ pub fn on_action(
     if passes(places, bundle, rec) {
         return TrimAction::Copied;
     }
-    if rec[0] == 3 {
+    if rec[0] == record_kinds::OP_PERMISSIONS {
         return TrimAction::Fewer;
     }
     TrimAction::Dropped
@@ -139,13 +139,13 @@ pub fn on_record(
     ensures { λ r. ⌜ r ≡ onRecord (records (now (bundle .entry))) checked kept (now (rec .entry)) ⌝ }
 {
     let kind = rec[0];
-    if kind == 1 {
+    if kind == record_kinds::GROUP {
         return TrimAction::Copied;
     }
-    if kind == 2 {
+    if kind == record_kinds::LIMIT {
         return TrimAction::Copied;
     }
-    if kind == 15 {
+    if kind == record_kinds::BLOBFILE {
         return on_blobfile(kept);
     }
     on_action(places, bundle, checked, rec)
@@ -179,10 +179,10 @@ pub fn kept_after(fate: TrimAction, kept: bool, rec: &[u8]) -> bool
     ensures { λ r. ⌜ r ≡ keptAfter fate kept (now (rec .entry)) ⌝ }
 {
     let kind = rec[0];
-    if kind == 1 {
+    if kind == record_kinds::GROUP {
         return kept;
     }
-    if kind == 2 {
+    if kind == record_kinds::LIMIT {
         return kept;
     }
     is_kept(fate)
@@ -198,7 +198,7 @@ pub fn checked_after(
     requires { ⌜ (length (now rec) ≡ recordBytes) × Found (now bundle) (now places) ⌝ }
     ensures { λ r. ⌜ r ≡ checkedAfter (records (now (bundle .entry))) checked (now (rec .entry)) ⌝ }
 {
-    if rec[0] == 1 {
+    if rec[0] == record_kinds::GROUP {
         return is_checked(places, bundle, rec);
     }
     checked

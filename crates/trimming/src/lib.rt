@@ -36,7 +36,7 @@ fn hint_size(rec: &[u8]) -> usize
     requires { ⌜ length (now rec) ≡ recordBytes ⌝ }
     ensures { λ r. ⌜ (r ≡ hintSize (now (rec .entry))) × (r ≤ recordBytes) ⌝ }
 {
-    if rec[0] == 1 {
+    if rec[0] == record_kinds::GROUP {
         return record_sizes::RECORD;
     }
     0
