@@ -1,6 +1,6 @@
-// Finding one's way in an ACL: a group by its number, the group's own records, its limits, its actions one after the other. Each is total: it
-// decodes any bytes, and the file may or may not have been tested. Which kinds are neither a group nor an action is known here alone: other
-// crates walk by next_part and next_action, or ask is_passed_over.
+// The walk over an ACL: a group by its index, its records, its limits, its actions in order. Each function is total: it decodes any bytes, whether or not
+// the file was tested. Which kinds are neither a group nor an action is known here alone: other crates walk by next_part and next_action, or ask
+// is_passed_over.
 ghost use Prim.Native.Nat.{_≤_};
 ghost use lib.ListN.{length};
 ghost use mathlib.Core.Path.{_≡_};

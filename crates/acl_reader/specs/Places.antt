@@ -57,6 +57,6 @@ checkedAs s (Refused f) = stopped (refusalNumber f)
 abbrev pub readingAs : Read → AclReading
 readingAs r = checkedAs (aclStateAs (r .place)) (r .found)
 
--- the limits of its place have their keys in the row
+-- the limits of its state have their keys in the row
 abbrev pub Kept : Read → Type 0
 Kept r = r .place .limits ≤ limitsMax

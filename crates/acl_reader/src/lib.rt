@@ -242,7 +242,7 @@ impl State {
     }
 
     // Reading goes on here: records from the first on; within a record 2, then 3, then 12. It is one loop for all readers of records, so that its tests
-    // are one piece of code with it and the place stays in registers.
+    // are one piece of code with it and the state stays in registers.
     pub fn read(self, acl: &[u8]) -> Read
         requires { ⌜ self .limits ≤ limitsMax ⌝ }
         ensures { λ r. ⌜ (readingAs r ≡ reading (aclStateAs self) (records (now (acl .entry)))) × Kept r ⌝ }

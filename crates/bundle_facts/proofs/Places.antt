@@ -1,4 +1,4 @@
--- The turns of the loop that fills the table of places, and what a place says.
+-- The turns of the loop that fills the table of offsets, and what an offset says.
 use Prim.Native.Nat.{ℕ, _+_, _-_, _≤_, _<_}
 use native.Mathlib.Omega.{arith}
 use mathlib.Core.Path.{_≡_, refl, sym, _∙_, ap}
@@ -33,7 +33,7 @@ entry-below k n i e = rw e (pick (eqb k 10) (ltb n 16) refl (eqb k 11) (ltb n 8)
     pick false b p false d q true = omega arith
     pick false b p false d q false = omega arith
 
--- the number of the record at a place
+-- the number of the record at an offset
 number-at : (s : Bytes) (at : ℕ) → getD (part at 64 s) 4 0 ≡ getD s (at + 4) 0
 number-at s at = getD-take 64 (drop at s) 4 0 (omega arith) ∙ getD-drop at s 4 0
 
@@ -41,7 +41,7 @@ entered-at : (s : Bytes) (at i j : ℕ) → j ≡ entryOf (getD s at 0) (getD s 
 unfolding entered
 entered-at s at i j e = rw (lent-record s at, kind-at s at, number-at s at, e)
 
--- One place, when a record is passed: one that is found stays, another is what is left or this record.
+-- One offset, when a record is passed: an offset that is found stays; another is what is left, or this record.
 module _ (s : Bytes) (i end : ℕ) (left : List Bytes) (p : OffsetOf s i end left) where
   place-found : (rest : List Bytes) → (end ≡ 0 → ⊥) → OffsetOf s i end rest
   unfolding endingAt
@@ -145,7 +145,7 @@ module _ (s : Bytes) (places : List ℕ) (at : ℕ) (n : notedFrom places at (re
     unfolding noted
     noted-put z = let q : noted places j (at + 64) ≡ set places j (at + 64) = rw (eq-eqb (getD places j 0) 0 z) in rw q at one-noted
 
--- What the place of an entry says.
+-- What the offset of an entry says.
 or-none : (o : Option Bytes) → orNext o none ≡ o
 or-none none = refl
 or-none (some r) = refl

@@ -1,4 +1,4 @@
--- A table of places in a bundle: where the records stand that the desk asks for.
+-- A table of offsets in a bundle: where the records are that the desk asks for.
 use Prim.Native.Nat.{ℕ, _+_, _-_, _≤_, _<_}
 use mathlib.Core.Path.{_≡_}
 use mathlib.Core.List.{List, [], _∷_}
@@ -46,7 +46,7 @@ offsetsOf s = notedFrom (replicate entries 0) 0 (records s)
 unfoldable pub endingAt : Bytes → ℕ → Option Bytes
 endingAt s end = if eqb end 0 then none else some (part (end - recordBytes) recordBytes s)
 
--- The place of an entry: the first record of the entry ends there, or, where the place is 0, is the first of those that are left.
+-- The offset of an entry: the first record of the entry ends there, or, where the offset is 0, is the first of those that are left.
 pub record OffsetOf (s : Bytes) (i end : ℕ) (left : List Bytes) : Type 0 where
   pub least : 0 < end → recordBytes ≤ end
   pub most : end ≤ length s

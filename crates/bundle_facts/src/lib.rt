@@ -1,5 +1,5 @@
-// What a bundle says: a field's content, a signature's outcome, the policy, whether a module key is listed. Each is total: it decodes whatever bytes
-// stand there, and the file may or may not have been tested.
+// What a bundle says: a field's content, a signature's outcome, the policy, whether a module key is listed. Each is total: it decodes any
+// bytes, whether or not the file was tested.
 ghost use mathlib.Core.Path.{_≡_};
 ghost use Prim.Native.Nat.{_<_};
 ghost use lib.ListN.{length, replicate};
@@ -26,7 +26,7 @@ pub struct Policy {
     pub lowest: u8,
 }
 
-// The entries of a table of places, and those of the policy and of records of which nothing is asked.
+// The entries of a table of offsets, and those of the policy and of records that the desk does not ask for.
 pub const ENTRIES: usize = 26;
 
 const POLICY: usize = 24;
@@ -49,7 +49,7 @@ fn entry(kind: u8, number: u8) -> usize
     UNASKED
 }
 
-// Where the records stand that are asked for: of those of an entry the byte at which the first ends, 0 where there is none. One walk finds them all.
+// Fills the table: for each entry the byte at which its first record ends, 0 if there is none. One walk finds them all.
 pub fn find_offsets(places: &mut [usize; ENTRIES], bundle: &[u8])
     requires { ⌜ now places ≡ replicate entries 0 ⌝ }
     ensures { λ _. ⌜ Found (now (bundle .entry)) (now (places .exit)) × (now (places .exit) ≡ offsetsOf (now (bundle .entry))) ⌝ }

@@ -1,4 +1,4 @@
--- What the tests of this crate come to in the definitions' terms.
+-- The tests of this crate in the definitions' terms.
 use Prim.Native.Nat.{ℕ, _+_, _≤_, _<_}
 use native.Mathlib.Omega.{arith}
 use mathlib.Core.Path.{_≡_, refl, sym, _∙_}
@@ -11,7 +11,7 @@ use Rattle.rules.specs.Sizes.{listedMax}
 use Rattle.rules.specs.Basics.{if_then_else_, Bytes, implies, firstFault, recordFault}
 use Rattle.rules.specs.Bundle.{BundleState, orderOf, inOrder, listedOrder, policyOrder, bundleRecordLaidOut, bundleInPlace, bundleHasRoom, bundleRecordFault, listedAfter, afterBundleRecord, bundleEnd}
 
--- A record's place in the order, as the code computed it, and 1 where it is field 14's.
+-- A record's position in the order, as the code computed it, and 1 where it is field 14's.
 module _ (r : Bytes) (order again : ℕ) (e : order ≡ orderOf r) (f : again ≡ (if eqb order listedOrder then 1 else 0)) where
   one-at-most : again ≤ 1
   one-at-most = pick (eqb order listedOrder) refl
@@ -87,7 +87,7 @@ pub bundle-bad : (r : Bytes) (s : BundleState) (t : Bool) → t ≡ bundleInPlac
 unfolding bundleRecordFault recordFault firstFault
 bundle-bad r s t p n = rw (sym p ∙ not-true t n)
 
--- where reading stands after a record, from its two numbers
+-- the reader's state after a record, from its two numbers
 pub bundle-next : (s : BundleState) (r : Bytes) (last listed : ℕ) → last ≡ orderOf r → listed ≡ listedAfter (s .listedCount) r
     → _≡_ {A = BundleState} (record { last = last; listedCount = listed }) (afterBundleRecord s r)
 bundle-next s r last listed e d = rw (e, d)

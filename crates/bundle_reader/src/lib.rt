@@ -10,19 +10,19 @@ ghost use Rattle.files.specs.Faults.{faultAs};
 use files::Checked;
 use refusals::Refusal;
 
-// The places in the order of kind and number of field 14, and of the policy, which has no number.
+// The positions of field 14, and of the policy, which has no number, in the order of kind and number.
 const LISTED_ORDER: u16 = 2574;
 
 pub const POLICY_ORDER: u16 = 3072;
 
-// A place in the order of kind and number.
+// A position in the order of kind and number.
 fn order(kind: u8, number: u8) -> u16
     ensures { λ r. ⌜ r ≡ kind * 256 + number ⌝ }
 {
     (kind as u16) * 256 + (number as u16)
 }
 
-// A record's place in the order.
+// A record's position in that order.
 pub fn record_order(rec: &[u8]) -> u16
     requires { ⌜ length (now rec) ≡ recordBytes ⌝ }
     ensures { λ r. ⌜ r ≡ orderOf (now (rec .entry)) ⌝ }
@@ -52,7 +52,7 @@ fn bundle_record(rec: &[u8]) -> bool
     false
 }
 
-// 1 at the place of field 14, which alone may repeat, else 0.
+// 1 at the position of field 14, which alone may repeat, else 0.
 pub fn repeats(here: u16) -> u16
     ensures { λ r. ⌜ r ≡ (if eqb here listedOrder then 1 else 0) ⌝ }
 {
@@ -62,7 +62,7 @@ pub fn repeats(here: u16) -> u16
     0
 }
 
-// Whether a record is well formed and its place `here` may follow the place `last`: it rises, or both are field 14.
+// Whether a record is well formed and its position `here` may follow the position `last`: it rises, or both are field 14.
 pub fn in_place(last: u16, here: u16, again: u16, rec: &[u8]) -> bool
     requires { ⌜ (here ≡ orderOf (now rec)) × (again ≡ (if eqb here listedOrder then 1 else 0)) × (length (now rec) ≡ recordBytes) ⌝ }
     ensures { λ r. ⌜ r ≡ bundleInPlace last (now (rec .entry)) ⌝ }

@@ -41,7 +41,7 @@ answerRefusal done = 0
 answerRefusal (permit group) = 0
 answerRefusal (refuse n near) = n
 
--- the group that it names: the one that permits, or that a refusal 6 or 7 carries
+-- the group that it names: the group that permits, or the group that a refusal 6 or 7 carries
 abbrev pub answerGroup : Answer → ℕ
 answerGroup done = noGroup
 answerGroup (permit group) = groupNumber group

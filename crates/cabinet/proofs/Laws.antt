@@ -21,7 +21,7 @@ use Rattle.gate.proofs.Settling.{settles-refused}
 use Rattle.cabinet.specs.declared.Slot.{Slot}
 use Rattle.cabinet.specs.Kept.{slotAs, slotIndex, ifThere}
 
--- the place of a slot's number, and of one that is none
+-- the index for a slot's number, and for a number that is none
 pub place-of : (slot r : ℕ) → slot < slotsMax → r ≡ slot → (r < slotsMax) × (r ≡ slotIndex slot)
 place-of slot r h e = (rw e h, e ∙ sym (rw (lt-ltb slot slotsMax h)))
 

@@ -22,14 +22,14 @@ slotAs s = record { counts = s .counts; loaded = s .loaded; last = s .last }
 abbrev pub cabinetAs : Cabinet → rules.Cabinet
 cabinetAs c = record { slots = map slotAs (c .slots); counters = c .counters }
 
--- what is handed back
+-- the outcome of a call
 abbrev pub cabinetOutcomeAs : CabinetOutcome → rules.CabinetOutcome
 cabinetOutcomeAs o = record { answer = answerAs (o .reply); cabinet = cabinetAs (o .cabinet) }
 
--- the place that a call reads and writes: the slot's, or 0 where there is no such slot
+-- the index of the slot that a call reads and writes: 0 if there is no such slot
 abbrev pub slotIndex : ℕ → ℕ
 slotIndex slot = if ltb slot slotsMax then slot else 0
 
--- a call on a slot's ledger, where there is such a slot; else 13, and the ledger stands
+-- a call on a slot's ledger, if there is such a slot; else 13, and the ledger is unchanged
 abbrev pub ifThere : Bool → Ledger → Outcome → Outcome
 ifThere there l o = if there then o else refused l noSlot

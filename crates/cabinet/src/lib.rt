@@ -1,5 +1,5 @@
 // The cabinet: eight slots, each with its group counts and times, over one table of named counters. A call to a slot is the gate's own call on the
-// slot's counts and times and the shared counters. Of the cabinet that is handed in, a call copies one slot's counts, and lends them and the counters.
+// slot's counts and times and the shared counters. A call copies one slot's counts out of the cabinet, and lends them and the counters.
 ghost use mathlib.Core.Path.{_≡_};
 ghost use Prim.Native.Nat.{_<_};
 ghost use lib.ListN.{length};
@@ -34,7 +34,7 @@ pub struct Cabinet {
     pub counters: [u32; Ledger::COUNTERS],
 }
 
-// The cabinet handed back, with the reply.
+// The cabinet after a call, with the reply.
 pub struct CabinetOutcome {
     pub cabinet: Cabinet,
     pub reply: Reply,
@@ -47,8 +47,8 @@ fn is_slot(slot: usize) -> bool
     slot < Cabinet::SLOTS
 }
 
-// The place that a call reads and writes: the slot's, or 0 where there is no such slot, and then what stands there is written back as it is. So a call to
-// no slot goes the way of all others: where two ways met, the whole cabinet would be copied once more.
+// The index of the slot that a call reads and writes: 0 if there is no such slot, and then slot 0 is written back as it was. So a call to no slot takes
+// the way of all others: where two ways met, the compiler would copy the whole cabinet again.
 fn slot_index(slot: usize) -> usize
     ensures { λ r. ⌜ (r < slotsMax) × (r ≡ slotIndex slot) ⌝ }
 {
@@ -144,7 +144,7 @@ impl Cabinet {
         }
     }
 
-    // A refusal: the cabinet stands.
+    // A refusal: the cabinet is unchanged.
     fn refuse(self, why: Refusal) -> CabinetOutcome
         ensures { λ r. ⌜ cabinetOutcomeAs r ≡ cabinetRefused (cabinetAs self) (refusalNumber why) ⌝ }
     {
@@ -154,7 +154,7 @@ impl Cabinet {
         }
     }
 
-    // What a call came to, put into its places: the slot's counts and times, and the counters charged by the reply. Nothing else writes to the cabinet in a
+    // Writes the result of a call to the cabinet: the slot's counts and times, and the counters charged by the reply. Nothing else writes to the cabinet in a
     // call, so that it is copied in and out once.
     fn hand_back(
         mut self,
@@ -214,7 +214,7 @@ impl Cabinet {
         }
     }
 
-    // A request to a slot. A refusal hands the cabinet back as it was.
+    // A request to a slot. A refusal returns the cabinet unchanged.
     pub fn request(self, slot: usize, km0: &[u8], acl: &[u8], req: &[u8]) -> CabinetOutcome
         ensures { λ r. ⌜ cabinetOutcomeAs r ≡ cabinetRequest (cabinetAs self) slot (now (km0 .entry)) (now (acl .entry)) (now (req .entry)) ⌝ }
     {

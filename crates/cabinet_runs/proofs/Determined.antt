@@ -1,4 +1,4 @@
--- The reading of what a run in a slot hands back loses nothing: what reads the same is the same, so that the promises of both runs determine reply, cabinet and
+-- The reading of the outcome of a run in a slot loses nothing: what reads the same is the same, so that the promises of both runs determine reply, cabinet and
 -- every byte of the answer buffer.
 use mathlib.Core.Path.{_≡_, ap, ap₂}
 use Rattle.rules.specs.Basics.{Bytes}

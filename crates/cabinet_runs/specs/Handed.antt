@@ -1,4 +1,4 @@
--- What a run in a slot hands back, as the definitions have it.
+-- The outcome of a run in a slot, as the definitions have it.
 use Rattle.rules.specs.Basics.{Bytes}
 use Rattle.rules.specs.Numbers.{noSlot}
 use Rattle.rules.specs.Cabinet as rules
@@ -12,6 +12,6 @@ use Rattle.cabinet_runs.specs.declared.CabinetRan.{CabinetRan}
 abbrev pub cabinetRanAs : CabinetRan → Bytes → defined.CabinetRan
 cabinetRanAs r buffer = record { reply = runReplyAs (r .reply); cabinet = cabinetAs (r .cabinet); buffer = buffer }
 
--- a slot that there is not: cabinet and buffer stand
+-- no such slot; cabinet and buffer are unchanged
 abbrev pub notRun : rules.Cabinet → Bytes → defined.CabinetRan
 notRun c buffer = record { reply = refusedWhole noSlot; cabinet = c; buffer = buffer }

@@ -22,13 +22,13 @@ use run_form::Prepared;
 use runs::RunOutcome;
 use runs::RunReply;
 
-// The cabinet handed back, with the reply.
+// The cabinet after a run, with the reply.
 pub struct CabinetRan {
     pub cabinet: Cabinet,
     pub reply: RunReply,
 }
 
-// The ledger that a run is handed for a slot.
+// The ledger of a slot: its counts and times, and the shared counters.
 fn slot_ledger(cabinet: Cabinet, slot: usize) -> Ledger
     requires { ⌜ slot < slotsMax ⌝ }
     ensures { λ r. ⌜ ledgerAs r ≡ ledgerAt (cabinetAs cabinet) slot ⌝ }
@@ -44,7 +44,7 @@ fn slot_ledger(cabinet: Cabinet, slot: usize) -> Ledger
     }
 }
 
-// The cabinet with the ledger that a run handed back for a slot, put into its places.
+// The cabinet with a slot's ledger after a run written back to it.
 fn with_ledger(mut cabinet: Cabinet, slot: usize, l: Ledger) -> Cabinet
     requires { ⌜ slot < slotsMax ⌝ }
     ensures { λ r. ⌜ cabinetAs r ≡ putBack (cabinetAs cabinet) slot (ledgerAs l) ⌝ }
@@ -61,7 +61,7 @@ fn with_ledger(mut cabinet: Cabinet, slot: usize, l: Ledger) -> Cabinet
     cabinet
 }
 
-// What the run handed back for a slot, put into its places.
+// The outcome of a run, written back to its slot.
 fn put_back(cabinet: Cabinet, slot: usize, o: RunOutcome) -> CabinetRan
     requires { ⌜ slot < slotsMax ⌝ }
     ensures { λ r. ⌜ ((buffer : Bytes) → cabinetRanAs r buffer ≡ ranAsGate (cabinetAs cabinet) slot (runOutcomeAs o buffer)) ⌝ }
@@ -74,7 +74,7 @@ fn put_back(cabinet: Cabinet, slot: usize, o: RunOutcome) -> CabinetRan
     }
 }
 
-// A slot that there is not: the cabinet stands.
+// No such slot; the cabinet is unchanged.
 fn no_slot(cabinet: Cabinet) -> CabinetRan
     ensures { λ r. ⌜ ((buffer : Bytes) → cabinetRanAs r buffer ≡ notRun (cabinetAs cabinet) buffer) ⌝ }
 {

@@ -1,4 +1,4 @@
-// A program's arguments, and the files that they name. What cannot be read is said in one line on standard error.
+// A program's arguments, and the files that they name. A file that cannot be read is reported in one line on standard error.
 //
 // All but `prefix` only read, or print on standard error, so that they promise nothing.
 ghost use mathlib.Core.Path.{_≡_};
@@ -34,14 +34,14 @@ fn asks_for_help() -> bool {
         & (word[5] == b'p')
 }
 
-// Says how the program is used.
+// Prints how the program is used.
 pub fn print_usage(usage: &[u8]) {
     io::write_all(STDERR_FILENO, b"usage: ");
     io::write_all(STDERR_FILENO, usage);
     io::write_all(STDERR_FILENO, b"\n");
 }
 
-// Whether the program has `count` arguments, its own name among them, and the first after it does not ask for help. If not, the usage is said.
+// Whether the program has `count` arguments, its own name among them, and the first after it does not ask for help. If not, prints the usage.
 pub fn are_given(count: usize, usage: &[u8]) -> bool {
     let given = os::arg_count();
     let help = asks_for_help();
@@ -66,7 +66,7 @@ fn read_open(fd: i32, path: &[u8], buffer: &mut [u8]) -> Input {
     Input::Read(n)
 }
 
-// The file that argument i names, up to the buffer's length. `what` stands for an argument that cannot be had.
+// The file that argument i names, up to the buffer's length. A message about an argument that cannot be had names it by `what`.
 pub fn read(i: usize, what: &[u8], buffer: &mut [u8]) -> Input {
     let mut path = io::buffer();
     let n = os::arg(i, &mut path);

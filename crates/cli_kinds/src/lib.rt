@@ -42,7 +42,7 @@ pub fn kind_of(name: &[u8]) -> Named
     Named::Unknown
 }
 
-// What a program is given that takes `count` arguments, its own name among them, and `more` with a kind. If they are wrong, the usage is said.
+// What a program is given that takes `count` arguments, its own name among them, and `more` with a kind. If they are wrong, prints the usage.
 pub fn read_arguments(count: usize, more: usize, usage: &[u8]) -> Given {
     if os::arg_count() != more {
         if cli_arguments::are_given(count, usage) {

@@ -176,7 +176,7 @@ pub fn step_words(step: Step, buffer: &mut [u8]) -> usize
     }
 }
 
-// Says that the file that argument i names is refused, and why: `FILE: refuse N: WORDS`.
+// Prints that the file that argument i names is refused, and why: `FILE: refuse N: WORDS`.
 pub fn refuse(i: usize, number: u8) {
     cli_arguments::print(i);
     print_refusal(number);
@@ -201,7 +201,7 @@ fn print_refusal(number: u8) {
     io::write_all(STDERR_FILENO, b"\n");
 }
 
-// Says what a step that fails asks for: `fail STEP: WORDS`.
+// Prints the meaning of a failing step: `fail STEP: WORDS`.
 fn fail(step: Step) {
     let mut name = [0u8; desk_verdict::LINE];
     let mut words = [0u8; ROOM];
@@ -232,7 +232,7 @@ fn refused_file(number: u8, bundle: &[u8]) -> usize {
     2
 }
 
-// Says what a verdict means that is no acceptance. The program's arguments begin with BUNDLE and ACL.
+// Prints the meaning of a verdict that is no acceptance. The program's arguments begin with BUNDLE and ACL.
 pub fn explain(v: Verdict, bundle: &[u8]) {
     match v {
         Verdict::Accepted(_) => {}

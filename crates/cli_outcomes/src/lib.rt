@@ -1,5 +1,5 @@
-// Prints what the gate and the cabinet answer: the reply, and the ledger or the slot as it now is. What hands a ledger or a cabinet back hands back the one
-// that it was given. No contract can say what is printed.
+// Prints what the gate and the cabinet answer: the reply, and the ledger or the slot as it now is. A function that returns a ledger or a cabinet returns the
+// one of its argument. No contract can say what is printed.
 ghost use mathlib.Core.Path.{_≡_};
 ghost use Rattle.rules.specs.Ledger.{freshLedger};
 ghost use Rattle.rules.specs.Gate.{done};
@@ -58,7 +58,7 @@ fn print_denial(why: Denial) {
     }
 }
 
-// The ledger, which ends a line, and the ledger handed back.
+// Prints the ledger, which ends a line, and returns it.
 pub fn print_ledger(ledger: Ledger) -> Ledger
     ensures { λ r. ⌜ r ≡ ledger ⌝ }
 {
@@ -69,7 +69,7 @@ pub fn print_ledger(ledger: Ledger) -> Ledger
     ledger
 }
 
-// The line of a ledger call, and the ledger handed back.
+// Prints the line of a ledger call, and returns the ledger.
 pub fn ledger_line(k: u64, o: Outcome) -> Ledger
     ensures { λ r. ⌜ r ≡ o .ledger ⌝ }
 {
@@ -94,7 +94,7 @@ fn print_slot_of(cabinet: Cabinet, slot: usize) {
     }
 }
 
-// The line of a cabinet call, and the cabinet handed back. The slot is past the last where the call takes none.
+// Prints the line of a cabinet call, and returns the cabinet. The slot is past the last if the call takes none.
 pub fn cabinet_line(k: u64, o: CabinetOutcome, slot: usize) -> Cabinet
     ensures { λ r. ⌜ r ≡ o .cabinet ⌝ }
 {

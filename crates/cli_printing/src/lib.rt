@@ -1,9 +1,9 @@
-// Prints numbers, tables and bytes on standard output, as the programs show them. Output that is lost is said on standard error.
+// Prints numbers, tables and bytes on standard output, as the programs show them. Lost output is reported on standard error.
 //
 // All of these only print, so that they promise nothing.
 use libc::STDOUT_FILENO;
 
-// Says once that output is lost: what is printed from here on goes to /dev/null, where nothing is lost.
+// Reports once that output is lost: what is printed from here on goes to /dev/null, where nothing is lost.
 fn check(written: bool) {
     if written {
         return;
@@ -38,7 +38,7 @@ pub fn print_spaced(n: usize) {
     print_number(n as u64);
 }
 
-// The entries of a table that are not zero, with their places.
+// The entries of a table that are not zero, with their indices.
 fn print_table(table: &[u32]) {
     let mut i = 0;
     while i < table.len() {

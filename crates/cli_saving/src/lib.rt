@@ -1,5 +1,5 @@
 // Writes files so that a failure leaves the old ones. All bytes go to a temporary file beside the file, FILE.PID.tmp, and from there to the disk; then it is
-// renamed. An argument's number says which file is meant. What goes wrong is said in one line on standard error.
+// renamed. An argument's number says which file is meant. A failure is reported in one line on standard error.
 //
 // These functions call the system, so that no contract says what becomes of the files; `checks/programs` tries it.
 ghost use mathlib.Core.Path.{_≡_};
@@ -35,7 +35,7 @@ fn temporary(path: &[u8], name: &mut [u8]) -> usize
     text_bytes::append(b".tmp", numbered, name)
 }
 
-// Says what is wrong with the file of a path.
+// Prints what is wrong with the file of a path.
 fn say(path: &[u8], what: &[u8]) {
     io::write_all(STDERR_FILENO, path);
     io::write_all(STDERR_FILENO, what);
@@ -95,7 +95,7 @@ fn is_replaceable(path: &[u8]) -> bool
     true
 }
 
-// Says why the open file could not be written, and closes it.
+// Prints why the open file could not be written, and closes it.
 fn lost(fd: i32, path: &[u8]) -> bool {
     os::fail(path);
     libc::close(fd);
@@ -135,7 +135,7 @@ fn write_new(path: &[u8], name: &[u8], bytes: &[u8]) -> bool {
     written
 }
 
-// Whether the bytes for the file that argument i names are in its temporary file. `what` stands for an argument that cannot be had.
+// Whether the bytes for the file that argument i names are in its temporary file. A message about an argument that cannot be had names it by `what`.
 pub fn prepare(i: usize, what: &[u8], bytes: &[u8]) -> bool {
     let mut path = io::buffer();
     let n = os::arg(i, &mut path);

@@ -78,7 +78,7 @@ fn print_day(km0: &[u8], acl: &[u8], requests: &[u8]) {
     }
 }
 
-// Reads the three files, and prints the day if all could be read. A file that is too long is read as far as its buffer takes it, and is seen to be.
+// Reads the three files, and prints the day if all could be read. A file that is too long is read as far as its buffer goes, which is still too long.
 fn read_all(km0: &mut [u8], acl: &mut [u8], requests: &mut [u8]) {
     let Input::Read(x) = cli_arguments::read(1, b"KM0", km0) else {
         return;

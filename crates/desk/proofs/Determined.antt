@@ -91,7 +91,7 @@ verdict-back (Refused r) = ap Refused (refusal-back r)
 pub determined : (v w : Verdict) → verdictAs v ≡ verdictAs w → v ≡ w
 determined v w e = sym (verdict-back v) ∙ ap verdictBack e ∙ verdict-back w
 
--- And the other way: verdicts of the definitions that are told alike are the same, so that an acceptance by the code is one by the definition `desk`.
+-- And the other way: verdicts of the definitions that read the same are the same, so that an acceptance by the code is one by the definition `desk`.
 abbrev acceptanceTold : Named → rules.Acceptance
 acceptanceTold n = if eqb (n .approach) 2 then rules.approach2 (record { protection = n .protection; recoverable = n .recoverable }) else rules.approach1
 

@@ -73,7 +73,7 @@ verdictFrom (At s) a = Failed s
 unfoldable pub suiteFault : List Bytes → Option ℕ
 suiteFault b = firstFault (unless (isSuite (policyOf b .suite)) numbers.unknownSuite ∷ [])
 
--- the table of places after both files were read: that of the bundle where both lengths fit, else still empty
+-- the table of offsets after both files were read: that of the bundle where both lengths fit, else still empty
 abbrev pub placesRead : Bytes → Bytes → List ℕ
 placesRead bundle acl = if fits bundleRecords bundle && fits aclRecords acl then offsetsOf bundle else replicate entries 0
 

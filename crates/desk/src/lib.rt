@@ -1,4 +1,4 @@
-// The desk: a bundle file and an ACL file in, a verdict out.
+// The desk: the verdict on a bundle file and an ACL file.
 ghost use mathlib.Core.Path.{_≡_};
 ghost use Prim.Native.Nat.{_≤_};
 ghost use mathlib.Core.Option.{none};
@@ -119,7 +119,7 @@ fn grade_steps(
     desk_steps::csr_step(policy, places, bundle)
 }
 
-// Approach 2 from the ACL on: the first failing step, for an ACL that comes to that grade.
+// Approach 2 from the ACL on: the first failing step, for an ACL of that grade.
 fn acl_steps(
     policy: Policy,
     places: &[usize; bundle_facts::ENTRIES],

@@ -24,7 +24,7 @@ use Rattle.suites.specs.Calls.{Calls, SuiteAnswer, calls, refuses, calledFor}
 use Rattle.suites.proofs.Laws.{suite-found}
 use Rattle.desk_actions.specs.Classes.{admittedBit}
 
--- what a table says at a place, read by a function
+-- what a table has at an index, read by a function
 pub table-at : {A B : Type 0} (f : A → B) (xs : List A) (ys : List B) (k : ℕ) (d : A) (e : B) → map f xs ≡ ys → k < length xs → f (getD xs k d) ≡ getD ys k e
 table-at f [] ys k d e r h = absurd (omega arith)
 table-at f (x ∷ xs) ys zero d e r h = rw (← r)

@@ -1,5 +1,5 @@
-// One action of an ACL: the attestation step that it fails, its protection. Each decodes whatever bytes stand in the
-// record; the file may or may not have been tested. A record of kind 15 after the action changes nothing here.
+// One action of an ACL: the attestation step that it fails, its protection. Each function decodes any bytes,
+// whether or not the file was tested. A record of kind 15 after the action changes nothing here.
 ghost use mathlib.Core.Path.{_≡_};
 ghost use mathlib.Core.Option.{Option, none};
 ghost use Prim.Native.Nat.{_+_, _≤_, _<_};
@@ -155,7 +155,7 @@ pub fn blob_steps(hkm: &[u8], rec: &[u8]) -> Failure
     Failure::Nothing
 }
 
-// Whether an archive action's mechanism is the one that the policy's suite calls for.
+// Whether an archive action's mechanism is that of the policy's suite.
 fn called_for(policy: Policy, rec: &[u8]) -> bool
     requires { ⌜ length (now rec) ≡ recordBytes ⌝ }
     ensures { λ r. ⌜ r ≡ isMechanism (suiteMechanism (policyAs policy .suite)) (number 24 2 (now (rec .entry))) ⌝ }

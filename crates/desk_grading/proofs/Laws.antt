@@ -42,7 +42,7 @@ module _ (policy : Policy) (hkm hkre : Option Bytes) (r : Bytes) (file : Option 
       by-kind (actionGraded policy hkm hkre) r file (record { failure = failure; protection = notKept; recoverable = true })
       (rw (ne-eqb (kind r) 3 n, ne-eqb (kind r) 4 m, p))
 
--- The groups from a place on: a record that begins none is passed over.
+-- The groups from an offset on: a record that begins none is passed over.
 groups-past : (s : Bytes) (at : ℕ) → 64 ≤ length s - at → (getD s at 0 ≡ 1 → ⊥) → groupsOf (recordsFrom s at) ≡ groupsOf (recordsFrom s (at + 64))
 unfolding groupsOf
 groups-past s at h n = ap groupsOf (rows-at s at h) ∙ rw (kind-at s at, ne-eqb (getD s at 0) 1 n)
@@ -101,12 +101,12 @@ unfolding allGraded gradedTogether
 all-graded-most f [] = omega arith
 all-graded-most f (a ∷ list) = let h = all-graded-most f list in omega arith
 
--- What is left of an ACL from a place on: the actions up to the next group, where they are checked, and then the groups.
+-- What is left of an ACL from an offset on: the actions up to the next group, where they are checked, and then the groups.
 module _ (officer : Option Bytes) (policy : Policy) (hkm hkre : Option Bytes) where
   abbrev actionsLeft : Bool → List Action → Graded
   actionsLeft checked list = if checked then actionsGraded policy hkm hkre list else noActions false
 
-  -- shut, so that a search reads the file and the place off it
+  -- shut, so that a search reads the file and the offset off it
   unfoldable pub left : Bool → Bytes → ℕ → Graded
   left checked s at = gradedTogether (actionsLeft checked (actionsOf (recordsFrom s at))) (groupsGraded officer policy hkm hkre (groupsOf (recordsFrom s at)))
 

@@ -39,7 +39,7 @@ unfoldable pub allGraded : {A : Type 0} → (A → Graded) → List A → Graded
 allGraded f [] = noActions false
 allGraded f (x ∷ xs) = gradedTogether (f x) (allGraded f xs)
 
--- "Else per action": one action, under a policy and the trusted keys ..
+-- "Else per action": one action, under a policy and the trusted keys
 unfoldable pub actionGraded : Policy → Option Bytes → Option Bytes → Action → Graded
 actionGraded policy hkm hkre a =
     record { failure = failureUnder policy hkm hkre a; protection = actionProtection a; recoverable = isArchive a }
@@ -48,7 +48,7 @@ actionGraded policy hkm hkre a =
 unfoldable pub actionsGraded : Policy → Option Bytes → Option Bytes → List Action → Graded
 actionsGraded policy hkm hkre list = allGraded (actionGraded policy hkm hkre) list
 
--- a group, under the officer's key too: one of the officer's "marks the key recoverable and is skipped (ACLV1)" ..
+-- a group, under the officer's key too: one of the officer's "marks the key recoverable and is skipped (ACLV1)"
 unfoldable pub groupGraded : Option Bytes → Policy → Option Bytes → Option Bytes → Group → Graded
 groupGraded officer policy hkm hkre g =
     if bothSame officer (g .certifier) then noActions true else actionsGraded policy hkm hkre (g .actions)

@@ -21,7 +21,7 @@ use Rattle.desk_verdict.specs.Lines.{stepText, recoverableText, acceptan
 abbrev pub stepRow : Bytes
 stepRow = ascii " WV1 MSCV1 MSCV2 MSCV3 MSCV4 MSCV5 WBCV1 WBCV2 WBCV3 KGCV1 KGCV2 ACLV3 WB1 WB2 WB3 WB6 RB1 RB2 RB3 KV3 CSRL1"
 
--- Each step's name stands in the row at the place of its number.
+-- Each step's name is in the row at the index of its number.
 pub record Placed (s : Step) : Type 0 where
   pub from-1 : 1 ≤ stepNumber s
   pub name : nameAt stepRow (stepNumber s - 1) ≡ spaced (stepText s)

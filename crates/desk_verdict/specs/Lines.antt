@@ -1,4 +1,4 @@
--- The line that stands for a verdict.
+-- The line of a verdict.
 use Prim.Native.Nat.{ℕ}
 use Prim.Native.String.{String}
 use mathlib.Core.List.{_++_}

@@ -63,7 +63,7 @@ fn refusal_line(r: Refusal, buffer: &mut [u8]) -> usize
     text_bytes::append(b"\n", named, buffer)
 }
 
-// The line of a verdict at the front of the buffer, and its length. Every byte past it stays.
+// The line of a verdict at the front of the buffer, and its length. Every byte past it is unchanged.
 pub fn verdict_line(v: Verdict, buffer: &mut [u8]) -> usize
     requires { ⌜ lineBytes ≤ length (now buffer) ⌝ }
     ensures { λ r. ⌜ Put (verdictLine (verdictAs v)) 0 (now (buffer .entry)) (now (buffer .exit)) r ⌝ }

@@ -1,4 +1,4 @@
--- Narrowing and expansion: what a permit comes to.
+-- Narrowing and expansion: the outcome of a permit.
 use Prim.Native.Nat.{ℕ, _≤_}
 use mathlib.Core.Path.{_≡_, refl, _∙_, ap}
 use mathlib.Core.List.{List}

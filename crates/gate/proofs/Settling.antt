@@ -27,7 +27,7 @@ use Rattle.gate_charge.proofs.Granting.{granted-limits, counters-room, count-ro
 use Rattle.gate_files.proofs.Passed.{files-sound, no-fault, a-fault}
 use Rattle.gate.specs.Outcomes.{chargedWith, chargedBy, permittedIf, outcomeWith, Settles}
 
--- The group that grants is charged by the limits that stand at its place.
+-- The group that grants is charged by the limits at its index.
 module _ (l : Ledger) (km0 : Bytes) (gs : List Group) (q : Request) where
   pub settle-granted : (onPermit : ℕ → Ledger → Outcome) (k time : ℕ) (o : Outcome) (ms : List Limit) → Granted k ≡ judgedFor (judge l km0 gs q) → ms ≡ firstLimits (drop k gs) → time ≡ q .time
       → o ≡ onPermit k (chargedWith l k ms time) → o ≡ settle l (q .time) onPermit (judge l km0 gs q)
@@ -78,7 +78,7 @@ module _ (l : Ledger) (km0 : Bytes) (gs : List Group) (q : Request) (shown : Boo
       → outcomeWith a counts counters (l .loaded) (l .last) (q .time) ≡ settle l (q .time) (permittedIf l shown) (judge l km0 gs q)
   settled-by j a counts counters e d f g = rw (f, g, d) (charged-is j e)
 
--- A call whose files have a fault is refused with it; else it comes to what is made of the judgement.
+-- A call whose files have a fault is refused with it; else its outcome is made of the judgement.
 module _ (l : Ledger) (fault : Option ℕ) (o s : Outcome) where
   pub refused-by : (n : ℕ) → fault ≡ some n → o ≡ refused l n → o ≡ outcomeUnless l fault s
   refused-by n e p = p ∙ sym (rw e)
@@ -96,7 +96,7 @@ settles-refused l gs time after o n k e =
       settled = ap (λ (c : List ℕ). outcomeWith (refuse n none) c (l .counters) (l .loaded) (l .last) time) k ∙ e;
     }
 
--- What a judgement comes to settles a call on an ACL without fault, where the tables charged by it are the outcome's.
+-- The outcome of a judgement settles a call on an ACL without fault, where the tables charged by it are the outcome's.
 pub settles-judged : (l : Ledger) (km0 acl : Bytes) (q : Request) (shown : Bool) (j : Judged) (a : Answer) (after : Answer → List ℕ → List ℕ) (o : Outcome) → aclFault (records acl) ≡ none
     → j ≡ judgedFor (judge l km0 (aclOf acl) q) → a ≡ decided shown j → outcomeWith a (after a (l .counts)) (countersCharged (aclOf acl) a (l .counters)) (l .loaded) (l .last) (q .time) ≡ o
     → Settles l (aclOf acl) (q .time) after a o

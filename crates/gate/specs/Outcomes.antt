@@ -34,13 +34,13 @@ chargedWith l place ms time =
       last = time;
     }
 
--- what an answer charges: a permit its group, by the limits at its place; without one the ledger is unchanged
+-- what an answer charges: a permit its group, by the limits at its index; without one the ledger is unchanged
 abbrev pub chargedBy : rules.Ledger → List Group → ℕ → rulesGate.Answer → rulesGate.Outcome
 chargedBy l gs time rulesGate.done = record { answer = rulesGate.done; ledger = l }
 chargedBy l gs time (rulesGate.permit place) = rulesGate.permitted place (chargedWith l place (firstLimits (drop place gs)) time)
 chargedBy l gs time (rulesGate.refuse n near) = record { answer = rulesGate.refuse n near; ledger = l }
 
--- what a permit comes to where hints may have to show a narrowing: "Any breach .. gives 8", and the ledger stands
+-- the outcome of a permit if hints have to show a narrowing: "Any breach .. gives 8", and the ledger is unchanged
 unfoldable pub permittedIf : rules.Ledger → Bool → ℕ → rules.Ledger → rulesGate.Outcome
 permittedIf l shown place charged = if shown then rulesGate.permitted place charged else rulesGate.refused l notNarrower
 

@@ -1,4 +1,4 @@
-// The gate: the ledger, and the steps that take it whole and hand it back.
+// The gate: the ledger, and the calls that take it by value and return it.
 ghost use mathlib.Core.Path.{_≡_};
 ghost use Rattle.rules.specs.Acl.{aclOf};
 ghost use Rattle.rules.specs.Request.{requestOf, hintsOf};
@@ -23,7 +23,7 @@ pub struct Ledger {
     pub last: u64,
 }
 
-// The ledger handed back, with the reply.
+// The ledger after a call, with the reply.
 pub struct Outcome {
     pub ledger: Ledger,
     pub reply: Reply,
@@ -76,7 +76,7 @@ impl Ledger {
         }
     }
 
-    // A refusal: the ledger stands.
+    // A refusal: the ledger is unchanged.
     fn refuse(self, why: Refusal) -> Outcome
         ensures { λ r. ⌜ outcomeAs r ≡ refused (ledgerAs self) (refusalNumber why) ⌝ }
     {
@@ -112,7 +112,7 @@ pub fn request_reply<'a>(
 
 impl Ledger {
     // The charge: where the reply permits, the group's own count and each counter that it names plus 1, and the last time set to the request's; else the
-    // ledger is unchanged. The tables are charged where they stand, one after the other. It is private: a host that could charge by itself could charge
+    // ledger is unchanged. The tables are charged in place, one after the other. It is private: a host that could charge by itself could charge
     // what was not permitted.
     fn charge(mut self, reply: Reply, acl: &[u8], time: u64) -> Outcome
         requires { ⌜ CountersRoom (self .counters) (aclOf (now acl)) (answerAs reply) × CountRoom (self .counts) (answerAs reply) ⌝ }
@@ -128,7 +128,7 @@ impl Ledger {
         }
     }
 
-    // A request for a use or a blob: KM0, the ACL, the request with its certificates. Any bytes get a reply; a refusal hands the ledger back as it was.
+    // A request for a use or a blob: KM0, the ACL, the request with its certificates. Any bytes get a reply; a refusal returns the ledger unchanged.
     pub fn request(self, km0: &[u8], acl: &[u8], req: &[u8]) -> Outcome
         ensures { λ r. ⌜ outcomeAs r ≡ request (ledgerAs self) (now (km0 .entry)) (now (acl .entry)) (now (req .entry)) ⌝ }
     {
@@ -189,8 +189,8 @@ pub fn expand_reply<'a>(
 }
 
 impl Ledger {
-    // A narrowing, a use of ReduceACL: KM0, the ACL, the request with its certificates, the new ACL, a hint for each new group. A refusal hands the
-    // ledger back as it was.
+    // A narrowing, a use of ReduceACL: KM0, the ACL, the request with its certificates, the new ACL, a hint for each new group. A refusal
+    // returns the ledger unchanged.
     pub fn narrow(mut self, km0: &[u8], acl: &[u8], req: &[u8], new: &[u8], hints: &[u8]) -> Outcome
         ensures { λ r. ⌜ outcomeAs r ≡ narrow (ledgerAs self) (now (km0 .entry)) (now (acl .entry)) (now (req .entry)) (now (new .entry)) (now (hints .entry)) ⌝ }
     {
@@ -217,7 +217,7 @@ impl Ledger {
         }
     }
 
-    // An expansion, a use of ExpandACL: KM0, the ACL, the request with its certificates, the new ACL. A refusal hands the ledger back as it was.
+    // An expansion, a use of ExpandACL: KM0, the ACL, the request with its certificates, the new ACL. A refusal returns the ledger unchanged.
     pub fn expand(mut self, km0: &[u8], acl: &[u8], req: &[u8], new: &[u8]) -> Outcome
         ensures { λ r. ⌜ outcomeAs r ≡ expand (ledgerAs self) (now (km0 .entry)) (now (acl .entry)) (now (req .entry)) (now (new .entry)) ⌝ }
     {

@@ -26,7 +26,7 @@ use Rattle.gate_decision.specs.declared.Judged.the-variants.{Granted, Denied}
 use Rattle.gate_decision.specs.Standings.{denialFor, judgedFor}
 use Rattle.gate_charge.specs.Charges.{limitNotFull, Chargeable, permitIf, decided, CountersRoom, CountRoom}
 
--- of groups that fit, the limits of the one at a place name no counter twice
+-- of groups that fit, the limits of the group at an index name no counter twice
 first-apart : (k : ℕ) (gs : List Group) → Every GroupFits gs → Apart (firstLimits (drop k gs))
 first-apart zero [] f = λ i j m n l d e. absurd (never (cc))
 first-apart (suc k) [] f = λ i j m n l d e. absurd (never (cc))

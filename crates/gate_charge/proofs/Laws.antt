@@ -18,11 +18,11 @@ use Rattle.rules.proofs.Rows.{lent-record}
 use Rattle.acl_groups.proofs.Laws.{limits-step, limits-stop, limits-end}
 use Rattle.gate_charge.specs.Charges.{counterNotFull, limitNotFull, Chargeable, raisedOnce}
 
--- a place past the table changes nothing
+-- an index past the table changes nothing
 pub count-past : (counts : List ℕ) (place n : ℕ) → length counts ≡ n → n ≤ place → counts ≡ raised counts place counts
 count-past counts place n e h = sym (set-out counts place (getD counts place 0 + 1) (omega arith))
 
--- a table changed at one place is as long as it was
+-- a table changed at one index is as long as it was
 pub changed-length : (t next : List ℕ) (i n v : ℕ) → length t ≡ n → next ≡ set t i v → length next ≡ n
 changed-length t next i n v l e = ap length e ∙ length-set t i v ∙ l
 
@@ -89,7 +89,7 @@ module _ (before table : List ℕ) (m : Limit) (ms : List Limit) (able : Chargea
       pick true q = rw (q, kept zero m refl (eqb-true (m .sort) 2 q))
       pick false q = rw q
 
--- a byte of the record at a place
+-- a byte of the record at an offset
 byte-at : (s : Bytes) (at k : ℕ) → k < 64 → byte k (part at 64 s) ≡ getD s (at + k) 0
 byte-at s at k h = getD-take 64 (drop at s) k 0 h ∙ getD-drop at s k 0
 

@@ -17,7 +17,7 @@ use Rattle.rules.proofs.Rows.{rows-start, rows-at, rows-end}
 use Rattle.gate_charge.specs.Charges.{isPermit}
 use Rattle.gate_counts.specs.Carried.{carriedFrom, countsAfter}
 
--- a place past the table changes nothing
+-- an index past the table changes nothing
 pub carry-past : (t : List ℕ) (i n v : ℕ) → length t ≡ n → n ≤ i → t ≡ set t i v
 carry-past t i n v e h = sym (set-out t i v (omega arith))
 

@@ -8,7 +8,7 @@ use Rattle.rules.specs.Request.{Hint}
 use Rattle.rules.specs.Gate as rulesGate
 use Rattle.gate_charge.specs.Charges.{isPermit}
 
--- "Each new group takes its source's count": the counts of the new groups from place i on, over a table
+-- "Each new group takes its source's count": the counts of the new groups from index i on, over a table
 unfoldable pub carriedFrom : List ℕ → ℕ → List Hint → List ℕ → List ℕ
 carriedFrom counts i [] table = table
 carriedFrom counts i (h ∷ hs) table = carriedFrom counts (i + 1) hs (set table i (getD counts (h .source) 0))

@@ -1,4 +1,4 @@
--- An outcome whose ledger stands where it was lent.
+-- An outcome whose ledger is in the lent tables.
 use Prim.Native.Nat.{ℕ}
 use mathlib.Core.List.{List}
 use Rattle.rules.specs.Gate.{Answer, Outcome}

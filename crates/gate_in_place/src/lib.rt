@@ -1,5 +1,5 @@
-// The gate's steps on a ledger that stays where the host has it: its tables and its last time are lent, and are charged there, so that nothing is copied.
-// The reply, and what is left in the lent places, are those of the step that takes the ledger whole and hands it back.
+// The gate's calls on a ledger that stays where the host has it: its tables and its last time are lent, and are charged there, so that nothing is copied.
+// Reply and tables after a call are those of the call by value.
 ghost use mathlib.Core.Path.{_≡_};
 ghost use Rattle.rules.specs.Acl.{aclOf};
 ghost use Rattle.rules.specs.Request.{requestOf};
@@ -9,7 +9,7 @@ ghost use Rattle.gate_charge.specs.Charges.{answerAs, CountersRoom, countersCha
 ghost use Rattle.gate_in_place.specs.Places.{outcomeIn};
 use gate_charge::Reply;
 
-// A lent table is as long as its type says, which the charges ask for: it is known of one that is lent on as a slice. Nothing is run.
+// A lent table is as long as its type says, which the charges require: the prover knows it of a table that is passed on as a slice. It compiles to nothing.
 fn measured(table: &[u32]) {}
 
 // What every permit charges, whatever becomes of the group counts: the named counters, and the last time.

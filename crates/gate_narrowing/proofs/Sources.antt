@@ -73,7 +73,7 @@ group-later s at g r e h =
     let p : at ≤ groupOffset g (records (drop at s)) at (length s) = place-later g (records (drop at s)) at (length s) (omega (arith, n, length-drop at s)) in
     rw (e .exact) p
 
--- the hints from a place on: shut, so that a search reads the file and the place off it
+-- the hints from an offset on: shut, so that a search reads the file and the offset off it
 unfoldable pub hintsFrom : Bytes → ℕ → List Hint
 hintsFrom s at = map hintOf (recordsFrom s at)
 

@@ -136,7 +136,7 @@ fn answered(
     called(k, s, call, given, &b[0..m], &c[0..n], &d[0..o], &e[0..p])
 }
 
-// What stands next in the script: a call, or the end.
+// The next item of the script: a call, or the end.
 fn turn(
     k: u64,
     s: State,
@@ -157,7 +157,7 @@ fn turn(
     }
 }
 
-// Reads what stands next into the buffers, and does it.
+// Reads the next call into the buffers, and makes it.
 fn next_turn(
     k: u64,
     s: State,
@@ -183,7 +183,7 @@ fn number_after(on: bool, k: u64) -> u64
     u64::MAX
 }
 
-// A proved loop has to end, and nothing says that a script does: the calls are counted up to a number that no run comes to.
+// A proved loop has to end, and nothing says that a script does: the calls are counted up to a number that no run reaches.
 fn run(a: &mut [u8], b: &mut [u8], c: &mut [u8], d: &mut [u8], e: &mut [u8]) {
     let mut s = fresh();
     let mut k: u64 = 1;

@@ -26,7 +26,7 @@ ledgerAnswer l letter number km0 acl req new hints =
 abbrev pub isCabinets : ℕ → Bool
 isCabinets letter = eqb letter 102 || eqb letter 108 || eqb letter 99 || eqb letter 114 || eqb letter 110 || eqb letter 120
 
--- a letter of the cabinet's: the same. The place is a slot's, or of a clear the counter's
+-- a letter of the cabinet's: the same. The number is a slot's or, for a clear, a counter's
 unfoldable pub cabinetAnswer : Cabinet → ℕ → ℕ → ℕ → Bytes → Bytes → Bytes → Bytes → Bytes → CabinetOutcome
 cabinetAnswer c letter place time km0 acl req new hints =
     if eqb letter 102 then record { answer = done; cabinet = freshCabinet }

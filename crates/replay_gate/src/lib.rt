@@ -1,5 +1,5 @@
-// The calls of a replay script (docs/REPLAY.md) on the ledger and on the cabinet, by their letters. Each makes the call, prints its line and hands the
-// ledger or the cabinet back: that of the definition which the letter stands for. No contract can say what is printed.
+// The calls of a replay script (docs/REPLAY.md) on the ledger and on the cabinet, by their letters. Each makes the call, prints its line and returns the
+// ledger or the cabinet: that of the letter's definition. No contract can say what is printed.
 ghost use mathlib.Core.Path.{_≡_};
 ghost use Rattle.gate.specs.Outcomes.{ledgerAs, outcomeAs};
 ghost use Rattle.cabinet.specs.Kept.{cabinetAs, cabinetOutcomeAs};
@@ -82,7 +82,7 @@ pub fn is_cabinets(letter: u8) -> bool
         | (letter == b'x')
 }
 
-// The answer to a letter of the cabinet's: the same. The place is a slot's, or of a clear the counter's.
+// The answer to a letter of the cabinet's: the same. The number is a slot's or, for a clear, a counter's.
 fn cabinet_answer(
     cabinet: Cabinet,
     letter: u8,

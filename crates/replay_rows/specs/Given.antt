@@ -10,7 +10,7 @@ use Rattle.rules.specs.Request.{Certificate}
 abbrev pub givenBytes : ℕ
 givenBytes = 22
 
--- the certificate at a place of the bytes: "the hash and then the mechanism in two bytes, big-endian"
+-- the certificate at an offset of the bytes: "the hash and then the mechanism in two bytes, big-endian"
 abbrev pub givenAt : Bytes → ℕ → Certificate
 givenAt s at = record { hash = part at hashBytes s; mechanism = number (at + hashBytes) 2 s }
 

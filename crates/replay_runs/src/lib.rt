@@ -1,5 +1,5 @@
-// The calls of a replay script (docs/REPLAY.md) that run many requests on the ledger, and the one that prepares an ACL for them. Each makes the call and
-// prints its line; a run hands back the ledger, and leaves the buffer, of the definition that its letter stands for. No contract can say what is printed.
+// The calls of a replay script (docs/REPLAY.md) that run many requests on the ledger, and the call that prepares an ACL for them. Each makes the call and
+// prints its line; a run returns the ledger, and leaves the buffer, of its letter's definition. No contract can say what is printed.
 ghost use mathlib.Core.Path.{_≡_};
 ghost use lib.ListN.{length};
 ghost use Rattle.rules.specs.Sizes.{permissionsMax};
@@ -71,7 +71,7 @@ fn print_ran(reply: RunReply) {
     }
 }
 
-// A run: its reply, the whole buffer after it and the ledger handed back.
+// Makes a run, prints its reply and the whole buffer after it, and returns the ledger.
 pub fn run_call(
     k: u64,
     before: Ledger,

@@ -37,7 +37,7 @@ pub struct Call {
     pub e: u64,
 }
 
-// What stands next in a script: a call; or what cannot be read on; or the end, which may come between two calls.
+// The next item of a script: a call; something that cannot be read; or the end, which may come between two calls.
 pub enum Next {
     Is(Call),
     Stop,
@@ -96,7 +96,7 @@ fn can_be_third(letter: u8, n: u64) -> bool {
     !is_run(letter) | (n % 22 == 0)
 }
 
-// A number, where one is due: 8 bytes, big-endian.
+// Reads a number, if the call takes one: 8 bytes, big-endian.
 fn read_number(due: bool) -> Argument {
     if !due {
         return Argument::Is(0);
@@ -119,7 +119,7 @@ fn read_length() -> Argument {
     Argument::Is(record_fields::be32(&b, 0) as u64)
 }
 
-// Bytes, where they are due: a length, then that many bytes, into the front of the buffer.
+// Reads bytes, if the call takes them: a length, then that many bytes, into the front of the buffer.
 fn read_bytes(due: bool, buffer: &mut [u8]) -> Argument {
     if !due {
         return Argument::Is(0);
@@ -138,7 +138,7 @@ fn read_bytes(due: bool, buffer: &mut [u8]) -> Argument {
     Argument::Is(n)
 }
 
-// A form, where one is due, into its buffer: whether it is as long as that.
+// Reads a form, if the call takes one, into its buffer. Returns whether it has the length of a form.
 fn read_form(due: bool, form: &mut [u8]) -> bool {
     let Argument::Is(n) = read_bytes(due, form) else {
         return false;

@@ -164,7 +164,7 @@ unfolding certificatesOf
 certificates-append [] ys e = e
 certificates-append (x ∷ xs) ys e = ap (λ (l : List Certificate). if eqb (kind x) 9 then certificateOf x ∷ l else l) (certificates-append xs ys e)
 
--- A record without fault that is no delegation stands where none was read ..
+-- A record without fault that is no delegation comes where none was read
 other-record : (n m : ℕ) (r : Bytes) → presentedRecordFault (record { certificates = n; delegations = m }) r ≡ none → eqb (kind r) 14 ≡ false → m ≡ 0
 unfolding presentedRecordFault certificateFault delegationFault recordFault delegationRecord
 other-record n m r e d = pick (eqb (kind r) 9) refl
@@ -212,7 +212,7 @@ delegations-follow q xs r ys e d = pick (flag 6 q) xs refl e
         let o : eqb (kind z) 14 ≡ false = rw (eqb-true (kind z) 15 t) in
         rw o (delegations-after 0 0 zs r ys (orNext-next (unless (blobfileRequestRecord z) malformed) _ g) d .1)
 
--- the records after the first, before a place and from there on
+-- the records after the first, before an offset and from there on
 module _ (s : Bytes) (at : ℕ) (h : 64 ≤ at) (m : at % 64 ≡ 0) (l : at ≤ length s) where
   rows-parted : recordsFrom s 64 ≡ records (take (at - 64) (drop 64 s)) ++ recordsFrom s at
   unfolding recordsFrom

@@ -7,6 +7,6 @@ use Rattle.rules.specs.Basics.{Bytes, implies, unless, orNext}
 use Rattle.rules.specs.Acl.{announcesBlobfile}
 use Rattle.rules.specs.Request.{blobfileFollows, presentedAfter, presentedFault}
 
--- its first fault: kind 15 where it is due, then certificates and delegations
+-- its first fault: kind 15 where it is announced, then certificates and delegations
 unfoldable pub followingFault : Bytes → List Bytes → Option ℕ
 followingFault r rs = orNext (unless (implies (announcesBlobfile r) (blobfileFollows rs)) malformed) (presentedFault (presentedAfter r rs))

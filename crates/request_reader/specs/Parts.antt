@@ -8,7 +8,7 @@ use Rattle.rules.specs.Basics.{Bytes, records}
 use Rattle.rules.specs.Request.{certificatesOf, delegationsOf, requestOf}
 use Rattle.request_reader.specs.Following.{followingFault}
 
--- The certificates stand after the request record, and after its record of kind 15 where it has one, and before a place, `&req[64..r]`, the
+-- The certificates are after the request record, and after its record of kind 15 if it has one, and before an offset, `&req[64..r]`, the
 -- delegations from there on, `&req[r..]`.
 pub record Parted (req : Bytes) (r : ℕ) : Type 0 where
   pub later : recordBytes ≤ r

@@ -56,7 +56,7 @@ over-whole : (s d : Bytes) → length s ≡ length d → overwritten s d ≡ s
 unfolding overwritten
 over-whole s d e = rw (drop-of-length-le d {i = length s} (omega arith)) (append-nil s)
 
--- A second piece in the place of as many bytes after the first.
+-- A second piece instead of as many bytes after the first.
 over-piece : (s t d : Bytes) (i n : ℕ) → length s ≡ i → length t ≡ n → take i (overwritten s d) ++ (t ++ drop n (drop i (overwritten s d))) ≡ overwritten (s ++ t) d
 unfolding overwritten
 over-piece s t d i n l m =

@@ -23,7 +23,7 @@ subjectReplyAs (Refused r) = unwritten (refusalNumber r)
 abbrev pub headerOf : ℕ → Suite → Bytes
 headerOf certificate s = headerBytes (headerUnder certificate (some (suiteAs s)))
 
--- new bytes over the front of old ones: what lies past them stays
+-- new bytes over the front of old ones: what is past them is unchanged
 unfoldable pub overwritten : Bytes → Bytes → Bytes
 overwritten new old = new ++ drop (length new) old
 

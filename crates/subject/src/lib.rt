@@ -44,7 +44,7 @@ fn copy_word(bytes: &[u8], buffer: &mut [u8])
     buffer[7] = h;
 }
 
-// Eight bytes or more over the front of the buffer, eight at a time; the last eight may overlap those before them. What lies past them stays.
+// Eight bytes or more over the front of the buffer, eight at a time; the last eight may overlap those before them. What is past them is unchanged.
 pub fn copy(bytes: &[u8], buffer: &mut [u8])
     requires { ⌜ (8 ≤ length (now bytes)) × (length (now bytes) ≤ length (now buffer)) ⌝ }
     ensures { λ _. ⌜ now (buffer .exit) ≡ overwritten (now (bytes .entry)) (now (buffer .entry)) ⌝ }
@@ -167,7 +167,7 @@ fn write_under(certificate: u64, suite: Suite, hashes: &[u8], buffer: &mut [u8])
     Written::Length(total)
 }
 
-// The subject of a world certificate, at the front of the buffer, for hashes in document 001's order. Every byte past it stays. Refusals 10,
+// The subject of a world certificate, at the front of the buffer, for hashes in document 001's order. Every byte past it is unchanged. Refusals 10,
 // 11, 1 and 9 come in this order, the certificate being asked before the suite, and leave the whole buffer.
 pub fn write_subject(certificate: u64, suite: u64, hashes: &[u8], buffer: &mut [u8]) -> Written
     ensures reply { λ r. ⌜ subjectReplyAs r ≡ subjectReply certificate suite (now (hashes .entry)) (now (buffer .entry)) ⌝ }

@@ -1,5 +1,5 @@
 // trim BUNDLE ACL NEW HINTS, four file names: writes the ACL without what fails at the desk to NEW, and to HINTS the hints by which it narrows the old
-// one. For each record of the old ACL of which something is removed it prints a line `group G action A fails STEP, removed: LINE`, by its old places;
+// one. For each record of the old ACL of which something is removed it prints a line `group G action A fails STEP, removed: LINE`, by its old indices;
 // LINE is the listing's line (docs/LISTING.md) of a blob action, of the blobfile that goes with it, or of the permissions that are gone. Then comes
 // `trimmed: ACL M bytes, hints N bytes`. Where a file is refused, or a step before the ACL fails, the desk's line is printed alone, standard error says what
 // it means, and no file is written. Unless both files are written whole, those that exist are unchanged.
@@ -31,7 +31,7 @@ fn print_refusal(why: Refusal, bundle: &[u8]) {
     print_verdict(Verdict::Refused(why), bundle);
 }
 
-// What a line begins with: an action's old place, and the step that it fails.
+// What a line begins with: the old indices of group and action, and the step that it fails.
 fn print_place(group: usize, action: usize, step: Step) {
     let mut name = [0u8; desk_verdict::LINE];
     let n = desk_verdict::append_step(step, 0, &mut name);
@@ -143,7 +143,7 @@ fn print_removed(places: &[usize; bundle_facts::ENTRIES], bundle: &[u8], acl: &[
     }
 }
 
-// Says what was removed, and how long the results are.
+// Prints what was removed, and how long the results are.
 fn print_trimmed(bundle: &[u8], acl: &[u8], new: usize, hints: usize) {
     let mut places = [0usize; bundle_facts::ENTRIES];
     bundle_facts::find_offsets(&mut places, bundle);
@@ -196,7 +196,7 @@ fn put_both() -> bool {
     true
 }
 
-// Writes both files, then says what was removed.
+// Writes both files, then prints what was removed.
 fn write_both(bundle: &[u8], acl: &[u8], new: &[u8], hints: &[u8]) {
     if !prepare_hints(hints) {
         return;

@@ -37,7 +37,7 @@ is-group s at e = eq-eqb (kind (lentRecord s at)) 1 (kind-lent s at ∙ e)
 no-group : (s : Bytes) (at : ℕ) → (getD s at 0 ≡ 1 → ⊥) → eqb (kind (lentRecord s at)) 1 ≡ false
 no-group s at n = ne-eqb (kind (lentRecord s at)) 1 (λ e. n (sym (kind-lent s at) ∙ e))
 
--- Reading on: the record at a place has no fault, and the rest has none.
+-- Reading on: the record at an offset has no fault, and the rest has none.
 module _ (acl : Bytes) (at : ℕ) (s : AclState) (sound : aclFrom s (recordsFrom acl at) ≡ none) (h : recordBytes ≤ length acl - at) where
   sound-here : aclRecordFault s (lentRecord acl at) ≡ none
   unfolding scan
@@ -88,7 +88,7 @@ pub hinted : (h : Hint) (kept : Bool) → not kept ≡ false → named h ≡ act
 unfolding actionHinted
 hinted h kept e = rw (not-false kept e)
 
--- one more place in a hint
+-- one more index in a hint
 name-set : (source : ℕ) (places : List ℕ) (p : ℕ) → length places < actionsMax → set (hintBytes source places) (8 + length places) p ≡ hintBytes source (places ++ (p ∷ []))
 unfolding hintBytes
 name-set source places p h =
@@ -109,7 +109,7 @@ pub action-recorded : (h x : Hint) (fate f : TrimAction) (kept : Bool) (r : Byte
 unfolding recordHinted
 action-recorded h x fate f kept r m n e k d = rw (ne-eqb (kind r) 2 m, ne-eqb (kind r) 15 n, ← e, ← k) d
 
--- A group's hint: the places named, and those left to name.
+-- A group's hint: the indices named, and those left to name.
 pub record Hinting (b : List Bytes) (acl : Bytes) (checked : Bool) (source i : ℕ) (total : List ℕ) (h : Hint) : Type 0 where
   pub place : AclState
   pub sound : aclFrom place (recordsFrom acl i) ≡ none
@@ -123,7 +123,7 @@ pub record Hinting (b : List Bytes) (acl : Bytes) (checked : Bool) (source i : �
 abbrev pub Hinted : List Bytes → Bytes → Bool → ℕ → ℕ → List ℕ → Hint → Type 0
 Hinted b acl checked source i total h = (h .count ≤ h .place) × ((h .place ≤ actionsMax) × Hinting b acl checked source i total h)
 
--- the places to name, by the record as code lends it
+-- the indices to name, by the record as code lends it
 places-at : (b : List Bytes) (acl : Bytes) (at : ℕ) → placesAt b acl at ≡ keptIndices b (isChecked b (lentRecord acl at)) 0 (recordsFrom acl (at + recordBytes))
 unfolding placesAt recordsFrom
 places-at b acl at = ap (λ (r : Bytes). keptIndices b (isChecked b r) 0 (recordsFrom acl (at + recordBytes))) (sym (lent-record acl at))

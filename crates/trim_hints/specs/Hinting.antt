@@ -1,4 +1,4 @@
--- A hint as far as it is written, and what is asked of an ACL from a place on.
+-- A hint as far as it is written, and what is asked of an ACL from an offset on.
 use Prim.Native.Nat.{ℕ, _+_}
 use mathlib.Core.Path.{_≡_}
 use mathlib.Core.List.{List, []}
@@ -30,7 +30,7 @@ unnamed h = record { bytes = h .bytes; count = h .count; place = h .place + 1 }
 unfoldable pub actionHinted : Hint → Bool → Hint
 actionHinted h kept = if kept then named h else unnamed h
 
--- the hint after a record that begins no group, which may be an action with that fate
+-- the hint after a record that begins no group, which may be an action that is kept, changed or dropped
 unfoldable pub recordHinted : Hint → TrimAction → Bytes → Hint
 recordHinted h fate r = if eqb (kind r) 2 then h else if eqb (kind r) 15 then h else actionHinted h (isKept fate)
 
@@ -38,7 +38,7 @@ recordHinted h fate r = if eqb (kind r) 2 then h else if eqb (kind r) 15 then h 
 unfoldable pub placesAt : List Bytes → Bytes → ℕ → List ℕ
 placesAt b acl at = keptIndices b (isChecked b (part at recordBytes acl)) 0 (records (drop (at + recordBytes) acl))
 
--- an ACL is read without fault from a place on, where so many groups have begun
+-- an ACL is read without fault from an offset on, where so many groups have begun
 pub record SoundFrom (acl : Bytes) (at groups : ℕ) : Type 0 where
   pub place : AclState
   pub sound : scan aclRecordFault afterRecord aclEnd place (records (drop at acl)) ≡ none

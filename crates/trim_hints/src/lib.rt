@@ -1,4 +1,4 @@
-// The hints of a trimmed ACL: for each group a record that names the group and those of its actions that stay, by their old places.
+// The hints of a trimmed ACL: for each group a record that names the group and those of its actions that stay, by their old indices.
 ghost use mathlib.Core.Path.{_≡_};
 ghost use mathlib.Core.Option.{none};
 ghost use Prim.Native.Nat.{_-_, _≤_, _<_};
@@ -13,7 +13,7 @@ ghost use Rattle.subject.specs.Writing.{overwritten};
 ghost use Rattle.trim_records.specs.Fates.{onAction};
 ghost use Rattle.trim_hints.specs.Hinting.{begunHint, actionHinted, recordHinted, placesAt, SoundFrom};
 
-// A hint as far as it is written: its bytes, how many actions it names, and the place of the next action of the old group.
+// A hint as far as it is written: its bytes, how many actions it names, and the index of the next action of the old group.
 struct Hint {
     bytes: [u8; record_sizes::RECORD],
     count: usize,
@@ -36,7 +36,7 @@ impl Hint {
         }
     }
 
-    // The hint after an action of the old group, which is named by its old place if it stays.
+    // The hint after an action of the old group, which is named by its old index if it stays.
     fn after_action(mut self, kept: bool) -> Self
         requires { ⌜ (self .count ≤ actionsMax) × (self .place ≤ actionsMax) ⌝ }
         ensures { λ r. ⌜ r ≡ actionHinted self kept ⌝ }
@@ -76,7 +76,7 @@ impl Hint {
     }
 }
 
-// The hint of the group whose first record begins at an offset: the group's number, and the old indexes of its actions that stay.
+// The hint of the group whose first record begins at an offset: the group's index, and the old indices of its actions that stay.
 fn hint_of(
     places: &[usize; bundle_facts::ENTRIES],
     bundle: &[u8],

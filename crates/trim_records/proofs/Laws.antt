@@ -1,4 +1,4 @@
--- The loop over the permissions, and the fates of an ACL's records in the definitions' terms.
+-- The loop over the permissions, and what the tool does with an ACL's records, in the definitions' terms.
 use Prim.Native.Nat.{ℕ, zero, suc, _+_, _*_, _/_, _%_, _≤_, _<_, _^_}
 use native.Mathlib.Omega.{arith}
 use native.Mathlib.Numerals.{add-one}
@@ -141,7 +141,7 @@ module _ (b : List Bytes) (checked : Bool) (r : Bytes) where
       pick Fewer e = absurd (not-both (stays b checked r) (stays-as ∙ ap isKept e) s)
       pick Dropped e = refl
 
-  -- whether an action stays, by its fate as the code found it
+  -- whether an action stays, by what the code does with it
   pub action-stays : (fate : TrimAction) → fate ≡ onAction b checked r → stays b checked r ≡ isKept fate
   action-stays fate e = rw e stays-as
 

@@ -42,7 +42,7 @@ isKept Copied = true
 isKept Fewer = true
 isKept Dropped = false
 
--- the bytes that are left, by their number ..
+-- the bytes that are left, by their number
 abbrev pub sizeOf : TrimAction → ℕ
 sizeOf Copied = recordBytes
 sizeOf Fewer = recordBytes

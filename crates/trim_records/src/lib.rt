@@ -16,7 +16,7 @@ ghost use Rattle.trim_records.specs.Fates.{keptBit, isKept, sizeOf, onAc
 use bundle_facts::Policy;
 use desk_steps::Failure;
 
-// What becomes of a record.
+// What the tool does with a record: it is copied, copied with fewer permissions, or dropped.
 pub enum TrimAction {
     Copied,
     Fewer,
@@ -173,7 +173,7 @@ pub fn size_of(fate: TrimAction) -> usize
     }
 }
 
-// Whether the last action stayed, after a record with that fate.
+// Whether the last action is kept, after a record with which the tool does this.
 pub fn kept_after(fate: TrimAction, kept: bool, rec: &[u8]) -> bool
     requires { ⌜ length (now rec) ≡ recordBytes ⌝ }
     ensures { λ r. ⌜ r ≡ keptAfter fate kept (now (rec .entry)) ⌝ }

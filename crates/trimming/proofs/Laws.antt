@@ -92,7 +92,7 @@ fewer-put b policy n m r d e w z q p h =
     ap (λ (x : Bytes). set (set x 4 (n / 256)) 5 (n % 256)) h ∙ fewer-written n r d w
     ∙ ap (λ (k : ℕ). overwritten (withBits k r) d) (p ∙ ap₂ keptBits z q)
 
--- What a fate leaves, by the case that the code met.
+-- What is left of a record, by the case that the code met.
 module _ (b : List Bytes) (fate : TrimAction) (r d e : Bytes) where
   pub put-copied : fate ≡ Copied → e ≡ overwritten r d → e ≡ overwritten (leftOf b fate r) d
   unfolding leftOf

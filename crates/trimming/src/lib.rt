@@ -1,4 +1,4 @@
-// The trimming tool: a bundle and an ACL in; out come the ACL without what fails at the desk, and the hints by which it narrows the old one.
+// The trimming tool: removes from an ACL what fails at the desk by a bundle; writes the new ACL, and the hints by which it narrows the old one.
 ghost use mathlib.Core.Path.{_≡_};
 ghost use mathlib.Core.Option.{none};
 ghost use Prim.Native.Nat.{_*_, _≤_};
@@ -160,7 +160,7 @@ fn trim_read(
 }
 
 // The trimmed ACL over the front of one buffer and its hints over the front of the other, whatever bytes the bundle and the ACL are. Every byte past
-// the results stays; a refusal and a failing step leave both buffers.
+// the results is unchanged; a refusal and a failing step leave both buffers unchanged.
 pub fn trim(bundle: &[u8], acl: &[u8], new: &mut [u8], hints: &mut [u8]) -> TrimReply
     ensures reply { λ r. ⌜ trimReplyAs r ≡ trimReply (now (bundle .entry)) (now (acl .entry)) (now (new .entry)) (now (hints .entry)) ⌝ }
     ensures trimmed { λ _. ⌜ now (new .exit) ≡ trimAclBuffer (now (bundle .entry)) (now (acl .entry)) (now (new .entry)) (now (hints .entry)) ⌝ }
