@@ -38,7 +38,7 @@ class Refused(Trouble):
         named = f'{shown(path)}:{line}' if line else shown(path)
         words = place.words if place is not None and place.part else explain(refusal)
         super().__init__(f'{named}: {words} (refusal {refusal})')
-        self.value = {'file': path, 'refusal': refusal, 'line': line, 'words': words, 'place': placed(place)}
+        self.value = {'file': path, 'refusal': refusal, 'line': line, 'words': explain(refusal), 'place': placed(place)}
 
 
 def placed(place: Any) -> Optional[Dict[str, Any]]:
