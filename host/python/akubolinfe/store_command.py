@@ -318,7 +318,8 @@ _STATUSES = """exit status:
 def add(commands, shared: list) -> None:
     """Adds `store` and its subcommands to those of the command."""
     top = commands.add_parser('store', help='keep a cabinet: durable state, a log, an audit',
-                              description='Keeps a cabinet of eight keys in SQLite or PostgreSQL. Nothing is answered that is not durable.')
+                              description='Keeps a cabinet of eight keys in SQLite or PostgreSQL. Nothing is answered that is not durable.',
+                              epilog=f'example:\n  akubolinfe store ask cabinet.db 0 request\n\n{_STATUSES}')
     actions = top.add_subparsers(title='actions', metavar='ACTION', required=True, parser_class=type(top))
     for name, help, arguments, example, handler in _SUBCOMMANDS:
         added = actions.add_parser(name, help=help, description=f'{help[0].upper()}{help[1:]}.', parents=shared,
