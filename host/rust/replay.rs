@@ -220,20 +220,41 @@ impl Run {
     }
 }
 
+// A run, with the form that comes first if it has one, and the buffer that is lent to it.
 #[cfg(not(ordinary))]
-fn batch(s: &mut Script, ledger: &mut Ledger, form: Option<Form>) -> Option<String> {
-    let (km0, acl, row, requests, mut buffer) = (s.run()?, s.run()?, row(&s.run()?)?, s.run()?, s.run()?);
-    let run = Run { km0, acl, row, form, requests };
+fn run(s: &mut Script, prepared: bool) -> Option<(Run, Vec<u8>)> {
+    let form = if prepared { Some(form(&s.run()?)?) } else { None };
+    let (km0, acl, row, requests) = (s.run()?, s.run()?, row(&s.run()?)?, s.run()?);
+    Some((Run { km0, acl, row, form, requests }, s.run()?))
+}
+
+#[cfg(not(ordinary))]
+fn ran_words(reply: Ran, buffer: &[u8]) -> String {
+    match reply {
+        Ok(n) => format!("length {n} {}", hex(buffer)),
+        Err(n) => format!("refuse {n} {}", hex(buffer)),
+    }
+}
+
+#[cfg(not(ordinary))]
+fn batch(s: &mut Script, ledger: &mut Ledger, prepared: bool) -> Option<String> {
+    let (run, mut buffer) = run(s, prepared)?;
     let (before, lent) = (ledger.clone(), buffer.clone());
     let mut same = lent.clone();
     let reply = run.on(ledger, &mut buffer);
     assert!(run.by_value(before.clone(), &mut same) == (ledger.clone(), reply) && same == buffer, "run by value");
     run.check_slots(&before, &lent, ledger, reply, &buffer);
-    let words = match reply {
-        Ok(n) => format!("length {n} {}", hex(&buffer)),
-        Err(n) => format!("refuse {n} {}", hex(&buffer)),
-    };
-    Some(words + &ledger_words(ledger))
+    Some(ran_words(reply, &buffer) + &ledger_words(ledger))
+}
+
+// A run in a slot of the cabinet.
+#[cfg(not(ordinary))]
+fn batch_in_slot(s: &mut Script, cabinet: &mut Cabinet, prepared: bool) -> Option<String> {
+    let slot = s.number()? as usize;
+    let (run, lent) = run(s, prepared)?;
+    let (after, reply, answers) = run.both_in_slot(cabinet, slot, &lent);
+    *cabinet = after;
+    Some(ran_words(reply, &answers) + &slot_words(cabinet, slot) + &table("counters", &cabinet.counters))
 }
 
 // What a request, a narrowing and an expansion are lent: KM0, the ACL and the request; the new ACL and the hints, where the letter has them.
@@ -338,11 +359,23 @@ fn cabinet_answer(letter: u8, s: &mut Script, cabinet: &mut Cabinet) -> Option<S
         }
         _ => asked_in_slot(letter, s, cabinet, first)?,
     };
-    let slot = cabinet.slots.get(first).filter(|_| letter != b'f' && letter != b'c');
-    let called = slot.map_or(String::new(), |s| {
-        format!(" slot {first} load {} last {}{}", s.loaded, s.last, table("counts", &s.counts))
-    });
+    let called = if matches!(letter, b'f' | b'c') { String::new() } else { slot_words(cabinet, first) };
     Some(words(reply) + &called + &table("counters", &cabinet.counters))
+}
+
+// The slot that was called; nothing where there is no such slot.
+#[cfg(not(ordinary))]
+fn slot_words(cabinet: &Cabinet, slot: usize) -> String {
+    cabinet.slots.get(slot).map_or(String::new(), |s| {
+        format!(" slot {slot} load {} last {}{}", s.loaded, s.last, table("counts", &s.counts))
+    })
+}
+
+// One count, or one named counter, of a ledger that is restored; none where there is no such count, or no such number of 32 bits.
+fn restored(s: &mut Script, ledger: &mut Ledger) -> Option<Reply> {
+    let (index, value) = (usize::try_from(s.number()?).ok()?, u32::try_from(s.number()?).ok()?);
+    *ledger.counts.iter_mut().chain(ledger.counters.iter_mut()).nth(index)? = value;
+    Some(Reply::Done)
 }
 
 // The answer to one call; none where the script cannot be read on.
@@ -368,12 +401,10 @@ fn answer(letter: u8, s: &mut Script, state: &mut State) -> Option<String> {
         #[cfg(not(ordinary))]
         b'P' => return prepared(s),
         #[cfg(not(ordinary))]
-        b'B' => return batch(s, &mut state.ledger, None),
+        b'B' | b'Q' => return batch(s, &mut state.ledger, letter == b'Q'),
         #[cfg(not(ordinary))]
-        b'Q' => {
-            let f = form(&s.run()?)?;
-            return batch(s, &mut state.ledger, Some(f));
-        }
+        b'b' | b'q' => return batch_in_slot(s, &mut state.cabinet, letter == b'q'),
+        b'K' => restored(s, &mut state.ledger)?,
         #[cfg(not(ordinary))]
         b'f' | b'l' | b'c' | b'r' | b'n' | b'x' => return cabinet_answer(letter, s, &mut state.cabinet),
         _ => return None,

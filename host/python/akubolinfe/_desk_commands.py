@@ -1,17 +1,18 @@
 """The subcommands of the desk: attest and trim."""
 from __future__ import annotations
 
-from typing import Any, Dict, List, NamedTuple, Tuple
+from typing import Any, Dict, List, NamedTuple, Optional, Tuple
 
-from . import _records
-from ._file_commands import digest, groups_of, is_text, load, text_of
+from ._file_commands import digest, groups_of, is_text, load, require_good, text_of
 from ._files import Files, Trouble, Written, shown
 from ._library import RECORD
-from ._outcome import NO, YES, Outcome, Refused, status_of
+from ._outcome import NO, YES, Outcome, Refused, placed, status_of
 from .answers import Trimmed, Verdict
 from .builders import Facts, Hints, Policy, read_bundle
 from .checking import fault
 from .desk import attest, trim
+from .places import VerdictPlace, locate_verdict, supported
+from .text import Text
 from .words import PROTECTIONS, SUITES
 
 # The steps that judge the ACL: what fails one of them can be trimmed away.
@@ -44,9 +45,7 @@ def evidence(files: Files, args) -> Evidence:
     if not acl and not args.allow_empty_acl:
         raise Trouble(f'{shown(args.acl)}: an empty ACL; give --allow-empty-acl if the key really has none')
     for kind, path, content in (('bundle', name, bundle), ('acl', args.acl, acl)):
-        number = fault(kind, content)
-        if number:
-            raise Refused(path, number)
+        require_good(kind, path, content)
     return Evidence(bundle, acl, f'{named} --acl {args.acl}')
 
 
@@ -57,9 +56,9 @@ def _joined(files: Files, policy_path: str, facts_path: str) -> bytes:
         raise Trouble(f'{shown(policy_path)}: one policy is wanted, and nothing else')
     facts = files.read(facts_path)
     if is_text(facts):
-        if _records.read('bundle', facts):
+        if Text('bundle').read(facts):
             raise Trouble(f'{shown(facts_path)}: has a policy of its own, which belongs in --policy')
-        read = _records.read('bundle', facts + _records.write('bundle', policy).content)
+        read = Text('bundle').read(facts + Text('bundle').write(policy).content)
         if not read:
             raise Refused(facts_path, read.refusal, read.line)
         return read.content
@@ -110,11 +109,20 @@ def _unmet(verdict: Verdict, args) -> List[str]:
     return unmet
 
 
-def _answer(verdict: Verdict, unmet: List[str]) -> List[str]:
+def _located(verdict: Verdict, given: Evidence) -> Optional[VerdictPlace]:
+    """What a verdict other than yes is about; None where the library does not say where, or says it of another verdict."""
+    if verdict or not supported():
+        return None
+    found = locate_verdict(given.bundle, given.acl)
+    return found if (found.refusal, found.step) == (verdict.refusal, verdict.step) else None
+
+
+def _answer(verdict: Verdict, place: Optional[VerdictPlace], unmet: List[str]) -> List[str]:
+    words = verdict.words if place is None else place.words
     if verdict.refusal:
-        return [f'REFUSED    {verdict.refusal}: {verdict.words}']
+        return [f'REFUSED    {verdict.refusal}: {words}']
     if verdict.step is not None:
-        return [f'FAILED     {verdict.step}: {verdict.words}']
+        return [f'FAILED     {verdict.step}: {words}']
     if unmet:
         return [f'REFUSED    {line}' for line in unmet]
     if verdict.approach == 1:
@@ -129,16 +137,17 @@ def attest_key(args) -> Outcome:
     verdict = attest(given.bundle, given.acl)
     unmet = _unmet(verdict, args) if verdict else []
     lines, value = _rests_on(given)
+    place = _located(verdict, given)
     if verdict.step in ACL_STEPS:
         lines.append(f'next       akubolinfe trim {given.named} --dry-run')
     status = NO if verdict.step is not None or unmet else status_of(verdict.refusal)
     named = PROTECTIONS[verdict.protection - 1] if verdict.protection else None
     answer = {
-        'accepted': status == YES, 'refusal': verdict.refusal, 'step': verdict.step, 'words': verdict.words, 'unmet': unmet,
+        'accepted': status == YES, 'refusal': verdict.refusal, 'step': verdict.step, 'words': verdict.words, 'place': placed(place), 'unmet': unmet,
         'approach': verdict.approach or None, 'protection': verdict.protection or None, 'protection_name': named,
         'recoverable': verdict.recoverable if verdict.protection else None,
     }
-    return Outcome(status, [*_answer(verdict, unmet), *lines], {**answer, **value})
+    return Outcome(status, [*_answer(verdict, place, unmet), *lines], {**answer, **value})
 
 
 def _removed(old: bytes, new: bytes, hints: bytes) -> List[Dict[str, Any]]:
@@ -184,5 +193,7 @@ def trim_acl(args) -> Outcome:
 def _not_trimmed(trimmed: Trimmed, given: Evidence) -> Outcome:
     lines, about = _rests_on(given)
     status = NO if trimmed.step is not None else status_of(trimmed.refusal)
-    value = {'refusal': trimmed.refusal, 'step': trimmed.step, 'words': trimmed.words, 'removed': [], 'written': []}
-    return Outcome(status, [*_answer(Verdict(trimmed.refusal, trimmed.step), []), *lines], {**value, 'rests_on': about})
+    verdict = Verdict(trimmed.refusal, trimmed.step)
+    place = _located(verdict, given)
+    value = {'refusal': trimmed.refusal, 'step': trimmed.step, 'words': trimmed.words, 'place': placed(place), 'removed': [], 'written': []}
+    return Outcome(status, [*_answer(verdict, place, []), *lines], {**value, 'rests_on': about})

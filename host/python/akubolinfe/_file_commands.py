@@ -7,14 +7,16 @@ import re
 import time
 from typing import Any, Dict, List, NamedTuple, Optional, Tuple
 
-from . import _records
 from ._files import Files, Trouble, Written, shown
-from ._library import RECORD
-from ._outcome import NO, TROUBLE, YES, Outcome, Refused, status_of
+from ._library import HASH, RECORD
+from ._outcome import NO, TROUBLE, YES, Outcome, Refused, placed, status_of
+from .answers import Run
 from .builders import Certificate, Delegation, Request, Token
-from .checking import fault
+from .checking import place
 from .desk import subject
 from .gate import Ledger, prepare
+from .places import CallPlace, FilePlace, locate_file, locate_request, supported
+from .text import Text
 from .words import CERTIFICATES, REFUSALS, STEPS, SUITES, meaning
 
 # The longest ACL that the day program takes.
@@ -33,10 +35,17 @@ def load(files: Files, kind: str, path: str) -> bytes:
     content = files.read(path)
     if not is_text(content):
         return content
-    read = _records.read(kind, content)
+    read = Text(kind).read(content)
     if not read:
         raise Refused(path, read.refusal, read.line)
     return read.content
+
+
+def require_good(kind: str, path: str, content: bytes) -> None:
+    """Refuses a file that is not good by itself, with the record at fault."""
+    found = place(kind, content)
+    if not found:
+        raise Refused(path, found.refusal, place=found)
 
 
 def load_km0(files: Files, path: str) -> bytes:
@@ -48,9 +57,9 @@ def load_km0(files: Files, path: str) -> bytes:
 
 def text_of(kind: str, path: str, content: bytes) -> List[str]:
     """The lines of a file."""
-    written = _records.write(kind, content)
+    written = Text(kind).write(content)
     if not written:
-        raise Refused(path, written.refusal)
+        raise Refused(path, written.refusal, place=place(kind, content))
     return written.content.decode('ascii').splitlines()
 
 
@@ -107,9 +116,7 @@ def show(args) -> Outcome:
 def check(args) -> Outcome:
     """Says whether a file is good."""
     content = load(Files(), args.kind, args.file)
-    number = fault(args.kind, content)
-    if number:
-        raise Refused(args.file, number)
+    require_good(args.kind, args.file, content)
     about = {'kind': args.kind, **digest(content), 'records': len(content) // RECORD}
     records = f'{about["records"]} record{"" if about["records"] == 1 else "s"}'
     line = f'{shown(args.file)}: {ARTICLES[args.kind]}, {records}, {len(content)} bytes, sha256 {about["sha256"]}'
@@ -120,9 +127,7 @@ def make(args) -> Outcome:
     """Makes a file from its text."""
     files = Files()
     content = load(files, args.kind, args.file)
-    number = fault(args.kind, content)
-    if number:
-        raise Refused(args.file, number)
+    require_good(args.kind, args.file, content)
     return made(files, args, args.kind, content)
 
 
@@ -205,16 +210,73 @@ def day(args) -> Outcome:
     run = Ledger().prepared_run(km0, acl, (), prepare(acl), requests)
     refusal = 1 if len(acl) > DAY_ACL_BYTES else run.refusal or (2 if any(a.refusal == 2 for a in run.answers) else 0)
     if refusal:
-        return _no_day(args, refusal)
+        return _no_day(args, refusal, (km0, acl, requests))
     answers = [(number, reply) for number, reply in enumerate(run.answers, 1)]
-    value = [{'number': n, 'permitted': bool(r), 'refusal': r.refusal, 'group': r.group, 'words': r.words} for n, r in answers]
-    return Outcome(YES if run else NO, [f'{n} {r}' for n, r in answers], {'answers': value})
+    places = _places_of_day(km0, acl, requests, run)
+    value = [{'number': n, 'permitted': bool(r), 'refusal': r.refusal, 'group': r.group, 'words': r.words, 'place': placed(places.get(n))}
+             for n, r in answers]
+    limits = limits_of(text_of('acl', args.acl, acl))
+    notes = [f'akubolinfe: request {n}: {why(found, limits)}' for n, found in places.items() if found.group is not None]
+    return Outcome(YES if run else NO, [f'{n} {r}' for n, r in answers], {'answers': value}, notes=notes)
 
 
-def _no_day(args, refusal: int) -> Outcome:
+def _places_of_day(km0: bytes, acl: bytes, requests: bytes, run: Run) -> Dict[int, CallPlace]:
+    """Why requests of a day are refused, by their numbers: each is asked again, on the ledger that it met. Nothing where the
+    library does not say where."""
+    if run or not supported():
+        return {}
+    ledger, found = Ledger(), {}
+    for number, reply in enumerate(run.answers, 1):
+        request = requests[(number - 1) * RECORD : number * RECORD]
+        if reply:
+            ledger.request(km0, acl, request)
+        else:
+            found[number] = locate_request(ledger, km0, acl, request)
+    return found
+
+
+def limits_of(lines: List[str]) -> List[List[str]]:
+    """The limits of each group of an ACL's text."""
+    groups: List[List[str]] = []
+    for line in lines:
+        if line.split(' ')[0] == 'group':
+            groups.append([])
+        elif line.startswith('limit '):
+            groups[-1].append(line)
+    return groups
+
+
+def why(found: CallPlace, limits: List[List[str]]) -> str:
+    """Why a call is refused, with the line of the limit that is spent."""
+    spent = '' if found.reason != 'spent' else f': {limits[found.group or 0][found.item or 0]}'
+    return f'{found.words}{spent}'
+
+
+def _no_day(args, refusal: int, contents: Tuple[bytes, bytes, bytes]) -> Outcome:
+    """A day that is refused because of one of its files, which is named with its record where the library says where."""
     words = meaning(refusal).words
-    note = f'akubolinfe: {shown(args.km0)}, {shown(args.acl)} or {shown(args.requests)}: {words}'
-    return Outcome(TROUBLE, [f'0 refuse {refusal}'], {'answers': [], 'refusal': refusal, 'words': words}, notes=[note])
+    note = f'{shown(args.km0)}, {shown(args.acl)} or {shown(args.requests)}: {words}'
+    found = _fault_of_day(refusal, *contents)
+    if found is not None:
+        name, at = found
+        words = at.words
+        note = f'{shown(getattr(args, name))}: {words} (refusal {refusal})'
+    value = {'answers': [], 'refusal': refusal, 'words': words, 'file': found and getattr(args, found[0]), 'place': found and placed(found[1])}
+    return Outcome(TROUBLE, [f'0 refuse {refusal}'], value, notes=[f'akubolinfe: {note}'])
+
+
+def _fault_of_day(refusal: int, km0: bytes, acl: bytes, requests: bytes) -> Optional[Tuple[str, FilePlace]]:
+    """The file of a day that is at fault, by its name in the arguments: lengths first, then records."""
+    if not supported():
+        return None
+    length = FilePlace(1, 'length')
+    if len(km0) != HASH:
+        return 'km0', length
+    if len(acl) > DAY_ACL_BYTES:
+        return 'acl', length
+    places = {'acl': locate_file('acl', acl), 'requests': locate_file('requests', requests)}
+    found = [(name, at) for name, at in places.items() if at.refusal == refusal]
+    return found[0] if found else None
 
 
 def _named(text: str, names: Dict[str, int], what: str) -> int:

@@ -34,8 +34,16 @@ NAMES = ('libakubolinfe.so.1', 'libakubolinfe.so')
 VARIABLE = 'AKUBOLINFE_LIBRARY'
 
 
+# The version of the library that first says where a fault is.
+PLACES_SINCE = '1.1'
+
+
 class LibraryError(Exception):
     """The shared library is missing, cannot be loaded, or is not the one that this package is for."""
+
+
+class Unsupported(NotImplementedError):
+    """The library that was found is older than what was asked of it."""
 
 
 class LedgerStruct(Structure):
@@ -108,6 +116,19 @@ class PreparationStruct(Structure):
     _fields_ = [('refusal', c_uint32), ('form', FormStruct)]
 
 
+class FilePlaceStruct(Structure):
+    _fields_ = [(name, c_uint32) for name in ('refusal', 'part', 'record')]
+
+
+class CallPlaceStruct(Structure):
+    _fields_ = [(name, c_uint32) for name in ('refusal', 'input', 'part', 'record', 'group', 'reason', 'item')]
+
+
+class VerdictPlaceStruct(Structure):
+    _fields_ = [(name, c_uint32) for name in (
+        'refusal', 'step', 'input', 'part', 'record', 'what', 'number', 'group', 'action', 'permission')]
+
+
 # Bytes that are only read, and a buffer, each with its length. A row's length counts certificates.
 _LENT = [c_char_p, c_size_t]
 _BUFFER = [c_void_p, c_size_t]
@@ -149,12 +170,17 @@ def _functions() -> Iterator[Tuple[str, type, list]]:
     yield 'subject', SubjectReplyStruct, [c_uint64, c_uint64] + _LENT + _BUFFER
     yield 'write_listing', TextReplyStruct, _LENT + _BUFFER
     yield 'read_listing', TextReplyStruct, _LENT + _BUFFER
+    yield 'write_text', TextReplyStruct, [c_uint32] + _LENT + _BUFFER
+    yield 'read_text', TextReplyStruct, [c_uint32] + _LENT + _BUFFER
 
 
-# What a later library exports besides; `None` where this one does not.
+# What a library of version PLACES_SINCE or newer exports besides; `None` where an older one does not.
 _OPTIONAL = {
-    'write_text': (TextReplyStruct, [c_uint32] + _LENT + _BUFFER),
-    'read_text': (TextReplyStruct, [c_uint32] + _LENT + _BUFFER),
+    'locate_file': (FilePlaceStruct, [c_uint32] + _LENT),
+    'locate_request': (CallPlaceStruct, [LedgerStruct] + _REQUEST),
+    'locate_narrow': (CallPlaceStruct, [LedgerStruct] + _NARROW),
+    'locate_expand': (CallPlaceStruct, [LedgerStruct] + _EXPAND),
+    'locate_verdict': (VerdictPlaceStruct, 2 * _LENT),
 }
 
 

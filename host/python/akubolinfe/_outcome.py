@@ -2,9 +2,11 @@
 from __future__ import annotations
 
 import json
+from dataclasses import asdict
 from typing import Any, Dict, NamedTuple, Optional, Sequence
 
 from ._files import Trouble, shown
+from .places import FilePlace
 from .words import explain
 
 YES, NO, TROUBLE = 0, 1, 2
@@ -30,12 +32,18 @@ class Outcome(NamedTuple):
 
 
 class Refused(Trouble):
-    """A file that the library refuses by itself."""
+    """A file that the library refuses by itself: a text with the line at fault, or a file with the record."""
 
-    def __init__(self, path: str, refusal: int, line: int = 0) -> None:
-        place = f'{shown(path)}:{line}' if line else shown(path)
-        super().__init__(f'{place}: {explain(refusal)} (refusal {refusal})')
-        self.value = {'file': path, 'refusal': refusal, 'line': line, 'words': explain(refusal)}
+    def __init__(self, path: str, refusal: int, line: int = 0, place: Optional[FilePlace] = None) -> None:
+        named = f'{shown(path)}:{line}' if line else shown(path)
+        words = place.words if place is not None and place.part else explain(refusal)
+        super().__init__(f'{named}: {words} (refusal {refusal})')
+        self.value = {'file': path, 'refusal': refusal, 'line': line, 'words': explain(refusal), 'place': placed(place)}
+
+
+def placed(place: Any) -> Optional[Dict[str, Any]]:
+    """A place as JSON; None where there is none."""
+    return None if place is None or place else {**asdict(place), 'words': place.words}
 
 
 def status_of(refusal: int) -> int:

@@ -7,14 +7,14 @@ from __future__ import annotations
 
 from typing import Dict, Iterable, List, Mapping, NamedTuple, Optional, Sequence, Tuple, Union
 
-from . import _records
 from ._values import Bytes, Hash, hash_bytes, lent, number
+from .text import Text
 from .words import FACTS, PERMISSIONS, PROTECTIONS, SIGNATURES, SUITES
 
 
 def _made(kind: str, lines: Sequence[str]) -> bytes:
     """The file with these lines."""
-    read = _records.read(kind, ''.join(f'{line}\n' for line in lines).encode('utf-8'))
+    read = Text(kind).read(''.join(f'{line}\n' for line in lines).encode('utf-8'))
     if not read:
         line = lines[read.line - 1] if read.line <= len(lines) else 'the end'
         raise ValueError(f'{kind}: {read.words}: {line}')
@@ -22,7 +22,7 @@ def _made(kind: str, lines: Sequence[str]) -> bytes:
 
 
 def _lines(kind: str, content: Bytes) -> List[str]:
-    written = _records.write(kind, lent(content, kind))
+    written = Text(kind).write(lent(content, kind))
     if not written:
         raise ValueError(f'{kind}: refused with {written.refusal}: {written.words}')
     return written.content.decode('ascii').splitlines()

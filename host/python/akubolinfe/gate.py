@@ -318,6 +318,12 @@ class Cabinet:
         """The counts and times of one slot, 0 to 7."""
         return self.slots[number(slot, 'slot')]
 
+    def ledger(self, slot: int) -> Ledger:
+        """A ledger of its own with the counts and times of one slot, 0 to 7, and the counters that all slots share."""
+        slots, counters = self.numbers
+        counts, loaded, last = slots[number(slot, 'slot')]
+        return Ledger(counts, counters, loaded, last)
+
     def copy(self) -> 'Cabinet':
         """A cabinet of its own with the same numbers."""
         return Cabinet(*self.numbers)

@@ -9,12 +9,13 @@ import tempfile
 import time
 from typing import Any, Callable, Dict, Iterator, List, Optional, Sequence, Tuple
 
-from ._file_commands import load, load_km0
+from ._file_commands import limits_of, load, load_km0, text_of, why
 from ._files import Files, Trouble, reason, shown
 from ._library import SLOTS
-from ._outcome import NO, YES, Outcome, status_of
+from ._outcome import NO, YES, Outcome, placed, status_of
 from .answers import Reply, Run
 from .builders import Certificate
+from .places import CallPlace, locate_expand, locate_narrow, locate_request, supported
 from .store import Report, Store, StoreError, audit, export_store, import_store
 from .store.engines import engine_of
 from .store.state import State
@@ -65,10 +66,26 @@ def _moment(text: str) -> int:
     return int(text)
 
 
-def _replied(reply: Reply) -> Outcome:
-    words = f': {reply.words}' if reply.refusal else ''
-    value = {'permitted': bool(reply), 'refusal': reply.refusal, 'group': reply.group, 'words': reply.words}
-    return Outcome(status_of(reply.refusal), [f'{reply}{words}'], value)
+def _replied(reply: Reply, place: Optional[CallPlace] = None, limits: Sequence[List[str]] = ()) -> Outcome:
+    words = reply.words if place is None else why(place, list(limits))
+    value = {'permitted': bool(reply), 'refusal': reply.refusal, 'group': reply.group, 'words': reply.words, 'place': placed(place)}
+    return Outcome(status_of(reply.refusal), [f'{reply}: {words}' if reply.refusal else f'{reply}'], value)
+
+
+def _explained(store: Store, slot: int, reply: Reply, locate: Callable[..., CallPlace], *inputs: bytes) -> Outcome:
+    """A reply with what it is refused for, asked of the slot as it is: a refusal changes nothing. Without it where the
+    library does not say where, or where another call has come between."""
+    key = None
+    if reply.refusal and supported() and 0 <= slot < SLOTS:
+        state = store.state()
+        key = state.key(slot)
+    if key is None:
+        return _replied(reply)
+    acl = store.file(key.acl)
+    place = locate(state.cabinet.ledger(slot), key.km0, acl, *inputs)
+    if (place.refusal, place.group if reply.group is not None else None) != (reply.refusal, reply.group):
+        return _replied(reply)
+    return _replied(reply, place, limits_of(text_of('acl', 'ACL', acl)))
 
 
 def _ran(run: Run) -> Outcome:
@@ -119,7 +136,7 @@ def _load(args) -> Outcome:
 def _ask(args) -> Outcome:
     request = load(Files(), 'request', args.request)
     with _opened(args) as store:
-        return _replied(store.request(args.slot, request))
+        return _explained(store, args.slot, store.request(args.slot, request), locate_request, request)
 
 
 def _run(args) -> Outcome:
@@ -140,14 +157,14 @@ def _narrow(args) -> Outcome:
     files = Files()
     request, new, hints = load(files, 'request', args.request), load(files, 'acl', args.new), load(files, 'hints', args.hints)
     with _opened(args) as store:
-        return _replied(store.narrow(args.slot, request, new, hints))
+        return _explained(store, args.slot, store.narrow(args.slot, request, new, hints), locate_narrow, request, new, hints)
 
 
 def _expand(args) -> Outcome:
     files = Files()
     request, new = load(files, 'request', args.request), load(files, 'acl', args.new)
     with _opened(args) as store:
-        return _replied(store.expand(args.slot, request, new))
+        return _explained(store, args.slot, store.expand(args.slot, request, new), locate_expand, request, new)
 
 
 def _clear(args) -> Outcome:
@@ -301,7 +318,8 @@ _STATUSES = """exit status:
 def add(commands, shared: list) -> None:
     """Adds `store` and its subcommands to those of the command."""
     top = commands.add_parser('store', help='keep a cabinet: durable state, a log, an audit',
-                              description='Keeps a cabinet of eight keys in SQLite or PostgreSQL. Nothing is answered that is not durable.')
+                              description='Keeps a cabinet of eight keys in SQLite or PostgreSQL. Nothing is answered that is not durable.',
+                              epilog=f'example:\n  akubolinfe store ask cabinet.db 0 request\n\n{_STATUSES}')
     actions = top.add_subparsers(title='actions', metavar='ACTION', required=True, parser_class=type(top))
     for name, help, arguments, example, handler in _SUBCOMMANDS:
         added = actions.add_parser(name, help=help, description=f'{help[0].upper()}{help[1:]}.', parents=shared,

@@ -11,10 +11,6 @@ from .answers import Converted
 KINDS = ('acl', 'request', 'requests', 'bundle', 'hints')
 
 
-class Unsupported(NotImplementedError):
-    """The library that was found has no text form for this kind of file."""
-
-
 class Text:
     """The text form of one kind of file: `acl`, `request`, `requests`, `bundle` or `hints`.
 
@@ -41,13 +37,6 @@ class Text:
         return self._converted('read', lent(text, 'text'), ACL_BYTES)
 
     def _converted(self, way: str, given: bytes, room: int) -> Converted:
-        found = library()
         buffer = create_string_buffer(room)
-        whole = getattr(found, way + '_text')
-        if whole is not None:
-            reply = whole(KINDS.index(self.kind), given, len(given), buffer, len(buffer))
-        elif self.kind == 'acl':
-            reply = getattr(found, way + '_listing')(given, len(given), buffer, len(buffer))
-        else:
-            raise Unsupported(f'{found.path}: has a text form for ACLs only, not for {self.kind}')
+        reply = getattr(library(), way + '_text')(KINDS.index(self.kind), given, len(given), buffer, len(buffer))
         return Converted(reply.refusal, buffer.raw[: reply.length], reply.line)

@@ -12,8 +12,8 @@ from pathlib import Path
 
 sys.path.insert(0, str(Path(__file__).resolve().parent.parent))
 
-from akubolinfe import Cabinet, Form, Ledger, Reply, Text, attest, prepare, subject, trim  # noqa: E402
-from akubolinfe._library import CertificateStruct, library  # noqa: E402
+from akubolinfe import Cabinet, Form, Ledger, Reply, Text, attest, locate_file, locate_verdict, places, prepare, subject, trim  # noqa: E402
+from akubolinfe._library import NO_GROUP, CertificateStruct, library  # noqa: E402
 from akubolinfe.gate import _answers, _reply  # noqa: E402
 from akubolinfe.text import KINDS  # noqa: E402
 from akubolinfe.words import STEPS  # noqa: E402
@@ -88,6 +88,17 @@ def ledger_words(ledger):
     return f' load {loaded} last {last}{table("counts", counts)}{table("counters", counters)}'
 
 
+def index_of(number):
+    """An index, or None for all ones."""
+    return None if number == NO_GROUP else number
+
+
+def place_words(at):
+    """All numbers of a place."""
+    numbers = [index_of(getattr(at, name)) for name, _ in at._fields_]
+    return 'place ' + ' '.join('-' if number is None else str(number) for number in numbers)
+
+
 class Replay:
     """The ledger and the cabinet, which go from call to call."""
 
@@ -97,7 +108,9 @@ class Replay:
     def answer(self, letter):
         call = {'F': self.fresh, 'L': self.load, 'C': self.clear, 'R': self.ask, 'N': self.ask, 'X': self.ask, 'D': self.desk,
                 'S': self.subject, 'W': self.text, 'T': self.text, 'V': self.any_text, 'U': self.any_text, 'M': self.trim, 'P': self.prepare, 'B': self.run, 'Q': self.run,
-                'f': self.fresh_cabinet, 'l': self.slot, 'c': self.clear_shared, 'r': self.slot, 'n': self.slot, 'x': self.slot}.get(letter)
+                'f': self.fresh_cabinet, 'l': self.slot, 'c': self.clear_shared, 'r': self.slot, 'n': self.slot, 'x': self.slot, 'b': self.run_in_slot,
+                'q': self.run_in_slot, 'A': self.file_place, 'G': self.call_place, 'H': self.call_place, 'I': self.call_place, 'J': self.verdict_place,
+                'K': self.restore}.get(letter)
         if call is None:
             raise Stop
         return call(letter)
@@ -136,12 +149,15 @@ class Replay:
     def slot(self, letter):
         slot = self.script.number()
         call = ('load', self.script.number()) if letter == 'l' else self.asked(letter)
-        reply = self.cabinet_call(call[0], slot, *call[1:])
+        return f'{self.cabinet_call(call[0], slot, *call[1:])}{self.slot_words(slot)}'
+
+    def slot_words(self, slot):
+        """The slot that was called, where there is one, and the counters that the slots share."""
         slots, counters = self.cabinet.numbers
         called = ''
         if slot < len(slots):
             called = f' slot {slot} load {slots[slot].loaded} last {slots[slot].last}{table("counts", slots[slot].counts)}'
-        return f'{reply}{called}{table("counters", counters)}'
+        return f'{called}{table("counters", counters)}'
 
     def cabinet_call(self, name, first, *inputs):
         raw = inputs if not inputs or isinstance(inputs[0], int) else lent(*inputs)
@@ -217,8 +233,47 @@ class Replay:
             return f'refuse {form.refusal}'
         return f'form {struct.pack(">18Q", *form.uses, form.working, form.recovery).hex()}'
 
-    def run(self, letter):
-        form = [self.script.form()] if letter == 'Q' else []
+    def restore(self, _):
+        """One count or counter of the ledger, as a host sets it that restores a ledger."""
+        index, value = self.script.number(), self.script.number()
+        counts, counters, loaded, last = self.ledger.numbers
+        table = [*counts, *counters]
+        if index >= len(table) or value >= 1 << 32:
+            raise Stop
+        table[index] = value
+        self.ledger = Ledger(table[: len(counts)], table[len(counts) :], loaded, last)
+        return f'{Reply(0)}{ledger_words(self.ledger)}'
+
+    def file_place(self, _):
+        kind, content = self.script.number(), self.script.bytes()
+        at = LIBRARY.locate_file(min(kind, 2**32 - 1), *lent(content))
+        if kind < len(KINDS):
+            place = locate_file(KINDS[kind], content)
+            assert (place.refusal, place.record, bool(place)) == (at.refusal, index_of(at.record), bool(place.words) is False), 'place'
+        return place_words(at)
+
+    def call_place(self, letter):
+        name, *inputs = self.asked({'G': 'R', 'H': 'N', 'I': 'X'}[letter])
+        before = bytes(self.ledger._raw)
+        at = getattr(LIBRARY, 'locate_' + name)(self.ledger._raw, *lent(*inputs))
+        place = getattr(places, 'locate_' + name)(self.ledger, *inputs)
+        named = (place.refusal, place.record, place.group, place.item, bool(place))
+        assert named == (at.refusal, index_of(at.record), index_of(at.group), index_of(at.item), bool(place.words) is False), 'place'
+        reply = getattr(self.ledger.copy(), name)(*inputs)
+        assert reply.refusal == at.refusal and bytes(self.ledger._raw) == before, 'the call'
+        return place_words(at)
+
+    def verdict_place(self, _):
+        bundle, acl = self.script.bytes(), self.script.bytes()
+        at = LIBRARY.locate_verdict(*lent(bundle, acl))
+        place, verdict = locate_verdict(bundle, acl), attest(bundle, acl)
+        assert (place.refusal, place.step, bool(place)) == (verdict.refusal, verdict.step, bool(place.words) is False), 'the verdict'
+        assert (place.record, place.group, place.action) == (index_of(at.record), index_of(at.group), index_of(at.action)), 'place'
+        return place_words(at)
+
+    def asked_run(self, letter):
+        """The form of a run, if it has one, its inputs, its buffer, its name, and what the library is lent."""
+        form = [self.script.form()] if letter in 'Qq' else []
         km0, acl, row, requests = self.script.bytes(), self.script.bytes(), self.script.row(), self.script.bytes()
         buffer = buffer_of(self.script.bytes())
         name = 'prepared_run' if form else 'run'
@@ -226,6 +281,25 @@ class Replay:
         for entry, (key, mechanism) in zip(structs, row):
             entry.hash[:], entry.mechanism = key, mechanism
         raw = [*lent(km0, acl), structs, len(row), *(f._raw for f in form), *lent(requests)]
+        return form, (km0, acl, row, requests), buffer, name, raw
+
+    def run_in_slot(self, letter):
+        slot = self.script.number()
+        form, (km0, acl, row, requests), buffer, name, raw = self.asked_run(letter)
+        same = buffer_of(b'' if buffer is None else buffer.raw)
+        by_value = getattr(LIBRARY, 'cabinet_' + name)(self.cabinet._raw, slot, *raw, *lent_buffer(same))
+        whole = self.cabinet.copy()
+        made = getattr(LIBRARY, f'cabinet_{name}_in_place')(self.cabinet._ref, slot, *raw, *lent_buffer(buffer))
+        after = bytes(self.cabinet._raw)
+        assert (by_value.refusal, by_value.count, bytes(by_value.cabinet), digits(same)) == (made.refusal, made.count, after, digits(buffer)), 'by value'
+        if made.refusal != 9:
+            run = getattr(whole, name)(slot, km0, acl, row, *form, requests)
+            answers = _answers(buffer, made.count) if made.count else ()
+            assert (run.refusal, run.answers, bytes(whole._raw)) == (made.refusal, answers, after), 'the package'
+        return f'{self.counted(made)} {digits(buffer)}{self.slot_words(slot)}'
+
+    def run(self, letter):
+        form, (km0, acl, row, requests), buffer, name, raw = self.asked_run(letter)
         by_value = getattr(LIBRARY, name)(self.ledger._raw, *raw, *lent_buffer(buffer_of(b'' if buffer is None else buffer.raw)))
         before = self.ledger.copy()
         made = getattr(LIBRARY, name + '_in_place')(self.ledger._ref, *raw, *lent_buffer(buffer))

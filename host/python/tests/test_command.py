@@ -12,10 +12,16 @@ from unittest import mock
 from .support import ACL, BUNDLE, DAY, FAILING_ACL, FAILING_BUNDLE, GROUP, SIGN_GROUP, command, environment, use
 
 from akubolinfe import explain, read_bundle
+from akubolinfe.places import supported
 
 H = 'c1' * 20
 DESK = ('--bundle', BUNDLE, '--acl', ACL)
 FAILING = ('--bundle', FAILING_BUNDLE, '--acl', FAILING_ACL)
+
+
+def worded(key, place):
+    """The words of a refusal or a step: where it is, if the library says where."""
+    return place if supported() else explain(key)
 
 
 class CommandTest(unittest.TestCase):
@@ -65,7 +71,7 @@ class AttestTest(CommandTest):
 
     def test_failed(self):
         out, _ = self.ran(1, 'attest', *FAILING)
-        self.assertEqual(out.splitlines()[0], f'FAILED     ACLV3: {explain("ACLV3")}')
+        self.assertEqual(out.splitlines()[0], f'FAILED     ACLV3: {worded("ACLV3", "group 0 action 0: ExportAsPlain is not admitted by the policy")}')
         self.assertEqual(out.splitlines()[-1], f'next       akubolinfe trim --bundle {FAILING_BUNDLE} --acl {FAILING_ACL} --dry-run')
         value = self.json(1, 'attest', *FAILING)
         self.assertEqual((value['accepted'], value['step']), (False, 'ACLV3'))
@@ -119,7 +125,7 @@ class AttestTest(CommandTest):
         bundle = bytearray(BUNDLE.read_bytes())
         bundle[-60] = 9
         out, _ = self.ran(2, 'attest', '--bundle', self.path('b', bundle), '--acl', ACL)
-        self.assertEqual(out.splitlines()[0], f'REFUSED    11: {explain(11)}')
+        self.assertEqual(out.splitlines()[0], f'REFUSED    11: {worded(11, f"bundle: record {len(bundle) // 64 - 1}: {explain(11)}")}')
         value = self.json(2, 'attest', '--bundle', self.path('b', b'\x0a'), '--acl', ACL)
         self.assertEqual((value['refusal'], value['words'], 'error' in value), (1, explain(1), True))
 
@@ -149,7 +155,7 @@ class TrimTest(CommandTest):
         bundle[14 * 64 + 5] = 0
         words = ('--bundle', self.path('b', bundle), '--acl', FAILING_ACL, '--new', self.path('n'), '--hints', self.path('h'))
         out, _ = self.ran(1, 'trim', *words)
-        self.assertEqual(out.splitlines()[0], f'FAILED     WV1: {explain("WV1")}')
+        self.assertEqual(out.splitlines()[0], f'FAILED     WV1: {worded("WV1", "signature warrant is not good")}')
         self.assertEqual(self.json(1, 'trim', *words)['step'], 'WV1')
         self.assertFalse(self.path('n').exists() or self.path('h').exists())
 
@@ -348,7 +354,7 @@ class TroubleTest(CommandTest):
         os.close(slave)
 
     def test_an_error_of_the_program_is_trouble(self):
-        with mock.patch('akubolinfe._file_commands.fault', side_effect=ZeroDivisionError('no')):
+        with mock.patch('akubolinfe._file_commands.place', side_effect=ZeroDivisionError('no')):
             self.assertEqual(self.troubled('acl', 'check', ACL), 'akubolinfe: internal error: ZeroDivisionError: no\n')
 
     def test_lost_errors(self):

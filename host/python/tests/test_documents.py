@@ -27,6 +27,12 @@ class DocumentsTest(unittest.TestCase):
                 self.assertIn(names[-1], page)
         self.assertIn('.SH EXIT STATUS', page)
 
+    def test_every_command_has_an_example_and_json(self):
+        for words, parser in documents.paths(command.parser()):
+            self.assertIn('example:\n  akubolinfe ', parser.format_help(), words)
+        for words, parser in documents.leaves(command.parser()):
+            self.assertIn('--json', parser.format_help(), words)
+
     @unittest.skipUnless(shutil.which('groff'), 'groff is not installed')
     def test_the_manual_is_good_roff(self):
         ran = subprocess.run(['groff', '-man', '-Tutf8', '-ww'], input=self.manual.encode(), stdout=subprocess.PIPE, stderr=subprocess.PIPE)

@@ -1,13 +1,10 @@
 """Files as text: both ways, what is refused, and that the library finds good what is read."""
 import random
 import unittest
-from types import SimpleNamespace
-from unittest import mock
 
-from .support import ACL, BUNDLE, CRATES, DAY, FAILING_ACL, FAILING_BUNDLE, GROUP, record, use
+from .support import ACL, BUNDLE, CRATES, DAY, FAILING_ACL, FAILING_BUNDLE, GROUP, KM0, REDUCE, record, use
 
-from akubolinfe import Converted, Text, Unsupported, _records, fault, trim
-from akubolinfe._library import library
+from akubolinfe import Converted, Ledger, Text, attest, fault, prepare, trim
 
 H, I = 'ab' * 20, '0123456789abcdef0123' * 2
 KINDS = ('request', 'requests', 'bundle', 'hints')
@@ -69,6 +66,20 @@ BAD = {
 }
 
 
+def judged(kind, content):
+    """The fault of a file by a call in which everything else is good and nothing is permitted."""
+    if kind == 'requests':
+        run = Ledger().prepared_run(KM0, b'', (), prepare(b''), content)
+        return run.refusal or max((answer.refusal for answer in run.answers if answer.refusal in (1, 2, 3)), default=0)
+    if kind == 'bundle':
+        number = attest(content, b'').refusal
+    elif kind == 'hints':
+        number = Ledger().narrow(KM0, b'', use(REDUCE, 0), b'', content).refusal
+    else:
+        number = Ledger().request(KM0, b'', content).refusal
+    return number if number in (1, 2, 3) else 0
+
+
 class AclTest(unittest.TestCase):
     def test_both_ways(self):
         for acl in (ACL, FAILING_ACL, DAY[1], CRATES / 'list' / 'data' / 'acl'):
@@ -88,82 +99,52 @@ class AclTest(unittest.TestCase):
         self.assertRaises(ValueError, Text, 'certificate')
         self.assertRaises(TypeError, Text('acl').read, 'group\n')
 
-    def test_other_kinds_are_the_librarys_alone(self):
-        if library().write_text is not None:
-            self.skipTest('the library has a text form for every kind of file')
-        for kind in KINDS:
-            self.assertRaises(Unsupported, Text(kind).write, b'')
-            self.assertRaises(NotImplementedError, Text(kind).read, b'')
-
-
-class LaterLibraryTest(unittest.TestCase):
-    """A library that has a text form for every kind of file is asked for it, and nothing is converted here."""
-
-    def test_every_kind_is_asked_of_the_library(self):
-        asked = []
-
-        def answer(name):
-            def call(kind, given, length, buffer, room):
-                asked.append((name, kind, given[:length]))
-                buffer[0:3] = b'abc'
-                return SimpleNamespace(refusal=0, line=0, length=3)
-            return call
-
-        later = SimpleNamespace(write_text=answer('write'), read_text=answer('read'))
-        with mock.patch('akubolinfe.text.library', return_value=later):
-            for kind in ('acl', *KINDS):
-                self.assertEqual(_records.write(kind, b'x'), Converted(0, b'abc'))
-                self.assertEqual(_records.read(kind, b'y'), Converted(0, b'abc'))
-        expected = [(name, kind, given) for kind in range(5) for name, given in (('write', b'x'), ('read', b'y'))]
-        self.assertEqual(asked, expected)
-
 
 class RecordsTest(unittest.TestCase):
     def test_good_texts(self):
         for kind, texts in GOOD.items():
             for text in texts:
-                read = _records.read(kind, text.encode())
+                read = Text(kind).read(text.encode())
                 self.assertTrue(read, (kind, text[:200], read))
                 self.assertEqual(len(read.content), 64 * text.count('\n'))
                 self.assertEqual(fault(kind, read.content), 0)
-                self.assertEqual(_records.write(kind, read.content), Converted(0, text.encode()))
+                self.assertEqual(Text(kind).write(read.content), Converted(0, text.encode()))
 
     def test_bad_texts(self):
         for kind, rows in BAD.items():
             for text, line in rows:
-                self.assertEqual(_records.read(kind, text.encode('latin-1')), Converted(15, line=line), (kind, text[:200]))
+                self.assertEqual(Text(kind).read(text.encode('latin-1')), Converted(15, line=line), (kind, text[:200]))
 
     def test_the_files_that_ship(self):
         hints = trim(FAILING_BUNDLE.read_bytes(), FAILING_ACL.read_bytes()).hints
         for kind, content in (('bundle', BUNDLE.read_bytes()), ('requests', DAY[2].read_bytes()), ('hints', hints)):
-            text = _records.write(kind, content)
-            self.assertEqual(_records.read(kind, text.content), Converted(0, content))
+            text = Text(kind).write(content)
+            self.assertEqual(Text(kind).read(text.content), Converted(0, content))
 
     def test_bad_files(self):
         for kind, content, number in (
                 ('request', b'', 2), ('request', b'x', 1), ('request', use(4, 1) * 51, 1), ('request', use(16, 1), 2), ('requests', use(4, 1) * 1001, 1),
                 ('requests', use(4, 1) + record(9), 2), ('requests', record(7, at2=b'\0\x40'), 2), ('bundle', b'', 2), ('bundle', b'x', 1),
                 ('bundle', BUNDLE.read_bytes()[:-64], 2), ('hints', record(13) * 65, 1), ('hints', record(13, at5=b'\1'), 2), ('hints', record(12), 2)):
-            self.assertEqual(_records.write(kind, content), Converted(number), (kind, content[:70]))
+            self.assertEqual(Text(kind).write(content), Converted(number), (kind, content[:70]))
 
     def test_changed_files(self):
-        """Of a file with a byte changed, a record moved, lost or repeated: the library finds it good exactly if it has a text
-        that reads back to it, and the text with a bad line put in is refused there."""
+        """Of a file with a byte changed, a record moved, lost or repeated: its fault is the number that the gate or the desk
+        gives, and without fault its text reads back to it; the text with a bad line put in is refused there."""
         source, tried = random.Random(1), {True: 0, False: 0}
         for kind, texts in GOOD.items():
-            for content in [_records.read(kind, text.encode()).content for text in texts] * 20:
+            for content in [Text(kind).read(text.encode()).content for text in texts] * 20:
                 changed = self.changed(source, content[: 64 * 60])
-                lines = [_records._line_of(changed[at : at + 64]) for at in range(0, len(changed), 64)]
-                text = ''.join(f'{line}\n' for line in lines).encode()
-                read = _records.read(kind, text)
-                self.assertEqual(fault(kind, changed) == 0, bool(read), (kind, changed.hex()))
-                tried[bool(read)] += 1
-                if read:
-                    self.assertEqual(read.content, changed)
-                    self.assertEqual(_records.write(kind, changed).content, text)
+                number = fault(kind, changed)
+                self.assertEqual(number, judged(kind, changed), (kind, changed.hex()))
+                tried[number == 0] += 1
+                if number == 0:
+                    text = Text(kind).write(changed).content
+                    self.assertEqual(Text(kind).read(text), Converted(0, changed))
+                    lines = text.splitlines(keepends=True)
                     place = source.randrange(len(lines) + 1)
-                    wrong = b''.join(line.encode() + b'\n' for line in [*lines[:place], 'wrong', *lines[place:]])
-                    self.assertEqual(_records.read(kind, wrong), Converted(15, line=place + 1))
+                    wrong = b''.join([*lines[:place], b'wrong\n', *lines[place:]])
+                    self.assertEqual(Text(kind).read(wrong), Converted(15, line=place + 1))
         self.assertGreater(min(tried.values()), 50)
 
     @staticmethod
@@ -182,15 +163,13 @@ class RecordsTest(unittest.TestCase):
         return b''.join(map(bytes, records))
 
     def test_every_value_of_every_byte(self):
-        """Of each kind of record that a file begins with, every byte with every value: the library and the text agree."""
+        """Of each kind of record that a file begins with, every byte with many values: the text and the call agree."""
         begin = {'request': ('use Sign time 1\n', f'blob kmhash {H} token {I} needed 2 total 3 seconds 9 time 5\n', f'recovery kahash {H} mechanism 4 time 5\n'),
                  'hints': ('hint group 1 actions 0 1 2 3 4 5 6 7\n',), 'bundle': ('policy suite 3 approach 2 signing protection 2\n',)}
         for kind, texts in begin.items():
             for text in texts:
-                content = _records.read(kind, text.encode()).content
+                content = Text(kind).read(text.encode()).content
                 for place in range(64):
                     for value in (0, 1, 2, 3, 4, 5, 8, 15, 16, 63, 64, 65, 128, 255):
                         changed = content[:place] + bytes([value]) + content[place + 1 :]
-                        line = _records._line_of(changed)
-                        good = line is not None and bool(_records.read(kind, f'{line}\n'.encode()))
-                        self.assertEqual(fault(kind, changed) == 0, good, (kind, place, value))
+                        self.assertEqual(fault(kind, changed), judged(kind, changed), (kind, place, value))
