@@ -11,13 +11,12 @@ use lib.ListN.{length, take, drop, getD}
 use lib.Pow.{pow-mono}
 use lib.Dec.{eqb}
 use Rattle.rules.specs.Sizes.{chainMax}
-use Rattle.rules.specs.Basics.{if_then_else_, Bytes, any, same, bit, part, number, byte, kind, flag, optional, matchesNumber, records, recordsFrom}
+use Rattle.rules.specs.Basics.{Bytes, any, same, bit, part, number, byte, kind, flag, optional, matchesNumber, records, recordsFrom}
 use Rattle.rules.specs.Acl.{groupOf}
 use Rattle.rules.specs.Request.{Blobfile, blobfileNext, wantedOf, Certificate, certificateOf, certificatesOf, Delegation, delegationOf, delegationsOf, Request, requestOf}
 use Rattle.rules.specs.Chain.{serves, holds, chained, delegated, vouched}
 use Rattle.rules.specs.Grant.{certified}
 use Rattle.request_reader.specs.Parts.{Parted}
-use Rattle.gate_certification.specs.Levels.{startsAt, continues}
 use Rattle.rules.proofs.Rows.{wanted-first, rows-lent, rows-end, lentRecord, lent-record, kind-at}
 
 -- no number of sixteen bits has a bit past the sixteenth
@@ -36,27 +35,6 @@ module _ (p n : ℕ) (del : Bytes) (e : n ≡ number 44 2 del) where
   unfolding holds
   holds-is a d = rw e at d
 
--- The mark of a delegation.
-module _ (p : ℕ) (k : Bytes) (ds : List Delegation) (set : ℕ) (del : Bytes) (a : Bool) (held : a ≡ holds p (delegationOf del)) where
-  pub mark-out : not a ≡ true → _≡_ {A = ℕ} 0 (if continues p k ds set (delegationOf del) then 1 else 0)
-  unfolding continues
-  mark-out h = sym (rw (sym held ∙ not-true a h))
-
-  pub mark-off : (b : Bool) → b ≡ startsAt k ds set (part 4 20 del) → not a ≡ false → not b ≡ true → _≡_ {A = ℕ} 0 (if continues p k ds set (delegationOf del) then 1 else 0)
-  unfolding continues
-  mark-off b d h t = sym (rw (sym held ∙ not-false a h, sym d ∙ not-true b t))
-
-  pub mark-on : (b : Bool) → b ≡ startsAt k ds set (part 4 20 del) → not a ≡ false → not b ≡ false → _≡_ {A = ℕ} 1 (if continues p k ds set (delegationOf del) then 1 else 0)
-  unfolding continues
-  mark-on b d h t = sym (rw (sym held ∙ not-false a h, sym d ∙ not-false b t))
-
-one-bit : (b : Bool) (m : ℕ) → m ≡ (if b then 1 else 0) → m ≤ 1
-one-bit true m e = omega arith
-one-bit false m e = omega arith
-
-pub mark-small : (p : ℕ) (k : Bytes) (ds : List Delegation) (set : ℕ) (d : Delegation) (m : ℕ) → m ≡ (if continues p k ds set d then 1 else 0) → m ≤ 1
-mark-small p k ds set d m e = one-bit (continues p k ds set d) m e
-
 -- a field that a flag announces
 module _ (u : Bool) (m n : ℕ) where
   pub number-absent : not u ≡ true → true ≡ matchesNumber (optional u m) n
@@ -70,10 +48,14 @@ module _ (k g c : Bytes) (a : Bool) (p : a ≡ same (part 4 20 c) k) where
   unfolding serves
   serves-not e = sym (rw (sym p ∙ not-true a e))
 
-  pub serves-is : (f b : Bool) (m n : ℕ) → not a ≡ false → f ≡ flag 1 g → m ≡ number 24 2 g → n ≡ number 24 2 c → b ≡ matchesNumber (optional f m) n
-      → b ≡ serves k (optional (flag 1 g) (number 24 2 g)) (certificateOf c)
+  pub serves-is : (b : Bool) → not a ≡ false → b ≡ matchesNumber (optional (flag 1 g) (number 24 2 g)) (number 24 2 c) → b ≡ serves k (optional (flag 1 g) (number 24 2 g)) (certificateOf c)
   unfolding serves
-  serves-is f b m n e q r s t = rw (t, q, r, s) (sym (rw (sym p ∙ not-false a e)))
+  serves-is b e t = t ∙ sym (rw (sym p ∙ not-false a e))
+
+-- the mechanism of a certificate, by what is read of the two records
+pub mechanism-is : (g c : Bytes) (f b : Bool) (m n : ℕ) → f ≡ flag 1 g → m ≡ number 24 2 g → n ≡ number 24 2 c → b ≡ matchesNumber (optional f m) n
+    → b ≡ matchesNumber (optional (flag 1 g) (number 24 2 g)) (number 24 2 c)
+mechanism-is g c f b m n q r s t = rw (t, q, r, s)
 
 -- A loop over certificates.
 module _ (p : Certificate → Bool) (s : Bytes) (at : ℕ) (x : Bool) (inv : any p (certificatesOf (recordsFrom s at)) ≡ x) where

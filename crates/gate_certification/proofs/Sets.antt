@@ -1,4 +1,4 @@
--- Sets of delegations, as numbers: laws for loops that read a set or make one (specs/Levels.antt).
+-- Sets of delegations, as numbers: laws for loops that make one (specs/Levels.antt).
 use Prim.Native.Nat.{ℕ, _+_, _-_, _*_, _/_, _%_, _^_, _<_, _≤_}
 use native.Mathlib.Omega.{arith}
 use mathlib.Core.Path.{_≡_, refl, sym, _∙_, ap}
@@ -13,41 +13,6 @@ use Rattle.rules.specs.Request.{Delegation, delegationOf, delegationsOf}
 use Rattle.rules.proofs.Laws.{chunks-length}
 use Rattle.rules.proofs.Rows.{rows-start, rows-lent, rows-end, lentRecord, lent-record, kind-at}
 use Rattle.rules.proofs.Sets.{set-bits}
-use Rattle.gate_certification.specs.Levels.{anyIn}
-
--- A loop that reads a set, from the first delegation on: what is left of the set has the whole's answer.
-module _ (test : Delegation → Bool) (s : Bytes) (at set : ℕ) (x : Bool) (inv : anyIn set test (delegationsOf (recordsFrom s at)) ≡ x) where
-  dels-step : 64 ≤ length s - at → getD s at 0 ≡ 14 → delegationsOf (recordsFrom s at) ≡ delegationOf (lentRecord s at) ∷ delegationsOf (recordsFrom s (at + 64))
-  unfolding delegationsOf
-  dels-step h e = ap delegationsOf (rows-lent s at h) ∙ rw (lent-record s at, kind-at s at, eq-eqb (getD s at 0) 14 e)
-
-  pub dels-skip : 64 ≤ length s - at → (getD s at 0 ≡ 14 → ⊥) → anyIn set test (delegationsOf (recordsFrom s (at + 64))) ≡ x
-  unfolding delegationsOf
-  dels-skip h n =
-      sym (ap (λ (l : List Bytes). anyIn set test (delegationsOf l)) (rows-lent s at h) ∙ rw (lent-record s at, kind-at s at, ne-eqb (getD s at 0) 14 n)) ∙ inv
-
-  -- one that is not in the set
-  pub dels-out : 64 ≤ length s - at → getD s at 0 ≡ 14 → (set % 2 ≡ 1 → ⊥) → anyIn (set / 2) test (delegationsOf (recordsFrom s (at + 64))) ≡ x
-  unfolding anyIn
-  dels-out h e n = sym (ap (anyIn set test) (dels-step h e) ∙ rw (ne-eqb (set % 2) 1 n)) ∙ inv
-
-  -- one that is, and passes, or does not
-  pub dels-found : (t : Bool) → 64 ≤ length s - at → getD s at 0 ≡ 14 → set % 2 ≡ 1 → t ≡ test (delegationOf (lentRecord s at)) → t ≡ true → true ≡ x
-  unfolding anyIn
-  dels-found t h e o d y =
-      let q : test (delegationOf (lentRecord s at)) ≡ true = sym d ∙ y in
-      sym (ap (anyIn set test) (dels-step h e) ∙ rw (eq-eqb (set % 2) 1 o, q)) ∙ inv
-
-  pub dels-next : (t : Bool) → 64 ≤ length s - at → getD s at 0 ≡ 14 → set % 2 ≡ 1 → t ≡ test (delegationOf (lentRecord s at)) → t ≡ false
-      → anyIn (set / 2) test (delegationsOf (recordsFrom s (at + 64))) ≡ x
-  unfolding anyIn
-  dels-next t h e o d y =
-      let q : test (delegationOf (lentRecord s at)) ≡ false = sym d ∙ y in
-      sym (ap (anyIn set test) (dels-step h e) ∙ rw (eq-eqb (set % 2) 1 o, q)) ∙ inv
-
-  pub dels-done : length s - at < 64 → false ≡ x
-  unfolding anyIn delegationsOf
-  dels-done h = sym (ap (λ (l : List Bytes). anyIn set test (delegationsOf l)) (rows-end s at h)) ∙ inv
 
 -- A loop that makes a set, from the last delegation back to the first: `at` is the byte at which the last record read begins, and a turn goes to
 -- `at - 64`.

@@ -12,6 +12,7 @@ ghost use Rattle.rules.specs.Grant.{certified, counterLeft, limitLeft, limitsLe
 ghost use Rattle.rules.specs.Gate.{judge};
 ghost use Rattle.gate_decision.specs.Standings.{isGranting, nearer, denialOf, judgedFrom, groupResult, recordResult, seenAfter, someAfter, heldAfter, Remembered, judgedFor, ledgerOfTables, NextGroup};
 ghost use Rattle.request_reader.specs.Parts.{Sound};
+ghost use Rattle.gate_certification.specs.Levels.{Linked};
 use refusals::Denial;
 
 // A full count: one more would not fit.
@@ -96,10 +97,19 @@ pub fn is_unspent(counters: &[u32], own: u32, elapsed: u64, body: &[u8]) -> bool
     (own < FULL) & limits_left(counters, own, elapsed, body)
 }
 
-// Whether a group is certified, by its first record; a record that is the same as that of the last group that was looked at has the same answer, `held`,
+// Whether a group is certified, by its first record and the request's tables of what leads where; a record that is the same as that of the last group that was looked at has the same answer, `held`,
 // and no chain is searched for it again. `some` is whether there is such a group.
-fn certified_as(group: &[u8], req: &[u8], last: &[u8], some: bool, held: bool) -> bool
-    requires { ⌜ Sound (now req) × (length (now group) ≡ recordBytes) × Remembered (requestOf (now req)) (now last) some held ⌝ }
+fn certified_as(
+    group: &[u8],
+    req: &[u8],
+    start: usize,
+    links: &[u64; gate_certification::TABLE],
+    shown: &[u64; gate_certification::TABLE],
+    last: &[u8],
+    some: bool,
+    held: bool,
+) -> bool
+    requires { ⌜ Sound (now req) × (length (now group) ≡ recordBytes) × Remembered (requestOf (now req)) (now last) some held × Linked (now req) start (now links) (now shown) ⌝ }
     ensures { λ r. ⌜ r ≡ certified (requestOf (now (req .entry))) (groupOf (now (group .entry)) []) ⌝ }
 {
     if some {
@@ -107,7 +117,7 @@ fn certified_as(group: &[u8], req: &[u8], last: &[u8], some: bool, held: bool) -
             return held;
         }
     }
-    gate_certification::is_certified(group, req)
+    gate_certification::is_certified(group, req, start, links, shown)
 }
 
 // How far a group comes with a request: its first record, the records that follow it, and its own count.
@@ -117,20 +127,23 @@ fn group_result(
     elapsed: u64,
     km0: &[u8],
     req: &[u8],
+    start: usize,
+    links: &[u64; gate_certification::TABLE],
+    shown: &[u64; gate_certification::TABLE],
     group: &[u8],
     body: &[u8],
     last: &[u8],
     some: bool,
     held: bool,
 ) -> GroupResult
-    requires { ⌜ Sound (now req) × (length (now group) ≡ recordBytes) × Remembered (requestOf (now req)) (now last) some held ⌝ }
+    requires { ⌜ Sound (now req) × (length (now group) ≡ recordBytes) × Remembered (requestOf (now req)) (now last) some held × Linked (now req) start (now links) (now shown) ⌝ }
     ensures { λ r. ⌜ r ≡ recordResult (now (counters .entry)) own elapsed (now (km0 .entry)) (requestOf (now (req .entry))) (now (group .entry)) (records (now (body .entry))) ⌝ }
 {
     let rest = &req[record_sizes::RECORD..];
     if !gate_admission::group_admits(km0, &req[0..record_sizes::RECORD], rest, body) {
         return GroupResult::NotAdmitting;
     }
-    if !certified_as(group, req, last, some, held) {
+    if !certified_as(group, req, start, links, shown, last, some, held) {
         return GroupResult::Admitting;
     }
     if !is_unspent(counters, own, elapsed, body) {
@@ -256,8 +269,11 @@ fn judge_groups(
     km0: &[u8],
     req: &[u8],
     acl: &[u8],
+    start: usize,
+    links: &[u64; gate_certification::TABLE],
+    shown: &[u64; gate_certification::TABLE],
 ) -> Judged
-    requires { ⌜ Sound (now req) ⌝ }
+    requires { ⌜ Sound (now req) × Linked (now req) start (now links) (now shown) ⌝ }
     ensures { λ r. ⌜ r ≡ judgedFrom (groupResult (now (counts .entry)) (now (counters .entry)) elapsed (now (km0 .entry)) (requestOf (now (req .entry)))) Nearest.Nothing 0 (aclOf (now (acl .entry))) ⌝ }
 {
     let mut near = Nearest::Nothing;
@@ -277,6 +293,9 @@ fn judge_groups(
             elapsed,
             km0,
             req,
+            start,
+            links,
+            shown,
             group,
             body,
             last,
@@ -317,5 +336,18 @@ pub fn judge_request<'a>(
     if time < last {
         return Judged::Denied(Denial::ClockBack);
     }
-    judge_groups(counts, counters, time - loaded, km0, req, acl)
+    let mut links = [0u64; gate_certification::TABLE];
+    let mut shown = [0u64; gate_certification::TABLE];
+    let start = gate_certification::link(&mut links, &mut shown, req);
+    judge_groups(
+        counts,
+        counters,
+        time - loaded,
+        km0,
+        req,
+        acl,
+        start,
+        &links,
+        &shown,
+    )
 }

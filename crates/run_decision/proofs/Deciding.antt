@@ -1,5 +1,5 @@
 -- The judgement of a request record by sets of groups: what the code's tests and calls say of it.
-use Prim.Native.Nat.{ℕ, zero, suc, _-_, _/_, _^_, _≤_, _<_}
+use Prim.Native.Nat.{ℕ, zero, suc, _-_, _*_, _/_, _^_, _≤_, _<_}
 use native.Mathlib.Omega.{arith}
 use native.Mathlib.Nat.{pow-suc, lt-of-lt-of-le}
 use mathlib.Core.Path.{_≡_, refl, sym, _∙_, ap}
@@ -14,10 +14,10 @@ use lib.Pow.{pow-mono}
 use Rattle.rules.specs.Sizes.{groupsMax, setBits}
 use Rattle.rules.specs.Basics.{if_then_else_, Bytes, any, kind, byte, number, part, setOf, records}
 use Rattle.rules.specs.Layout.{useLaidOut}
-use Rattle.rules.specs.Acl.{Action, limitsOf, actionsOf, Group, groupOf, aclOf}
+use Rattle.rules.specs.Acl.{Action, limitsOf, actionsOf, Group, groupOf, aclOf, aclFault}
 use Rattle.rules.specs.Request.{Wanted, workingBlob, recoveryBlob, WorkingBlob, RecoveryBlob, Blobfile, workingBlobOf, recoveryBlobOf, wantedOf, requestLaidOut}
 use Rattle.rules.specs.Ledger.{Ledger}
-use Rattle.rules.specs.Grant.{admits}
+use Rattle.rules.specs.Grant.{admits, unspentWith}
 use Rattle.rules.specs.Desk.{isArchive}
 use Rattle.rules.specs.Runs.{requestWith}
 use Rattle.rules.specs.Prepared.{isBlobAction, formOf}
@@ -29,6 +29,9 @@ use Rattle.run_decision.proofs.GroupSets.{first-done}
 use Rattle.rules.proofs.Forms.{form-use, any-part, working-part, recovery-part}
 use Rattle.rules.proofs.AclSizes.{acl-fits}
 use Rattle.run_form.specs.Places.{Inside, Offsets}
+use Rattle.run_limits.specs.Rows.{Fits, Rows}
+use Rattle.run_limits.proofs.Filling.{group-fits}
+use Rattle.run_limits.proofs.Meaning.{row-left-is}
 use Rattle.gate_decision.specs.declared.Judged.{Judged}
 use Rattle.gate_decision.specs.declared.Judged.the-variants.{Denied}
 use Rattle.refusals.specs.declared.Denial.the-variants.{ClockBack}
@@ -52,10 +55,13 @@ module _ (acl : Bytes) (bodies : List ℕ) (b : Offsets acl bodies) where
       let s = some-same g _ (sym e ∙ at-place k (there-below (aclOf acl) k g e)) in
       (ap (λ (x : Group). x .limits) s, ap (λ (x : Group). x .actions) s)
 
-  pub left-is : (l : Ledger) (r : Bytes) (elapsed k : ℕ) → elapsed ≡ number 56 8 r - l .loaded → k < length (aclOf acl)
-      → leftAt (l .counts) (l .counters) elapsed acl bodies k ≡ unspentAt l (requestWith r []) (aclOf acl) k
+  pub left-is : (rows : List ℕ) (l : Ledger) (r : Bytes) (elapsed k : ℕ) → aclFault (records acl) ≡ none → Rows acl bodies rows → elapsed < 18446744073709551616
+      → elapsed ≡ number 56 8 r - l .loaded → k < length (aclOf acl) → leftAt (l .counts) (l .counters) elapsed rows k ≡ unspentAt l (requestWith r []) (aclOf acl) k
   unfolding leftAt
-  left-is l r elapsed k e h = rw (e, at-place k h)
+  left-is rows l r elapsed k sound t late e h =
+      let ms = limitsOf (records (drop (getD bodies k 0) acl)) in
+      let a : unspentAt l (requestWith r []) (aclOf acl) k ≡ unspentWith (l .counters) (getD (l .counts) k 0) elapsed ms = rw (e, at-place k h) in
+      row-left-is (l .counters) (getD (l .counts) k 0) elapsed (omega arith) rows (k * 8) ms (group-fits acl bodies sound b k h .each) (t .filled k h) ∙ sym a
 
 -- two tests that agree on the places of a set of m bits
 first-alike : (t u : ℕ → Bool) (w m n : ℕ) → n < 2 ^ m → ((k : ℕ) → k < m → t k ≡ u k) → firstIn t w n ≡ firstIn u w n
@@ -87,15 +93,15 @@ module _ (counts counters : List ℕ) (loaded last : ℕ) (km0 : Bytes) (gs : Li
   unfolding setJudge
   judged-late k h = sym (rw (← e, le-ltb time loaded k, lt-ltb time last h))
 
-pub judged-sets : (counts counters : List ℕ) (loaded last : ℕ) (km0 acl : Bytes) (bodies uses : List ℕ) (working recovery c : ℕ) (r : Bytes) (time a : ℕ) (j : Judged)
-    → Ready acl bodies uses working recovery → time ≡ number 56 8 r → loaded ≤ time → last ≤ time → a ≡ admittingSet km0 (wantedOf r none) (aclOf acl)
-    → j ≡ judgedFor (judgedBySets (aclOf acl) a c (leftAt counts counters (time - loaded) acl bodies)) → j ≡ judgedFor (setJudge (ledgerOfTables counts counters loaded last) km0 (aclOf acl) c r)
+pub judged-sets : (counts counters : List ℕ) (loaded last : ℕ) (km0 acl : Bytes) (bodies uses rows : List ℕ) (working recovery c : ℕ) (r : Bytes) (time a : ℕ) (j : Judged)
+    → Ready acl bodies uses working recovery → Rows acl bodies rows → time < 18446744073709551616 → time ≡ number 56 8 r → loaded ≤ time → last ≤ time → a ≡ admittingSet km0 (wantedOf r none) (aclOf acl)
+    → j ≡ judgedFor (judgedBySets (aclOf acl) a c (leftAt counts counters (time - loaded) rows)) → j ≡ judgedFor (setJudge (ledgerOfTables counts counters loaded last) km0 (aclOf acl) c r)
 unfolding setJudge
-judged-sets counts counters loaded last km0 acl bodies uses working recovery c r time a j ready e h k d p =
+judged-sets counts counters loaded last km0 acl bodies uses rows working recovery c r time a j ready table late e h k d p =
     let l = ledgerOfTables counts counters loaded last in
     let q : time - loaded ≡ number 56 8 r - loaded = rw e in
     let m : judgedBySets (aclOf acl) a c (unspentAt l (requestWith r []) (aclOf acl)) ≡ judgedBySets (aclOf acl) (admittingSet km0 (wantedOf r none) (aclOf acl)) c (unspentAt l (requestWith r []) (aclOf acl)) = rw d in
-    let s = judged-alike (aclOf acl) a c (leftAt counts counters (time - loaded) acl bodies) (unspentAt l (requestWith r []) (aclOf acl)) (admitting-below km0 (wantedOf r none) (aclOf acl) a d) (λ i b. left-is acl bodies (ready .places) l r (time - loaded) i q b) in
+    let s = judged-alike (aclOf acl) a c (leftAt counts counters (time - loaded) rows) (unspentAt l (requestWith r []) (aclOf acl)) (admitting-below km0 (wantedOf r none) (aclOf acl) a d) (λ i b. left-is acl bodies (ready .places) rows l r (time - loaded) i (ready .sound) table (omega arith) q b) in
     p ∙ ap judgedFor (s ∙ m) ∙ sym (rw (← e, le-ltb time loaded h, le-ltb time last k))
 
 -- The groups that admit, by the form.
@@ -177,6 +183,10 @@ module _ (acl : Bytes) (bodies uses : List ℕ) (working recovery : ℕ) (ready 
         pick false q =
             let s : set ≡ setOf (λ g. any isArchive (g .actions)) (aclOf acl) = e ∙ rw (q, ready .recovery-is) in
             rw (no6, q, s) (kept (recoveryBlob (recoveryBlobOf r) none) (λ g. any isArchive (g .actions)) (λ g. any-part isArchive (admits km0 (recoveryBlob (recoveryBlobOf r) none)) (g .actions) (recovery-admits km0 (recoveryBlobOf r) none)))
+
+-- a table of rows that is that of an ACL fits
+pub table-fits : (acl : Bytes) (bodies rows : List ℕ) → Rows acl bodies rows → Fits rows
+table-fits acl bodies rows t = t .fits
 
 -- the set of a blob request, by the code's test of the kind
 pub working-set : (k working recovery : ℕ) → k ≡ 7 → working ≡ candidates k working recovery

@@ -15,14 +15,15 @@ use lib.Dec.{eqb}
 use lib.Pow.{pow-pos, pow-mono}
 use Rattle.rules.specs.Sizes.{groupsMax}
 use Rattle.rules.specs.Basics.{if_then_else_, Bytes, Every, any, records}
-use Rattle.rules.specs.Acl.{limitsOf, actionsOf, Group}
+use Rattle.rules.specs.Acl.{actionsOf, Group}
 use Rattle.rules.specs.Request.{blobfileNext, wantedOf}
-use Rattle.rules.specs.Grant.{admits, unspentWith}
+use Rattle.rules.specs.Grant.{admits}
 use Rattle.rules.specs.Gate.{notFound}
 use Rattle.rules.proofs.Rows.{lentRest, lent-rest, no-rows}
 use Rattle.run_decision.proofs.GroupSets.{two, halved, still-even, first-stop, first-next, first-done, lowest-out, member-below, first-below, placed-there, placed-past}
 use Rattle.run_decision.specs.GroupSets.{firstIn, placed, judgedBySets}
 use Rattle.run_form.specs.Places.{Inside}
+use Rattle.run_limits.specs.Rows.{rowLeft}
 use Rattle.gate_decision.specs.declared.Judged.the-variants.{Granted, Denied}
 use Rattle.refusals.specs.declared.Denial.the-variants.{NotAdmitted, NotCertified, Spent}
 use Rattle.gate_decision.specs.Standings.{judgedFor}
@@ -173,11 +174,10 @@ place-inside acl bodies k h = go bodies k h
     go (x ∷ xs) zero h = h .0
     go (x ∷ xs) (suc k) h = go xs k (h .1)
 
--- what is left at a place, of the body that is lent from there on
-pub left-lent : (counts counters : List ℕ) (elapsed : ℕ) (acl : Bytes) (bodies : List ℕ) (k own at : ℕ) (r : Bool) → own ≡ getD counts k 0 → at ≡ getD bodies k 0
-    → r ≡ unspentWith counters own elapsed (limitsOf (records (lentRest acl at))) → r ≡ leftAt counts counters elapsed acl bodies k
+-- what is left at an index, by its row
+pub left-row : (counts counters : List ℕ) (elapsed : ℕ) (rows : List ℕ) (k own : ℕ) (r : Bool) → own ≡ getD counts k 0 → r ≡ rowLeft counters own elapsed rows (k * 8) → r ≡ leftAt counts counters elapsed rows k
 unfolding leftAt
-left-lent counts counters elapsed acl bodies k own at r a b e = e ∙ rw (lent-rest acl at, a, b)
+left-row counts counters elapsed rows k own r a e = e ∙ rw a
 
 -- whether a group admits; nothing follows the request record
 pub admits-lent : (km0 rec acl : Bytes) (bodies : List ℕ) (k at : ℕ) (r : Bool) → at ≡ getD bodies k 0

@@ -6,17 +6,16 @@ use mathlib.Core.Path.{_≡_, refl, sym, _∙_, ap}
 use mathlib.Core.Logic.{_⊎_, inl, inr}
 use mathlib.Core.List.{List, [], _∷_}
 use mathlib.Core.Bool.{Bool, true, false, _&&_}
-use borrow.Author.Tests.{ltb-true, lt-ltb}
-use lib.ListN.{getD, drop}
+use borrow.Author.Tests.{ltb-true, lt-ltb, leb-true, le-leb}
+use lib.ListN.{getD, take, drop}
 use lib.Bits.{bitAnd, and-step, and-mask, and-le-l}
 use lib.Count.{trailingZeros}
 use lib.Pow.{pow-pos, pow-mono}
-use lib.Dec.{eqb, ltb}
-use Rattle.rules.specs.Sizes.{fullCount, groupsMax}
-use Rattle.rules.specs.Basics.{if_then_else_, Bytes, all, records}
-use Rattle.rules.specs.Acl.{Limit, limitsOf}
-use Rattle.rules.specs.Grant.{counterLeft, limitLeft, limitsLeft}
+use lib.Dec.{eqb, leb, ltb}
+use Rattle.rules.specs.Sizes.{groupsMax}
+use Rattle.rules.specs.Basics.{if_then_else_, all}
 use Rattle.rules.proofs.Laws.{never, and-left, and-right, and-both}
+use Rattle.run_limits.specs.Rows.{wordLeft, rowLeft}
 use Rattle.run_decision.proofs.GroupSets.{two, lowest-out, member-below}
 use Rattle.run_decision.specs.GroupSets.{firstIn}
 use Rattle.run_decision.proofs.Laws.{low-le}
@@ -34,52 +33,42 @@ no-less-over xs ys zs p q i = let a = p i in let b = q i in omega arith
 below-too : (m n k : ℕ) → m ≤ n → ltb n k ≡ true → ltb m k ≡ true
 below-too m n k h e = let l = ltb-true n k e in lt-ltb m k (omega arith)
 
+within-too : (m n k : ℕ) → m ≤ n → leb n k ≡ true → leb m k ≡ true
+within-too m n k h e = let l = leb-true n k e in le-leb m k (omega arith)
+
 -- What is left with more used and later was left before.
-module _ (counters counters′ : List ℕ) (own own′ elapsed elapsed′ : ℕ) (c : NoLess counters counters′) (o : own ≤ own′) (t : elapsed ≤ elapsed′) where
-  limit-before : (m : Limit) → limitLeft counters′ own′ elapsed′ m ≡ true → limitLeft counters own elapsed m ≡ true
-  unfolding limitLeft NoLess
-  limit-before m e = pick (eqb (m .sort) 1) (eqb (m .sort) 2) e
-    where
-      n : ℕ
-      n = getD counters (m .counter) 0
+words-before : (counters counters′ ws : List ℕ) → NoLess counters counters′ → all (wordLeft counters′) ws ≡ true → all (wordLeft counters) ws ≡ true
+unfolding all wordLeft NoLess
+words-before counters counters′ [] c e = refl
+words-before counters counters′ (w ∷ ws) c e =
+    let a = wordLeft counters′ w in
+    let b = all (wordLeft counters′) ws in
+    and-both (wordLeft counters w) (all (wordLeft counters) ws)
+    (below-too (getD counters (w % 256) 0) (getD counters′ (w % 256) 0) (w / 256) (c (w % 256)) (and-left a b e))
+    (words-before counters counters′ ws c (and-right a b e))
 
-      n′ : ℕ
-      n′ = getD counters′ (m .counter) 0
-
-      pick : (a b : Bool) → (if a then ltb own′ (m .maximum) else if b then counterLeft n′ (m .maximum) else ltb elapsed′ (m .maximum)) ≡ true
-          → (if a then ltb own (m .maximum) else if b then counterLeft n (m .maximum) else ltb elapsed (m .maximum)) ≡ true
-      pick true b d = below-too own own′ (m .maximum) o d
-      pick false true d =
-          and-both (ltb n (m .maximum)) (ltb n fullCount)
-          (below-too n n′ (m .maximum) (c (m .counter)) (and-left (ltb n′ (m .maximum)) (ltb n′ fullCount) d))
-          (below-too n n′ fullCount (c (m .counter)) (and-right (ltb n′ (m .maximum)) (ltb n′ fullCount) d))
-      pick false false d = below-too elapsed elapsed′ (m .maximum) t d
-
-  limits-before : (ms : List Limit) → limitsLeft counters′ own′ elapsed′ ms ≡ true → limitsLeft counters own elapsed ms ≡ true
-  unfolding all
-  limits-before [] e = refl
-  limits-before (m ∷ ms) e =
-      let a = limitLeft counters′ own′ elapsed′ m in
-      let b = limitsLeft counters′ own′ elapsed′ ms in
-      and-both (limitLeft counters own elapsed m) (limitsLeft counters own elapsed ms) (limit-before m (and-left a b e)) (limits-before ms (and-right a b e))
-
-module _ (counts counts′ counters counters′ : List ℕ) (elapsed elapsed′ : ℕ) (acl : Bytes) (bodies : List ℕ) (h : NoLess counts counts′) (c : NoLess counters counters′) (t : elapsed ≤ elapsed′) where
-  left-before : (k : ℕ) → leftAt counts′ counters′ elapsed′ acl bodies k ≡ true → leftAt counts counters elapsed acl bodies k ≡ true
-  unfolding leftAt NoLess
+module _ (counts counts′ counters counters′ : List ℕ) (elapsed elapsed′ : ℕ) (rows : List ℕ) (h : NoLess counts counts′) (c : NoLess counters counters′) (t : elapsed ≤ elapsed′) where
+  left-before : (k : ℕ) → leftAt counts′ counters′ elapsed′ rows k ≡ true → leftAt counts counters elapsed rows k ≡ true
+  unfolding leftAt rowLeft NoLess
   left-before k e =
       let own = getD counts k 0 in
       let own′ = getD counts′ k 0 in
-      let ms = limitsOf (records (drop (getD bodies k 0) acl)) in
-      let a = ltb own′ fullCount in
-      let b = limitsLeft counters′ own′ elapsed′ ms in
-      and-both (ltb own fullCount) (limitsLeft counters own elapsed ms)
-      (below-too own own′ fullCount (h k) (and-left a b e))
-      (limits-before counters counters′ own own′ elapsed elapsed′ c (h k) t ms (and-right a b e))
+      let bound = getD rows (k * 8) 0 in
+      let last = getD rows (k * 8 + 1) 0 in
+      let ws = take (getD rows (k * 8 + 2) 0) (drop (k * 8 + 3) rows) in
+      let x = ltb own′ bound in
+      let y = leb elapsed′ last in
+      let z = all (wordLeft counters′) ws in
+      and-both (ltb own bound) (leb elapsed last && all (wordLeft counters) ws)
+      (below-too own own′ bound (h k) (and-left x (y && z) e))
+      (and-both (leb elapsed last) (all (wordLeft counters) ws)
+      (within-too elapsed elapsed′ last t (and-left y z (and-right x (y && z) e)))
+      (words-before counters counters′ ws c (and-right y z (and-right x (y && z) e))))
 
-  stays-spent : (k : ℕ) → leftAt counts counters elapsed acl bodies k ≡ false → leftAt counts′ counters′ elapsed′ acl bodies k ≡ false
-  stays-spent k e = pick (leftAt counts′ counters′ elapsed′ acl bodies k) refl
+  stays-spent : (k : ℕ) → leftAt counts counters elapsed rows k ≡ false → leftAt counts′ counters′ elapsed′ rows k ≡ false
+  stays-spent k e = pick (leftAt counts′ counters′ elapsed′ rows k) refl
     where
-      pick : (b : Bool) → leftAt counts′ counters′ elapsed′ acl bodies k ≡ b → b ≡ false
+      pick : (b : Bool) → leftAt counts′ counters′ elapsed′ rows k ≡ b → b ≡ false
       pick true q = let x : true ≡ false = sym (left-before k q) ∙ e in absurd (never (cc))
       pick false q = refl
 
@@ -140,17 +129,17 @@ first-open t u (suc w) a c f =
     middle i = rw (heads (two c) (u 0) refl, i)
 
 -- The groups of the run's certified ones that are unspent before it.
-pub open-start : (counts counters : List ℕ) (since loaded last : ℕ) (acl : Bytes) (bodies : List ℕ) (c o c′ o′ : ℕ) → since ≡ last - loaded
-    → o ≡ membersIn (leftAt counts counters since acl bodies) 64 c → c′ ≡ c → o′ ≡ o → OpenFrom counts counters (last - loaded) acl bodies c′ o′
+pub open-start : (counts counters : List ℕ) (since loaded last : ℕ) (rows : List ℕ) (c o c′ o′ : ℕ) → since ≡ last - loaded
+    → o ≡ membersIn (leftAt counts counters since rows) 64 c → c′ ≡ c → o′ ≡ o → OpenFrom counts counters (last - loaded) rows c′ o′
 unfolding OpenFrom Opened
-open-start counts counters since loaded last acl bodies c o c′ o′ s e p q counts′ counters′ elapsed h k t set =
-    rw (q ∙ e, p) (first-open (leftAt counts′ counters′ elapsed acl bodies) (leftAt counts counters since acl bodies) 64 set c (stays-spent counts counts′ counters counters′ since elapsed acl bodies h k (omega arith)))
+open-start counts counters since loaded last rows c o c′ o′ s e p q counts′ counters′ elapsed h k t set =
+    rw (q ∙ e, p) (first-open (leftAt counts′ counters′ elapsed rows) (leftAt counts counters since rows) 64 set c (stays-spent counts counts′ counters counters′ since elapsed rows h k (omega arith)))
 
 -- the same when more was used
-pub open-on : (counts counts′ counters counters′ : List ℕ) (since since′ : ℕ) (acl : Bytes) (bodies : List ℕ) (c o : ℕ) → NoLess counts counts′ → NoLess counters counters′ → since ≤ since′
-    → OpenFrom counts counters since acl bodies c o → OpenFrom counts′ counters′ since′ acl bodies c o
+pub open-on : (counts counts′ counters counters′ : List ℕ) (since since′ : ℕ) (rows : List ℕ) (c o : ℕ) → NoLess counts counts′ → NoLess counters counters′ → since ≤ since′
+    → OpenFrom counts counters since rows c o → OpenFrom counts′ counters′ since′ rows c o
 unfolding OpenFrom
-open-on counts counts′ counters counters′ since since′ acl bodies c o h k l f x y e p q m =
+open-on counts counts′ counters counters′ since since′ rows c o h k l f x y e p q m =
     f x y e (no-less-over counts counts′ x h p) (no-less-over counters counters′ y k q) (omega arith)
 
 pub open-first : (left : ℕ → Bool) (set c o k : ℕ) → Opened left c o → k ≡ firstIn left 64 (bitAnd set o) → k ≡ firstIn left 64 (bitAnd set c)
@@ -235,24 +224,24 @@ pub open-word : (o m n : ℕ) → o < 18446744073709551616 → n ≡ bitAnd o m 
 open-word o m n h e = let l = and-le-l o m in omega arith
 
 -- What a judgement leaves serves from its request on.
-pub open-judged : (counts counters : List ℕ) (since : ℕ) (acl : Bytes) (bodies : List ℕ) (c used o : ℕ) → OpenFrom counts counters since acl bodies c used
-    → Closes (leftAt counts counters since acl bodies) used o → OpenFrom counts counters since acl bodies c o
+pub open-judged : (counts counters : List ℕ) (since : ℕ) (rows : List ℕ) (c used o : ℕ) → OpenFrom counts counters since rows c used
+    → Closes (leftAt counts counters since rows) used o → OpenFrom counts counters since rows c o
 unfolding OpenFrom Opened Closes
-open-judged counts counters since acl bodies c used o h k counts′ counters′ elapsed x y t set =
-    k (leftAt counts′ counters′ elapsed acl bodies) (stays-spent counts counts′ counters counters′ since elapsed acl bodies x y t) set
+open-judged counts counters since rows c used o h k counts′ counters′ elapsed x y t set =
+    k (leftAt counts′ counters′ elapsed rows) (stays-spent counts counts′ counters counters′ since elapsed rows x y t) set
     ∙ h counts′ counters′ elapsed x y t set
 
-pub open-at : (counts counters : List ℕ) (loaded last time : ℕ) (acl : Bytes) (bodies : List ℕ) (c o : ℕ) → (last ≤ time → OpenFrom counts counters (time - loaded) acl bodies c o)
-    → OpenAt counts counters loaded last time acl bodies c o
+pub open-at : (counts counters : List ℕ) (loaded last time : ℕ) (rows : List ℕ) (c o : ℕ) → (last ≤ time → OpenFrom counts counters (time - loaded) rows c o)
+    → OpenAt counts counters loaded last time rows c o
 unfolding OpenAt OpenFrom
-open-at counts counters loaded last time acl bodies c o f l = f l counts counters (time - loaded) (no-less-same counts) (no-less-same counters) (omega arith)
+open-at counts counters loaded last time rows c o f l = f l counts counters (time - loaded) (no-less-same counts) (no-less-same counters) (omega arith)
 
 -- the same as the code reads that time
-pub open-timed : (counts counters : List ℕ) (loaded last time t : ℕ) (acl : Bytes) (bodies : List ℕ) (c o : ℕ) → OpenAt counts counters loaded last t acl bodies c o → time ≡ t → last ≤ time
-    → Opened (leftAt counts counters (time - loaded) acl bodies) c o
+pub open-timed : (counts counters : List ℕ) (loaded last time t : ℕ) (rows : List ℕ) (c o : ℕ) → OpenAt counts counters loaded last t rows c o → time ≡ t → last ≤ time
+    → Opened (leftAt counts counters (time - loaded) rows) c o
 unfolding OpenAt
-open-timed counts counters loaded last time t acl bodies c o f e l = rw e (f (omega arith))
+open-timed counts counters loaded last time t rows c o f e l = rw e (f (omega arith))
 
-pub closes-then : (counts counters : List ℕ) (loaded time t : ℕ) (acl : Bytes) (bodies : List ℕ) (u o : ℕ) → Closes (leftAt counts counters (time - loaded) acl bodies) u o → time ≡ t
-    → Closes (leftAt counts counters (t - loaded) acl bodies) u o
-closes-then counts counters loaded time t acl bodies u o h e = rw e at h
+pub closes-then : (counts counters : List ℕ) (loaded time t : ℕ) (rows : List ℕ) (u o : ℕ) → Closes (leftAt counts counters (time - loaded) rows) u o → time ≡ t
+    → Closes (leftAt counts counters (t - loaded) rows) u o
+closes-then counts counters loaded time t rows u o h e = rw e at h

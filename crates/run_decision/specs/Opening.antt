@@ -6,7 +6,6 @@ use mathlib.Core.Bool.{Bool, false}
 use lib.ListN.{getD}
 use lib.Bits.{bitAnd}
 use Rattle.rules.specs.Sizes.{setBits}
-use Rattle.rules.specs.Basics.{Bytes}
 use Rattle.run_decision.specs.GroupSets.{firstIn}
 use Rattle.run_decision.specs.Members.{leftAt}
 
@@ -19,10 +18,10 @@ unfoldable pub Opened : (ℕ → Bool) → ℕ → ℕ → Type 0
 Opened left certified unspent = (set : ℕ) → firstIn left setBits (bitAnd set unspent) ≡ firstIn left setBits (bitAnd set certified)
 
 -- whatever is used from now on, and whatever the time since load, if that is at least `since`
-unfoldable pub OpenFrom : List ℕ → List ℕ → ℕ → Bytes → List ℕ → ℕ → ℕ → Type 0
-OpenFrom counts counters since acl bodies certified unspent =
+unfoldable pub OpenFrom : List ℕ → List ℕ → ℕ → List ℕ → ℕ → ℕ → Type 0
+OpenFrom counts counters since rows certified unspent =
     (counts′ counters′ : List ℕ) (elapsed : ℕ) → NoLess counts counts′ → NoLess counters counters′ → since ≤ elapsed
-    → Opened (leftAt counts′ counters′ elapsed acl bodies) certified unspent
+    → Opened (leftAt counts′ counters′ elapsed rows) certified unspent
 
 -- a set without members that are spent: whatever test they all fail gives, of any set walked, the same group by it
 unfoldable pub Closes : (ℕ → Bool) → ℕ → ℕ → Type 0
@@ -30,6 +29,6 @@ Closes left unspent still =
     (test : ℕ → Bool) → ((k : ℕ) → left k ≡ false → test k ≡ false) → (set : ℕ) → firstIn test setBits (bitAnd set still) ≡ firstIn test setBits (bitAnd set unspent)
 
 -- the groups to walk at a request that does not come too early
-unfoldable pub OpenAt : List ℕ → List ℕ → ℕ → ℕ → ℕ → Bytes → List ℕ → ℕ → ℕ → Type 0
-OpenAt counts counters loaded last time acl bodies certified unspent =
-    last ≤ time → Opened (leftAt counts counters (time - loaded) acl bodies) certified unspent
+unfoldable pub OpenAt : List ℕ → List ℕ → ℕ → ℕ → ℕ → List ℕ → ℕ → ℕ → Type 0
+OpenAt counts counters loaded last time rows certified unspent =
+    last ≤ time → Opened (leftAt counts counters (time - loaded) rows) certified unspent

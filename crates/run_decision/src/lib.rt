@@ -11,6 +11,7 @@ ghost use Rattle.rules.specs.Acl.{aclOf};
 ghost use Rattle.rules.specs.Request.{wantedOf, requestLaidOut};
 ghost use Rattle.run_decision.specs.GroupSets.{firstIn, judgedBySets};
 ghost use Rattle.run_form.specs.Places.{Inside};
+ghost use Rattle.run_limits.specs.Rows.{Fits, Rows};
 ghost use Rattle.gate_decision.specs.Standings.{judgedFor, ledgerOfTables};
 ghost use Rattle.run_decision.specs.Members.{leftAt, admitsAt, membersIn};
 ghost use Rattle.run_decision.specs.Deciding.{Ready, admittingSet, candidates, setJudge};
@@ -49,21 +50,19 @@ fn lowest(set: u64) -> usize
     u64::trailing_zeros(set) as usize
 }
 
-// Whether the group at a place is unspent.
+// Whether the group at an index is unspent.
 fn left_at(
     counts: &[u32; record_sizes::GROUPS],
     counters: &[u32; record_sizes::COUNTERS],
     elapsed: u64,
-    acl: &[u8],
-    bodies: &[usize; record_sizes::GROUPS],
+    rows: &[u64; run_limits::TABLE],
     k: usize,
 ) -> bool
-    requires { ⌜ (k < groupsMax) × Inside (now acl) (now bodies) ⌝ }
-    ensures { λ r. ⌜ r ≡ leftAt (now (counts .entry)) (now (counters .entry)) elapsed (now (acl .entry)) (now (bodies .entry)) k ⌝ }
+    requires { ⌜ (k < groupsMax) × Fits (now rows) ⌝ }
+    ensures { λ r. ⌜ r ≡ leftAt (now (counts .entry)) (now (counters .entry)) elapsed (now (rows .entry)) k ⌝ }
 {
     let own = counts[k];
-    let at = bodies[k];
-    gate_decision::is_unspent(counters, own, elapsed, &acl[at..])
+    run_limits::row_left(rows, k, counters, own, elapsed)
 }
 
 // A set without the member by which two others differ.
@@ -79,19 +78,18 @@ fn first_unspent(
     counts: &[u32; record_sizes::GROUPS],
     counters: &[u32; record_sizes::COUNTERS],
     elapsed: u64,
-    acl: &[u8],
-    bodies: &[usize; record_sizes::GROUPS],
+    rows: &[u64; run_limits::TABLE],
     set: u64,
     unspent: u64,
 ) -> First
-    requires { ⌜ (set < 2 ^ groupsMax) × Inside (now acl) (now bodies) ⌝ }
-    ensures { λ r. ⌜ (r .place ≡ firstIn (leftAt (now (counts .entry)) (now (counters .entry)) elapsed (now (acl .entry)) (now (bodies .entry))) setBits set) × Closes (leftAt (now (counts .entry)) (now (counters .entry)) elapsed (now (acl .entry)) (now (bodies .entry))) unspent (r .still) ⌝ }
+    requires { ⌜ (set < 2 ^ groupsMax) × Fits (now rows) ⌝ }
+    ensures { λ r. ⌜ (r .place ≡ firstIn (leftAt (now (counts .entry)) (now (counters .entry)) elapsed (now (rows .entry))) setBits set) × Closes (leftAt (now (counts .entry)) (now (counters .entry)) elapsed (now (rows .entry))) unspent (r .still) ⌝ }
 {
     let mut left = set;
     let mut still = unspent;
     while 0 < left {
         let k = lowest(left);
-        if left_at(counts, counters, elapsed, acl, bodies, k) {
+        if left_at(counts, counters, elapsed, rows, k) {
             return First { place: k, still };
         }
         let rest = left & (left - 1);
@@ -158,19 +156,18 @@ pub fn unspent_of(
     counts: &[u32; record_sizes::GROUPS],
     counters: &[u32; record_sizes::COUNTERS],
     elapsed: u64,
-    acl: &[u8],
-    bodies: &[usize; record_sizes::GROUPS],
+    rows: &[u64; run_limits::TABLE],
     set: u64,
 ) -> u64
-    requires { ⌜ (set < 2 ^ groupsMax) × Inside (now acl) (now bodies) ⌝ }
-    ensures { λ r. ⌜ r ≡ membersIn (leftAt (now (counts .entry)) (now (counters .entry)) elapsed (now (acl .entry)) (now (bodies .entry))) setBits set ⌝ }
+    requires { ⌜ (set < 2 ^ groupsMax) × Fits (now rows) ⌝ }
+    ensures { λ r. ⌜ r ≡ membersIn (leftAt (now (counts .entry)) (now (counters .entry)) elapsed (now (rows .entry))) setBits set ⌝ }
 {
     let mut kept = 0u64;
     let mut left = set;
     while 0 < left {
         let k = lowest(left);
         let rest = left & (left - 1);
-        if !left_at(counts, counters, elapsed, acl, bodies, k) {
+        if !left_at(counts, counters, elapsed, rows, k) {
             left = rest;
             continue;
         }
@@ -180,19 +177,19 @@ pub fn unspent_of(
     kept
 }
 
-// The judgement by the groups that admit and those that are certified.
+// The judgement by the groups that admit and those that are certified. The ACL is lent for the promise alone: the sets and the rows are made of it.
 fn judge_sets(
     counts: &[u32; record_sizes::GROUPS],
     counters: &[u32; record_sizes::COUNTERS],
     elapsed: u64,
     acl: &[u8],
-    bodies: &[usize; record_sizes::GROUPS],
+    rows: &[u64; run_limits::TABLE],
     admitting: u64,
     certified: u64,
     unspent: u64,
 ) -> Chosen
-    requires { ⌜ (admitting < 2 ^ length (aclOf (now acl))) × (length (aclOf (now acl)) ≤ groupsMax) × Inside (now acl) (now bodies) × Opened (leftAt (now counts) (now counters) elapsed (now acl) (now bodies)) certified unspent ⌝ }
-    ensures { λ r. ⌜ (r .judged ≡ judgedFor (judgedBySets (aclOf (now (acl .entry))) admitting certified (leftAt (now (counts .entry)) (now (counters .entry)) elapsed (now (acl .entry)) (now (bodies .entry))))) × Closes (leftAt (now (counts .entry)) (now (counters .entry)) elapsed (now (acl .entry)) (now (bodies .entry))) unspent (r .still) ⌝ }
+    requires { ⌜ (admitting < 2 ^ length (aclOf (now acl))) × (length (aclOf (now acl)) ≤ groupsMax) × Fits (now rows) × Opened (leftAt (now counts) (now counters) elapsed (now rows)) certified unspent ⌝ }
+    ensures { λ r. ⌜ (r .judged ≡ judgedFor (judgedBySets (aclOf (now (acl .entry))) admitting certified (leftAt (now (counts .entry)) (now (counters .entry)) elapsed (now (rows .entry))))) × Closes (leftAt (now (counts .entry)) (now (counters .entry)) elapsed (now (rows .entry))) unspent (r .still) ⌝ }
 {
     if admitting < 1 {
         return Chosen {
@@ -211,8 +208,7 @@ fn judge_sets(
         counts,
         counters,
         elapsed,
-        acl,
-        bodies,
+        rows,
         admitting & unspent,
         unspent,
     );
@@ -277,13 +273,14 @@ pub fn judge_record(
     km0: &[u8],
     acl: &[u8],
     bodies: &[usize; record_sizes::GROUPS],
+    rows: &[u64; run_limits::TABLE],
     uses: &[u64; record_sizes::PERMISSIONS],
     sets: Sets,
     unspent: u64,
     rec: &[u8],
 ) -> Chosen
-    requires { ⌜ Ready (now acl) (now bodies) (now uses) (sets .working) (sets .recovery) × (length (now rec) ≡ recordBytes) × (requestLaidOut (now rec) ≡ true) × OpenAt (now counts) (now counters) loaded last (number 56 8 (now rec)) (now acl) (now bodies) (sets .certified) unspent ⌝ }
-    ensures { λ r. ⌜ (r .judged ≡ judgedFor (setJudge (ledgerOfTables (now (counts .entry)) (now (counters .entry)) loaded last) (now (km0 .entry)) (aclOf (now (acl .entry))) (sets .certified) (now (rec .entry)))) × Closes (leftAt (now (counts .entry)) (now (counters .entry)) (number 56 8 (now (rec .entry)) - loaded) (now (acl .entry)) (now (bodies .entry))) unspent (r .still) ⌝ }
+    requires { ⌜ Ready (now acl) (now bodies) (now uses) (sets .working) (sets .recovery) × (length (now rec) ≡ recordBytes) × (requestLaidOut (now rec) ≡ true) × OpenAt (now counts) (now counters) loaded last (number 56 8 (now rec)) (now rows) (sets .certified) unspent × Rows (now acl) (now bodies) (now rows) ⌝ }
+    ensures { λ r. ⌜ (r .judged ≡ judgedFor (setJudge (ledgerOfTables (now (counts .entry)) (now (counters .entry)) loaded last) (now (km0 .entry)) (aclOf (now (acl .entry))) (sets .certified) (now (rec .entry)))) × Closes (leftAt (now (counts .entry)) (now (counters .entry)) (number 56 8 (now (rec .entry)) - loaded) (now (rows .entry))) unspent (r .still) ⌝ }
 {
     let time = record_fields::be64(rec, 56);
     if time < loaded {
@@ -304,7 +301,7 @@ pub fn judge_record(
         counters,
         time - loaded,
         acl,
-        bodies,
+        rows,
         admitting,
         sets.certified,
         unspent,

@@ -6,13 +6,14 @@ use mathlib.Core.Path.{_≡_, refl, sym, _∙_, ap}
 use mathlib.Core.List.{List, [], _∷_}
 use mathlib.Core.Option.{some}
 use mathlib.Core.Bool.{Bool, true, false}
-use borrow.Author.Tests.{eq-eqb, ne-eqb, eqb-true, eqb-false}
+use borrow.Author.Tests.{eq-eqb, ne-eqb, eqb-true, eqb-false, ltb-true, ltb-false}
 use lib.ListN.{length, drop, getD, getElem?, set, length-set, length-drop}
 use lib.Seq.{getD-set-same, getD-set-other}
-use lib.Dec.{eqb}
+use lib.Dec.{eqb, ltb}
 use Rattle.rules.specs.Sizes.{groupsMax}
 use Rattle.rules.specs.Basics.{Bytes, Every, part, records, recordsFrom}
 use Rattle.rules.specs.Acl.{groupOf, groupsOf, aclOf}
+use Rattle.rules.proofs.Laws.{there-below}
 use Rattle.rules.proofs.Rows.{rows-start, rows-at, rows-end, kind-at}
 use Rattle.run_form.specs.Places.{offsetsFrom, Inside, OffsetAt, Offsets}
 
@@ -60,6 +61,17 @@ module _ (acl : Bytes) (bodies : List ℕ) (g at : ℕ) (f : Filling acl bodies 
         inside = f .inside;
         filled = λ k l. f .filled k (omega arith);
       }
+
+  pub filling-count : length acl - at < 64 → g ≡ length (aclOf acl)
+  unfolding groupsOf
+  filling-count h =
+      let e : drop g (aclOf acl) ≡ [] = f .left ∙ ap groupsOf (rows-end acl at h) in
+      let n : length (aclOf acl) ≤ g = omega (arith, ap length e, length-drop g (aclOf acl)) in
+      pick (ltb (length (aclOf acl)) g) refl n
+    where
+      pick : (b : Bool) → ltb (length (aclOf acl)) g ≡ b → length (aclOf acl) ≤ g → g ≡ length (aclOf acl)
+      pick true q n = let l = there-below (aclOf acl) (length (aclOf acl)) _ (f .filled (length (aclOf acl)) (ltb-true (length (aclOf acl)) g q) .there) in absurd (omega arith)
+      pick false q n = let l = ltb-false (length (aclOf acl)) g q in omega arith
 
   pub filling-skip : 64 ≤ length acl - at → (getD acl at 0 ≡ 1 → ⊥) → Filling acl bodies g (at + 64)
   unfolding groupsOf

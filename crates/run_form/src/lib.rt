@@ -163,10 +163,10 @@ fn put_offset(bodies: &mut [usize; record_sizes::GROUPS], g: usize, at: usize) -
     g + 1
 }
 
-// The table of those places. Places past the last group stay.
-pub fn fill_offsets(bodies: &mut [usize; record_sizes::GROUPS], acl: &[u8])
+// Fills the table of those offsets; how many groups there are. Entries past the last group are unchanged.
+pub fn fill_offsets(bodies: &mut [usize; record_sizes::GROUPS], acl: &[u8]) -> usize
     requires { ⌜ (length (now bodies) ≡ groupsMax) × Inside (now acl) (now bodies) × (length (aclOf (now acl)) ≤ groupsMax) ⌝ }
-    ensures { λ _. ⌜ Offsets (now (acl .entry)) (now (bodies .exit)) × (now (bodies .exit) ≡ offsetsFrom (now (bodies .entry)) 0 0 (records (now (acl .entry)))) ⌝ }
+    ensures { λ r. ⌜ Offsets (now (acl .entry)) (now (bodies .exit)) × (now (bodies .exit) ≡ offsetsFrom (now (bodies .entry)) 0 0 (records (now (acl .entry)))) × (r ≡ length (aclOf (now (acl .entry)))) ⌝ }
 {
     let mut g = 0;
     let mut at = 0;
@@ -178,4 +178,5 @@ pub fn fill_offsets(bodies: &mut [usize; record_sizes::GROUPS], acl: &[u8])
         g = put_offset(bodies, g, at + record_sizes::RECORD);
         at += record_sizes::RECORD;
     }
+    g
 }

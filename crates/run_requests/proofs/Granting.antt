@@ -1,21 +1,21 @@
 -- From a judgement by sets to the answer: the group that grants is at its index, is not full, names no counter twice, and is charged; a denial keeps
 -- the tables.
-use Prim.Native.Nat.{ℕ, zero, suc, _-_, _/_, _%_, _≤_, _<_}
+use Prim.Native.Nat.{ℕ, zero, suc, _+_, _-_, _*_, _/_, _%_, _≤_, _<_}
 use native.Mathlib.Omega.{arith}
 use mathlib.Core.Path.{_≡_, refl, sym, _∙_, ap}
 use mathlib.Core.List.{List, [], _∷_}
 use mathlib.Core.Option.{Option, none, some}
 use mathlib.Core.Bool.{Bool, true, false, not, _&&_}
 use borrow.Author.Tests.{ltb-true, lt-ltb, le-ltb, eq-eqb, not-true, not-false}
-use lib.ListN.{length, getD, getElem?, drop}
+use lib.ListN.{length, getD, getElem?, take, drop}
 use lib.Bits.{bitAnd}
 use lib.Count.{trailingZeros}
 use lib.Dec.{eqb, ltb}
 use Rattle.rules.specs.Sizes.{fullCount, groupsMax, setBits}
 use Rattle.rules.specs.Numbers.{malformed, noGroup}
-use Rattle.rules.specs.Basics.{if_then_else_, Bytes, Every, kind, flag, number, records, holdsAt}
+use Rattle.rules.specs.Basics.{if_then_else_, Bytes, Every, kind, flag, number, holdsAt}
 use Rattle.rules.specs.Layout.{useLaidOut}
-use Rattle.rules.specs.Acl.{Limit, limitsOf, Group, announcesBlobfile, aclOf}
+use Rattle.rules.specs.Acl.{Group, announcesBlobfile, aclOf}
 use Rattle.rules.specs.Request.{wantedOf, requestLaidOut, standsAlone, requestRecordFault}
 use Rattle.rules.specs.Ledger.{Ledger, raised, raisedBy, charge}
 use Rattle.rules.specs.Grant.{limitsLeft, unspent}
@@ -29,6 +29,8 @@ use Rattle.rules.proofs.AclSizes.{acl-fits}
 use Rattle.refusals.specs.Refusals.{denialNumber, denialGroup}
 use Rattle.gate_charge.specs.Charges.{Chargeable}
 use Rattle.gate_charge.proofs.Granting.{limits-room}
+use Rattle.run_limits.specs.Rows.{namedOf, Rows, raisedWords, Able}
+use Rattle.run_limits.proofs.Meaning.{words-raise, words-able}
 use Rattle.gate_decision.specs.declared.Judged.{Judged}
 use Rattle.gate_decision.specs.declared.Judged.the-variants.{Granted, Denied}
 use Rattle.refusals.specs.declared.Denial.the-variants.{ClockBack}
@@ -173,25 +175,34 @@ module _ (counts counters : List ℕ) (loaded last : ℕ) (km0 acl : Bytes) (bod
         let g = granted-found tables km0 (aclOf acl) c r fits k e in
         ltb-true (getD counts k 0) fullCount (and-left (ltb (getD counts k 0) fullCount) (limitsLeft counters (getD counts k 0) (number 56 8 r - loaded) (g .0 .limits)) (g .3))
 
-    pub granted-able : Chargeable counters (limitsOf (records (drop (getD bodies k 0) acl)))
-    granted-able =
-        let g = granted-found tables km0 (aclOf acl) c r fits k e in
-        let p = place-group acl bodies (ready .places) k (g .0) (g .2) .0 in
-        let f : GroupFits (g .0) = every-at GroupFits (aclOf acl) k (g .0) (acl-fits acl (ready .sound) .each) (g .2) in
-        let m = limits-room counters (getD counts k 0) (number 56 8 r - loaded) (g .0 .limits) (and-right (ltb (getD counts k 0) fullCount) (limitsLeft counters (getD counts k 0) (number 56 8 r - loaded) (g .0 .limits)) (g .3)) in
-        let able : Chargeable counters (g .0 .limits) = record { room = m; apart = f .apart } in
-        rw p at able
+    module _ (rows : List ℕ) (table : Rows acl bodies rows) where
+      abbrev words : List ℕ
+      words = take (getD rows (k * 8 + 2) 0) (drop (k * 8 + 3) rows)
 
-    pub answered-permit : (laid : Bool) (counts′ counters′ : List ℕ) (time n place after : ℕ) → laid ≡ standsAlone r → not laid ≡ false → time ≡ number 56 8 r
-        → counts′ ≡ raised counts k counts → counters′ ≡ raisedBy counters (limitsOf (records (drop (getD bodies k 0) acl))) counters → n ≡ 0 → place ≡ k → after ≡ time
-        → IsOutcome (askSets km0 (aclOf acl) c tables r) counts′ counters′ loaded n place after
-    unfolding askSets requestRecordFault charge bytesOfAnswer
-    answered-permit laid counts′ counters′ time n place after t h s a b x y z =
-        let g = granted-found tables km0 (aclOf acl) c r fits k e in
-        let p = place-group acl bodies (ready .places) k (g .0) (g .2) .0 in
-        let m : counters′ ≡ raisedBy counters (g .0 .limits) counters = b ∙ ap (λ (ms : List Limit). raisedBy counters ms counters) (sym p) in
-        let laid-out : standsAlone r ≡ true = sym t ∙ not-false laid h in
-        rw (laid-out, g .1, a, m, x, y, z, s) (record { ledger = refl; answer = refl })
+      -- the words of the row of the group that grants
+      row-words : (g : Group) → getElem? (aclOf acl) k ≡ some g → words ≡ namedOf (g .limits)
+      row-words g q = table .filled k (there-below (aclOf acl) k g q) .words ∙ ap namedOf (sym (place-group acl bodies (ready .places) k g q .0))
+
+      group-fits : (g : Group) → getElem? (aclOf acl) k ≡ some g → GroupFits g
+      group-fits g q = every-at GroupFits (aclOf acl) k g (acl-fits acl (ready .sound) .each) q
+
+      pub granted-able : Able counters (take (getD rows (k * 8 + 2) 0) (drop (k * 8 + 3) rows))
+      granted-able =
+          let g = granted-found tables km0 (aclOf acl) c r fits k e in
+          let f = group-fits (g .0) (g .2) in
+          let m = limits-room counters (getD counts k 0) (number 56 8 r - loaded) (g .0 .limits) (and-right (ltb (getD counts k 0) fullCount) (limitsLeft counters (getD counts k 0) (number 56 8 r - loaded) (g .0 .limits)) (g .3)) in
+          let able : Chargeable counters (g .0 .limits) = record { room = m; apart = f .apart } in
+          rw (row-words (g .0) (g .2)) (words-able counters (g .0 .limits) (f .each) able)
+
+      pub answered-permit : (laid : Bool) (counts′ counters′ : List ℕ) (time n place after : ℕ) → laid ≡ standsAlone r → not laid ≡ false → time ≡ number 56 8 r
+          → counts′ ≡ raised counts k counts → counters′ ≡ raisedWords counters (take (getD rows (k * 8 + 2) 0) (drop (k * 8 + 3) rows)) counters → n ≡ 0 → place ≡ k → after ≡ time
+          → IsOutcome (askSets km0 (aclOf acl) c tables r) counts′ counters′ loaded n place after
+      unfolding askSets requestRecordFault charge bytesOfAnswer
+      answered-permit laid counts′ counters′ time n place after t h s a b x y z =
+          let g = granted-found tables km0 (aclOf acl) c r fits k e in
+          let m : counters′ ≡ raisedBy counters (g .0 .limits) counters = b ∙ ap (λ (ws : List ℕ). raisedWords counters ws counters) (row-words (g .0) (g .2)) ∙ words-raise counters (g .0 .limits) counters (group-fits (g .0) (g .2) .each) in
+          let laid-out : standsAlone r ≡ true = sym t ∙ not-false laid h in
+          rw (laid-out, g .1, a, m, x, y, z, s) (record { ledger = refl; answer = refl })
 
   pub answered-denied : (j : Judged) (laid : Bool) (k m i n place after : ℕ) → j ≡ judgedFor (setJudge tables km0 (aclOf acl) c r) → laid ≡ standsAlone r → not laid ≡ false
       → k ≡ grantedIndex j → groupsMax ≤ k → m ≡ judgedNumber j → i ≡ deniedGroup j → n ≡ m → place ≡ shownGroup i → after ≡ last

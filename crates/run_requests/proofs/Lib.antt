@@ -1,5 +1,4 @@
 pub mod Loop
-pub mod Charging
 pub mod Granting
 pub mod Opening
 pub mod Writing

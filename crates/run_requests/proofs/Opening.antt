@@ -79,50 +79,50 @@ ask-grows km0 gs c l r = fault (requestRecordFault r)
     fault none = judged (tooEarly l (requestWith r [])) refl
     fault (some n) = same-grown l
 
-pub open-next : (km0 : Bytes) (gs : List Group) (c o : ℕ) (r acl : Bytes) (bodies counts counters counts′ counters′ : List ℕ) (loaded before n place last : ℕ)
+pub open-next : (km0 : Bytes) (gs : List Group) (c o : ℕ) (r : Bytes) (rows counts counters counts′ counters′ : List ℕ) (loaded before n place last : ℕ)
     → IsOutcome (askSets km0 gs c (ledgerOfTables counts counters loaded before) r) counts′ counters′ loaded n place last
-    → OpenFrom counts counters (before - loaded) acl bodies c o → OpenFrom counts′ counters′ (last - loaded) acl bodies c o
-open-next km0 gs c o r acl bodies counts counters counts′ counters′ loaded before n place last a h =
+    → OpenFrom counts counters (before - loaded) rows c o → OpenFrom counts′ counters′ (last - loaded) rows c o
+open-next km0 gs c o r rows counts counters counts′ counters′ loaded before n place last a h =
     let l = ledgerOfTables counts counters loaded before in
     let g : Grown l (ledgerOfTables counts′ counters′ loaded last) = subst (Grown l) (sym (a .ledger)) (ask-grows km0 gs c l r) in
     let t = g .later in
-    open-on counts counts′ counters counters′ (before - loaded) (last - loaded) acl bodies c o (g .counts) (g .counters) (omega arith) h
+    open-on counts counts′ counters counters′ (before - loaded) (last - loaded) rows c o (g .counts) (g .counters) (omega arith) h
 
 -- the groups that need a look from a time on are still right after a charge
-pub open-kept : (km0 : Bytes) (gs : List Group) (c o : ℕ) (r acl : Bytes) (bodies counts counters counts′ counters′ : List ℕ) (loaded before n place last since : ℕ)
+pub open-kept : (km0 : Bytes) (gs : List Group) (c o : ℕ) (r : Bytes) (rows counts counters counts′ counters′ : List ℕ) (loaded before n place last since : ℕ)
     → IsOutcome (askSets km0 gs c (ledgerOfTables counts counters loaded before) r) counts′ counters′ loaded n place last
-    → OpenFrom counts counters (since - loaded) acl bodies c o → OpenFrom counts′ counters′ (since - loaded) acl bodies c o
-open-kept km0 gs c o r acl bodies counts counters counts′ counters′ loaded before n place last since a h =
+    → OpenFrom counts counters (since - loaded) rows c o → OpenFrom counts′ counters′ (since - loaded) rows c o
+open-kept km0 gs c o r rows counts counters counts′ counters′ loaded before n place last since a h =
     let l = ledgerOfTables counts counters loaded before in
     let g : Grown l (ledgerOfTables counts′ counters′ loaded last) = subst (Grown l) (sym (a .ledger)) (ask-grows km0 gs c l r) in
-    open-on counts counts′ counters counters′ (since - loaded) (since - loaded) acl bodies c o (g .counts) (g .counters) (omega arith) h
+    open-on counts counts′ counters counters′ (since - loaded) (since - loaded) rows c o (g .counts) (g .counters) (omega arith) h
 
 -- The groups to look at for a request, and those to look at after it.
-module _ (counts counters : List ℕ) (loaded last since : ℕ) (acl : Bytes) (bodies : List ℕ) (c unspent still : ℕ)
-    (u : OpenFrom counts counters (last - loaded) acl bodies c unspent) (s : OpenFrom counts counters (since - loaded) acl bodies c still) where
-  used-open : (time used : ℕ) → used ≡ (if leb since time then still else unspent) → last ≤ time → OpenFrom counts counters (time - loaded) acl bodies c used
+module _ (counts counters : List ℕ) (loaded last since : ℕ) (rows : List ℕ) (c unspent still : ℕ)
+    (u : OpenFrom counts counters (last - loaded) rows c unspent) (s : OpenFrom counts counters (since - loaded) rows c still) where
+  used-open : (time used : ℕ) → used ≡ (if leb since time then still else unspent) → last ≤ time → OpenFrom counts counters (time - loaded) rows c used
   used-open time used e h = rw e (choose (leb since time) refl)
     where
-      choose : (b : Bool) → leb since time ≡ b → OpenFrom counts counters (time - loaded) acl bodies c (if b then still else unspent)
+      choose : (b : Bool) → leb since time ≡ b → OpenFrom counts counters (time - loaded) rows c (if b then still else unspent)
       choose true q =
           let l = leb-true since time q in
-          open-on counts counts counters counters (since - loaded) (time - loaded) acl bodies c still (no-less-same counts) (no-less-same counters) (omega arith) s
+          open-on counts counts counters counters (since - loaded) (time - loaded) rows c still (no-less-same counts) (no-less-same counters) (omega arith) s
       choose false q =
-          open-on counts counts counters counters (last - loaded) (time - loaded) acl bodies c unspent (no-less-same counts) (no-less-same counters) (omega arith) u
+          open-on counts counts counters counters (last - loaded) (time - loaded) rows c unspent (no-less-same counts) (no-less-same counters) (omega arith) u
 
-  pub open-used : (time t used : ℕ) → time ≡ t → used ≡ (if leb since time then still else unspent) → OpenAt counts counters loaded last t acl bodies c used
-  open-used time t used d e = open-at counts counters loaded last t acl bodies c used (λ h. used-open t used (rw d at e) h)
+  pub open-used : (time t used : ℕ) → time ≡ t → used ≡ (if leb since time then still else unspent) → OpenAt counts counters loaded last t rows c used
+  open-used time t used d e = open-at counts counters loaded last t rows c used (λ h. used-open t used (rw d at e) h)
 
   pub open-after : (time t used o next from′ : ℕ) → time ≡ t → used ≡ (if leb since time then still else unspent)
-      → Closes (leftAt counts counters (t - loaded) acl bodies) used o
+      → Closes (leftAt counts counters (t - loaded) rows) used o
       → next ≡ (if leb last time then o else still) → from′ ≡ (if leb last time then time else since)
-      → OpenFrom counts counters (from′ - loaded) acl bodies c next
+      → OpenFrom counts counters (from′ - loaded) rows c next
   open-after time t used o next from′ d e k p q = rw (p, q) (choose (leb last time) refl)
     where
-      choose : (b : Bool) → leb last time ≡ b → OpenFrom counts counters ((if b then time else since) - loaded) acl bodies c (if b then o else still)
+      choose : (b : Bool) → leb last time ≡ b → OpenFrom counts counters ((if b then time else since) - loaded) rows c (if b then o else still)
       choose true y =
           let l = leb-true last time y in
-          open-judged counts counters (time - loaded) acl bodies c used o (used-open time used e l) (rw (sym d) at k)
+          open-judged counts counters (time - loaded) rows c used o (used-open time used e l) (rw (sym d) at k)
       choose false y = s
 
 -- a number of 64 bits is a set of groups

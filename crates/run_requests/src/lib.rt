@@ -2,44 +2,27 @@
 // bytes.
 ghost use mathlib.Core.Path.{_≡_};
 ghost use Prim.Native.Nat.{_≤_, _<_, _+_, _-_, _*_, _/_};
-ghost use lib.ListN.{length, getD, drop};
-ghost use Rattle.rules.specs.Sizes.{recordBytes, answerBytes, groupsMax, countersMax, fullCount, preparedRecords};
+ghost use lib.ListN.{length};
+ghost use Rattle.rules.specs.Sizes.{recordBytes, answerBytes, groupsMax, countersMax, preparedRecords};
 ghost use Rattle.rules.specs.Numbers.{malformed};
 ghost use lib.Dec.{leb};
 ghost use Rattle.rules.specs.Basics.{if_then_else_, number, records};
-ghost use Rattle.rules.specs.Acl.{limitsOf, aclOf};
+ghost use Rattle.rules.specs.Acl.{aclOf};
 ghost use Rattle.rules.specs.Request.{standsAlone};
-ghost use Rattle.rules.specs.Ledger.{raised, raisedBy};
 ghost use Rattle.rules.specs.Written.{bigEndian};
 ghost use Rattle.rules.specs.Runs.{answerWith};
 ghost use Rattle.run_requests.specs.Written.{overAt, writing, Wrote};
-ghost use Rattle.run_form.specs.Places.{Inside};
+ghost use Rattle.run_limits.specs.Rows.{Rows};
 ghost use Rattle.gate_decision.specs.Standings.{ledgerOfTables};
 ghost use Rattle.run_decision.specs.Deciding.{Ready, askSets};
 ghost use Rattle.run_decision.specs.Members.{leftAt};
 ghost use Rattle.run_decision.specs.Opening.{OpenFrom, Closes, OpenAt};
 ghost use Rattle.refusals.specs.Refusals.{denialGroup};
-ghost use Rattle.gate_charge.specs.Charges.{Chargeable};
 ghost use Rattle.run_requests.specs.Answers.{grantedIndex, judgedNumber, placeOr, deniedGroup, shownGroup, IsOutcome};
 use gate_decision::Judged;
 use refusals::Denial;
 use refusals::Refusal;
 use run_decision::Sets;
-
-// A charge of the group at a place, whose limits begin where a table says.
-fn charge_at(
-    counts: &mut [u32; record_sizes::GROUPS],
-    counters: &mut [u32; record_sizes::COUNTERS],
-    acl: &[u8],
-    bodies: &[usize; record_sizes::GROUPS],
-    k: usize,
-)
-    requires { ⌜ (k < groupsMax) × (length (now counts) ≡ groupsMax) × (length (now counters) ≡ countersMax) × (getD (now counts) k 0 < fullCount) × Inside (now acl) (now bodies) × Chargeable (now counters) (limitsOf (records (drop (getD (now bodies) k 0) (now acl)))) ⌝ }
-    ensures { λ _. ⌜ (now (counts .exit) ≡ raised (now (counts .entry)) k (now (counts .entry))) × (now (counters .exit) ≡ raisedBy (now (counters .entry)) (limitsOf (records (drop (getD (now (bodies .entry)) k 0) (now (acl .entry))))) (now (counters .entry))) ⌝ }
-{
-    let at = bodies[k];
-    gate_charge::charge(counts, counters, k, &acl[at..]);
-}
 
 // No group is named: all ones.
 const NO_GROUP: u32 = 4294967295;
@@ -177,13 +160,14 @@ fn answer_used(
     km0: &[u8],
     acl: &[u8],
     bodies: &[usize; record_sizes::GROUPS],
+    rows: &[u64; run_limits::TABLE],
     uses: &[u64; record_sizes::PERMISSIONS],
     sets: Sets,
     used: u64,
     rec: &[u8],
 ) -> Answered
-    requires { ⌜ Ready (now acl) (now bodies) (now uses) (sets .working) (sets .recovery) × (length (now counts) ≡ groupsMax) × (length (now counters) ≡ countersMax) × (length (now rec) ≡ recordBytes) × OpenAt (now counts) (now counters) loaded last (number 56 8 (now rec)) (now acl) (now bodies) (sets .certified) used ⌝ }
-    ensures { λ r. ⌜ IsOutcome (askSets (now (km0 .entry)) (aclOf (now (acl .entry))) (sets .certified) (ledgerOfTables (now (counts .entry)) (now (counters .entry)) loaded last) (now (rec .entry))) (now (counts .exit)) (now (counters .exit)) loaded (r .number) (r .group) (r .last) × Closes (leftAt (now (counts .entry)) (now (counters .entry)) (number 56 8 (now (rec .entry)) - loaded) (now (acl .entry)) (now (bodies .entry))) used (r .still) ⌝ }
+    requires { ⌜ Ready (now acl) (now bodies) (now uses) (sets .working) (sets .recovery) × (length (now counts) ≡ groupsMax) × (length (now counters) ≡ countersMax) × (length (now rec) ≡ recordBytes) × OpenAt (now counts) (now counters) loaded last (number 56 8 (now rec)) (now rows) (sets .certified) used × Rows (now acl) (now bodies) (now rows) ⌝ }
+    ensures { λ r. ⌜ IsOutcome (askSets (now (km0 .entry)) (aclOf (now (acl .entry))) (sets .certified) (ledgerOfTables (now (counts .entry)) (now (counters .entry)) loaded last) (now (rec .entry))) (now (counts .exit)) (now (counters .exit)) loaded (r .number) (r .group) (r .last) × Closes (leftAt (now (counts .entry)) (now (counters .entry)) (number 56 8 (now (rec .entry)) - loaded) (now (rows .entry))) used (r .still) ⌝ }
 {
     if !stands_alone(rec) {
         return bad_record(last, used);
@@ -196,6 +180,7 @@ fn answer_used(
         km0,
         acl,
         bodies,
+        rows,
         uses,
         sets,
         used,
@@ -206,7 +191,7 @@ fn answer_used(
     if record_sizes::GROUPS <= k {
         return refusal(number_of(judged), near_of(judged), last, chosen.still);
     }
-    charge_at(counts, counters, acl, bodies, k);
+    run_limits::charge_row(rows, k, counts, counters);
     permit(k, record_fields::be64(rec, 56), chosen.still)
 }
 
@@ -220,6 +205,7 @@ fn answer_one(
     km0: &[u8],
     acl: &[u8],
     bodies: &[usize; record_sizes::GROUPS],
+    rows: &[u64; run_limits::TABLE],
     uses: &[u64; record_sizes::PERMISSIONS],
     sets: Sets,
     unspent: u64,
@@ -227,8 +213,8 @@ fn answer_one(
     from: u64,
     rec: &[u8],
 ) -> Turn
-    requires { ⌜ Ready (now acl) (now bodies) (now uses) (sets .working) (sets .recovery) × (length (now counts) ≡ groupsMax) × (length (now counters) ≡ countersMax) × (length (now rec) ≡ recordBytes) × OpenFrom (now counts) (now counters) (last - loaded) (now acl) (now bodies) (sets .certified) unspent × OpenFrom (now counts) (now counters) («from» - loaded) (now acl) (now bodies) (sets .certified) still ⌝ }
-    ensures { λ r. ⌜ IsOutcome (askSets (now (km0 .entry)) (aclOf (now (acl .entry))) (sets .certified) (ledgerOfTables (now (counts .entry)) (now (counters .entry)) loaded last) (now (rec .entry))) (now (counts .exit)) (now (counters .exit)) loaded (r .number) (r .group) (r .last) × OpenFrom (now (counts .entry)) (now (counters .entry)) (r .«from» - loaded) (now (acl .entry)) (now (bodies .entry)) (sets .certified) (r .still) ⌝ }
+    requires { ⌜ Ready (now acl) (now bodies) (now uses) (sets .working) (sets .recovery) × (length (now counts) ≡ groupsMax) × (length (now counters) ≡ countersMax) × (length (now rec) ≡ recordBytes) × OpenFrom (now counts) (now counters) (last - loaded) (now rows) (sets .certified) unspent × OpenFrom (now counts) (now counters) («from» - loaded) (now rows) (sets .certified) still × Rows (now acl) (now bodies) (now rows) ⌝ }
+    ensures { λ r. ⌜ IsOutcome (askSets (now (km0 .entry)) (aclOf (now (acl .entry))) (sets .certified) (ledgerOfTables (now (counts .entry)) (now (counters .entry)) loaded last) (now (rec .entry))) (now (counts .exit)) (now (counters .exit)) loaded (r .number) (r .group) (r .last) × OpenFrom (now (counts .entry)) (now (counters .entry)) (r .«from» - loaded) (now (rows .entry)) (sets .certified) (r .still) ⌝ }
 {
     let time = record_fields::be64(rec, 56);
     let used = pick(from, time, still, unspent);
@@ -240,6 +226,7 @@ fn answer_one(
         km0,
         acl,
         bodies,
+        rows,
         uses,
         sets,
         used,
@@ -292,13 +279,14 @@ fn ask_records(
     km0: &[u8],
     acl: &[u8],
     bodies: &[usize; record_sizes::GROUPS],
+    rows: &[u64; run_limits::TABLE],
     uses: &[u64; record_sizes::PERMISSIONS],
     sets: Sets,
     unspent: u64,
     requests: &[u8],
     buf: &mut [u8],
 ) -> u64
-    requires { ⌜ Ready (now acl) (now bodies) (now uses) (sets .working) (sets .recovery) × (length (now counts) ≡ groupsMax) × (length (now counters) ≡ countersMax) × (length (now requests) ≤ preparedRecords * recordBytes) × (length (now requests) / recordBytes * answerBytes ≤ length (now buf)) × OpenFrom (now counts) (now counters) (before - loaded) (now acl) (now bodies) (sets .certified) unspent ⌝ }
+    requires { ⌜ Ready (now acl) (now bodies) (now uses) (sets .working) (sets .recovery) × (length (now counts) ≡ groupsMax) × (length (now counters) ≡ countersMax) × (length (now requests) ≤ preparedRecords * recordBytes) × (length (now requests) / recordBytes * answerBytes ≤ length (now buf)) × OpenFrom (now counts) (now counters) (before - loaded) (now rows) (sets .certified) unspent × Rows (now acl) (now bodies) (now rows) ⌝ }
     ensures { λ r. ⌜ Wrote (now (counts .exit)) (now (counters .exit)) loaded r (now (buf .exit)) (writing (askSets (now (km0 .entry)) (aclOf (now (acl .entry))) (sets .certified)) (ledgerOfTables (now (counts .entry)) (now (counters .entry)) loaded before) (now (buf .entry)) 0 (records (now (requests .entry)))) ⌝ }
 {
     let mut last = before;
@@ -314,6 +302,7 @@ fn ask_records(
             km0,
             acl,
             bodies,
+            rows,
             uses,
             sets,
             unspent,
@@ -355,17 +344,18 @@ pub fn run_records(
     km0: &[u8],
     acl: &[u8],
     bodies: &[usize; record_sizes::GROUPS],
+    rows: &[u64; run_limits::TABLE],
     uses: &[u64; record_sizes::PERMISSIONS],
     sets: Sets,
     requests: &[u8],
     buf: &mut [u8],
 ) -> u64
-    requires { ⌜ Ready (now acl) (now bodies) (now uses) (sets .working) (sets .recovery) × (length (now counts) ≡ groupsMax) × (length (now counters) ≡ countersMax) × (length (now requests) ≤ preparedRecords * recordBytes) × (length (now requests) / recordBytes * answerBytes ≤ length (now buf)) ⌝ }
+    requires { ⌜ Ready (now acl) (now bodies) (now uses) (sets .working) (sets .recovery) × (length (now counts) ≡ groupsMax) × (length (now counters) ≡ countersMax) × (length (now requests) ≤ preparedRecords * recordBytes) × (length (now requests) / recordBytes * answerBytes ≤ length (now buf)) × Rows (now acl) (now bodies) (now rows) ⌝ }
     ensures { λ r. ⌜ Wrote (now (counts .exit)) (now (counters .exit)) loaded r (now (buf .exit)) (writing (askSets (now (km0 .entry)) (aclOf (now (acl .entry))) (sets .certified)) (ledgerOfTables (now (counts .entry)) (now (counters .entry)) loaded before) (now (buf .entry)) 0 (records (now (requests .entry)))) ⌝ }
 {
     let since = seconds_used(loaded, before);
     let certified = sets.certified;
-    let unspent = run_decision::unspent_of(counts, counters, since, acl, bodies, certified);
+    let unspent = run_decision::unspent_of(counts, counters, since, rows, certified);
     ask_records(
         counts,
         counters,
@@ -374,6 +364,7 @@ pub fn run_records(
         km0,
         acl,
         bodies,
+        rows,
         uses,
         sets,
         unspent,

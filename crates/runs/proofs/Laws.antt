@@ -7,12 +7,12 @@ use mathlib.Core.List.{List, [], _∷_, _++_}
 use mathlib.Core.Option.{Option, none, some}
 use mathlib.Core.Bool.{Bool, true, false, not, _&&_}
 use borrow.Author.Tests.{leb-true, le-leb, lt-leb, not-true, not-false}
-use lib.ListN.{length, drop, replicate}
+use lib.ListN.{length, getD, drop, replicate, length-replicate}
 use lib.Dec.{eqb, leb}
 use Rattle.rules.specs.Sizes.{hashBytes, aclRecords, answerBytes, runRecords, preparedRecords, groupsMax, setBits}
 use Rattle.rules.specs.Numbers.{badLength, shortBuffer, otherForm}
 use Rattle.rules.specs.Basics.{Bytes, unless, orNext, firstFault, records, fits}
-use Rattle.rules.specs.Acl.{aclOf}
+use Rattle.rules.specs.Acl.{aclOf, aclFault}
 use Rattle.rules.specs.Ledger.{Ledger}
 use Rattle.rules.specs.Runs.{requestsIn, runLengthsFit, RunOutcome, ran, runEnd, askedInOrder}
 use Rattle.rules.specs.Prepared.{Form, formOf, sameForm}
@@ -22,6 +22,7 @@ use Rattle.run_requests.proofs.Loop.{writing-is}
 use Rattle.rules.proofs.AclSizes.{acl-fits}
 use Rattle.rules.proofs.Forms.{same-form}
 use Rattle.run_form.specs.Places.{Inside, Offsets}
+use Rattle.run_limits.specs.Rows.{Fits}
 use Rattle.gate_decision.specs.Standings.{ledgerOfTables}
 use Rattle.run_decision.specs.Deciding.{Ready, askSets}
 use Rattle.run_certificates.specs.declared.RowSummary.{RowSummary}
@@ -93,7 +94,26 @@ unfolding Inside
 zero-inside acl zero = tt
 zero-inside acl (suc n) = (omega arith, zero-inside acl n)
 
+zero-there : (n i : ℕ) → _≡_ {A = ℕ} (getD (replicate n 0) i 0) 0
+zero-there zero i = refl
+zero-there (suc n) zero = refl
+zero-there (suc n) (suc i) = zero-there n i
+
+pub zero-fits : (n : ℕ) → n ≡ 512 → Fits (replicate n 0)
+zero-fits n e = record { sized = length-replicate n 0 ∙ e; few = λ k. let z = zero-there n (k * 8 + 2) in omega arith }
+
 module _ (acl : Bytes) (form : Form) (requests : Bytes) (room : ℕ) (known : Known acl form requests room) where
+  -- the same of a form that is copied
+  pub known-as : (uses : List ℕ) (working recovery : ℕ) → uses ≡ form .uses → working ≡ form .working → recovery ≡ form .recovery
+      → Known acl (record { uses = uses; working = working; recovery = recovery }) requests room
+  known-as uses working recovery x y z = rw (x, y, z) known
+
+  pub known-sound : aclFault (records acl) ≡ none
+  known-sound = known .sound
+
+  pub known-groups : (groups : ℕ) → groups ≡ length (aclOf acl) → groups ≤ groupsMax
+  known-groups groups e = let h = acl-fits acl (known .sound) .groups in omega arith
+
   pub known-few : length (aclOf acl) ≤ groupsMax
   known-few = acl-fits acl (known .sound) .groups
 
@@ -103,15 +123,16 @@ module _ (acl : Bytes) (form : Form) (requests : Bytes) (room : ℕ) (known : Kn
   pub known-roomy : length requests / 64 * 8 ≤ room
   known-roomy = known .roomy
 
-  pub known-ready : (bodies uses : List ℕ) (working recovery : ℕ) → Offsets acl bodies → uses ≡ form .uses → working ≡ form .working → recovery ≡ form .recovery → Ready acl bodies uses working recovery
-  known-ready bodies uses working recovery b x y z =
-      record {
-        sound = known .sound;
-        places = b;
-        uses-is = x ∙ ap (λ (f : Form). f .uses) (known .same);
-        working-is = y ∙ ap (λ (f : Form). f .working) (known .same);
-        recovery-is = z ∙ ap (λ (f : Form). f .recovery) (known .same);
-      }
+pub known-ready : (acl : Bytes) (uses : List ℕ) (working recovery : ℕ) (requests : Bytes) (room : ℕ) (bodies : List ℕ)
+    → Known acl (record { uses = uses; working = working; recovery = recovery }) requests room → Offsets acl bodies → Ready acl bodies uses working recovery
+known-ready acl uses working recovery requests room bodies known b =
+    record {
+      sound = known .sound;
+      places = b;
+      uses-is = ap (λ (f : Form). f .uses) (known .same);
+      working-is = ap (λ (f : Form). f .working) (known .same);
+      recovery-is = ap (λ (f : Form). f .recovery) (known .same);
+    }
 
 -- what they come to
 pub ran-is : (km0 acl : Bytes) (form : Form) (requests buffer after : Bytes) (counts counters counts′ counters′ : List ℕ) (loaded before last c d n : ℕ)

@@ -5,7 +5,7 @@ ghost use mathlib.Core.Option.{none};
 ghost use Prim.Native.Nat.{_≤_, _*_};
 ghost use lib.ListN.{length};
 ghost use lib.Dec.{leb};
-ghost use Rattle.rules.specs.Sizes.{answerBytes, runRecords, preparedRecords};
+ghost use Rattle.rules.specs.Sizes.{answerBytes, runRecords, preparedRecords, groupsMax, countersMax};
 ghost use Rattle.rules.specs.Numbers.{shortBuffer};
 ghost use Rattle.rules.specs.Basics.{Bytes, unless, records};
 ghost use Rattle.rules.specs.Acl.{aclOf};
@@ -15,7 +15,9 @@ ghost use Rattle.refusals.specs.Refusals.{refusalNumber};
 ghost use Rattle.files.specs.Faults.{faultAs};
 ghost use Rattle.gate.specs.Outcomes.{ledgerAs};
 ghost use Rattle.run_form.specs.Forms.{formAs};
+ghost use Rattle.gate_decision.specs.Standings.{ledgerOfTables};
 ghost use Rattle.run_decision.specs.Deciding.{askSets};
+ghost use Rattle.run_requests.specs.Written.{writing, Wrote};
 ghost use Rattle.run_certificates.specs.Rows.{rowAs};
 ghost use Rattle.runs.specs.Judged.{runOutcomeAs, runRefused, seenFault, Known, runSeen, preparedSeen};
 use files::Checked;
@@ -49,7 +51,44 @@ fn sets_of(form: Prepared, certified: u64) -> Sets
     }
 }
 
-// The requests of a run that is not refused whole, one after the other. The tables are copied once, and charged in place.
+// The requests of a run that is not refused whole, one after the other, on lent tables; the last time after them. What a run looks up again and again is made
+// of the ACL once: where each group's records begin, and its limits.
+fn ask_known(
+    counts: &mut [u32; Ledger::GROUPS],
+    counters: &mut [u32; Ledger::COUNTERS],
+    loaded: u64,
+    before: u64,
+    km0: &[u8],
+    acl: &[u8],
+    uses: &[u64; record_sizes::PERMISSIONS],
+    sets: Sets,
+    requests: &[u8],
+    answers: &mut [u8],
+) -> u64
+    requires { ⌜ Known (now acl) (record { uses = now uses; working = sets .working; recovery = sets .recovery }) (now requests) (length (now answers)) × (length (now counts) ≡ groupsMax) × (length (now counters) ≡ countersMax) ⌝ }
+    ensures { λ r. ⌜ Wrote (now (counts .exit)) (now (counters .exit)) loaded r (now (answers .exit)) (writing (askSets (now (km0 .entry)) (aclOf (now (acl .entry))) (sets .certified)) (ledgerOfTables (now (counts .entry)) (now (counters .entry)) loaded before) (now (answers .entry)) 0 (records (now (requests .entry)))) ⌝ }
+{
+    let mut bodies = [0usize; Ledger::GROUPS];
+    let groups = run_form::fill_offsets(&mut bodies, acl);
+    let mut rows = [0u64; run_limits::TABLE];
+    run_limits::fill_rows(&mut rows, acl, &bodies, groups);
+    run_requests::run_records(
+        counts,
+        counters,
+        loaded,
+        before,
+        km0,
+        acl,
+        &bodies,
+        &rows,
+        uses,
+        sets,
+        requests,
+        answers,
+    )
+}
+
+// The requests of a run that is not refused whole. The tables are copied once, and charged in place.
 fn run_known(
     mut ledger: Ledger,
     km0: &[u8],
@@ -62,20 +101,17 @@ fn run_known(
     requires { ⌜ Known (now acl) (formAs form) (now requests) (length (now answers)) ⌝ }
     ensures { λ r. ⌜ runOutcomeAs r (now (answers .exit)) ≡ runEnd (ledgerAs ledger) (now (requests .entry)) (now (answers .entry)) none (askedInOrder (askSets (now (km0 .entry)) (aclOf (now (acl .entry))) certified) (ledgerAs ledger) (records (now (requests .entry)))) ⌝ }
 {
-    let mut bodies = [0usize; Ledger::GROUPS];
-    run_form::fill_offsets(&mut bodies, acl);
     let mut counts = ledger.counts;
     let uses = form.uses;
     let loaded = ledger.loaded;
     let before = ledger.last;
-    ledger.last = run_requests::run_records(
+    ledger.last = ask_known(
         &mut counts,
         &mut ledger.counters,
         loaded,
         before,
         km0,
         acl,
-        &bodies,
         &uses,
         sets_of(form, certified),
         requests,

@@ -18,17 +18,8 @@ same-bytes-requires c κs = search needs
 returns : tie.Need-returns
 returns c = search (needs, serves-not)
 
-flag-of-requires : tie.Need-flag-of-requires
-flag-of-requires c κs = search needs
-
-be16-requires : tie.Need-be16-requires
-be16-requires c κs = search needs
-
-be16-requires-2 : tie.Need-be16-requires-2
-be16-requires-2 c κs = search needs
-
-matches-number-requires : tie.Need-matches-number-requires
-matches-number-requires c κs = search needs
+of-mechanism-requires : tie.Need-of-mechanism-requires
+of-mechanism-requires c κs = (search needs, search needs)
 
 returns-2 : tie.Need-returns-2
 returns-2 c = search (needs, serves-is)
@@ -42,8 +33,5 @@ certificate-serves-spec =
     part-same-bytes-end
     same-bytes-requires
     returns
-    flag-of-requires
-    be16-requires
-    be16-requires-2
-    matches-number-requires
+    of-mechanism-requires
     returns-2)

@@ -10,10 +10,10 @@ use Rattle.gate_certification.proofs.has_chain.Statement.{statement}
 use Rattle.gate_certification.proofs.has_chain.Tie as tie
 
 abbrev Inv-loop : tie.InvT-loop
-Inv-loop p group certs dels key ends₀ links₀ ends links = (links ≤ chainMax) × (ends ≡ level links p key (delegationsOf (records dels)))
+Inv-loop p group certs dels leads shown key ends₀ links₀ ends links = (links ≤ chainMax) × (ends ≡ level links p key (delegationsOf (records dels)))
 
 abbrev μ-loop : tie.MeasureT-loop
-μ-loop p group certs dels key ends₀ links₀ ends links = chainMax - links
+μ-loop p group certs dels leads shown key ends₀ links₀ ends links = chainMax - links
 
 sub-key : tie.Need-sub-key Inv-loop μ-loop
 sub-key c = search needs
@@ -25,7 +25,7 @@ part-key-end : tie.Need-part-key-end Inv-loop μ-loop
 part-key-end c = search needs
 
 next-level-requires : tie.Need-next-level-requires Inv-loop μ-loop
-next-level-requires c κs = search needs
+next-level-requires c κs = (search needs, search needs)
 
 returns : tie.Need-returns Inv-loop μ-loop
 returns c = search (needs, chained-none)
@@ -34,7 +34,7 @@ loop-holds : tie.Need-loop-holds Inv-loop μ-loop
 loop-holds c = (search needs, search (needs, level-first))
 
 next-level-requires-2 : tie.Need-next-level-requires-2 Inv-loop μ-loop
-next-level-requires-2 c κs = search needs
+next-level-requires-2 c κs = (search needs, search needs)
 
 add-links : tie.Need-add-links Inv-loop μ-loop
 add-links c = search needs
@@ -46,7 +46,7 @@ loop-again : tie.Need-loop-again Inv-loop μ-loop
 loop-again c = (search needs, search (needs, level-next))
 
 one-leads-to-presented-requires : tie.Need-one-leads-to-presented-requires Inv-loop μ-loop
-one-leads-to-presented-requires c κs = search needs
+one-leads-to-presented-requires c κs = (search needs, search needs, search needs)
 
 returns-2 : tie.Need-returns-2 Inv-loop μ-loop
 returns-2 c = search (needs, chained-last)

@@ -9,9 +9,6 @@ flag-of-requires c κs = search needs
 returns : tie.Need-returns
 returns c = search (needs, certifier-absent)
 
-delegations-start-requires : tie.Need-delegations-start-requires
-delegations-start-requires c κs = search needs
-
 sub-certs : tie.Need-sub-certs
 sub-certs c = search needs
 
@@ -55,7 +52,7 @@ part-is-delegated-end-2 : tie.Need-part-is-delegated-end-2
 part-is-delegated-end-2 c = search needs
 
 is-delegated-requires : tie.Need-is-delegated-requires
-is-delegated-requires c κs = search needs
+is-delegated-requires c κs = (search needs, search needs, search needs, search needs, search needs, search needs)
 
 returns-3 : tie.Need-returns-3
 returns-3 c = search (needs, certifier-delegates)
@@ -66,7 +63,6 @@ is-certified-spec =
     (tie.spec
     flag-of-requires
     returns
-    delegations-start-requires
     sub-certs
     part-certs-start
     part-certs-end

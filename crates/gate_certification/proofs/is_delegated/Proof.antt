@@ -13,7 +13,7 @@ shared-slice-read-has-chain : tie.Need-shared-slice-read-has-chain
 shared-slice-read-has-chain c = search needs
 
 has-chain-requires : tie.Need-has-chain-requires
-has-chain-requires c κs = search needs
+has-chain-requires c κs = (search needs, search needs, search needs, search needs, search needs)
 
 returns-2 : tie.Need-returns-2
 returns-2 c file = search (needs, delegated-use)

@@ -1,4 +1,4 @@
-use Rattle.gate_certification.proofs.Laws.{mark-out, mark-off, mark-on}
+use Rattle.gate_certification.proofs.Links.{mark-out, mark-links, mark-starts, mark-none}
 use borrow.Author.Needs.{needs}
 use Rattle.gate_certification.proofs.mark.Statement.{statement}
 use Rattle.gate_certification.proofs.mark.Tie as tie
@@ -9,23 +9,26 @@ holds-bit-requires c κs = search needs
 returns : tie.Need-returns
 returns c = search (needs, mark-out)
 
-sub-starts : tie.Need-sub-starts
-sub-starts c = search needs
-
-part-starts-start : tie.Need-part-starts-start
-part-starts-start c = search needs
-
-part-starts-end : tie.Need-part-starts-end
-part-starts-end c = search needs
-
-starts-requires : tie.Need-starts-requires
-starts-requires c κs = search needs
-
 returns-2 : tie.Need-returns-2
-returns-2 c = search (needs, mark-off)
+returns-2 c = search (needs, mark-links)
+
+sub-same-bytes : tie.Need-sub-same-bytes
+sub-same-bytes c = search needs
+
+part-same-bytes-start : tie.Need-part-same-bytes-start
+part-same-bytes-start c = search needs
+
+part-same-bytes-end : tie.Need-part-same-bytes-end
+part-same-bytes-end c = search needs
+
+same-bytes-requires : tie.Need-same-bytes-requires
+same-bytes-requires c κs = search needs
 
 returns-3 : tie.Need-returns-3
-returns-3 c = search (needs, mark-on)
+returns-3 c = search (needs, mark-starts)
+
+returns-4 : tie.Need-returns-4
+returns-4 c = search (needs, mark-none)
 
 pub mark-spec : {M : Type 1} → statement M
 mark-spec =
@@ -33,9 +36,10 @@ mark-spec =
     (tie.spec
     holds-bit-requires
     returns
-    sub-starts
-    part-starts-start
-    part-starts-end
-    starts-requires
     returns-2
-    returns-3)
+    sub-same-bytes
+    part-same-bytes-start
+    part-same-bytes-end
+    same-bytes-requires
+    returns-3
+    returns-4)

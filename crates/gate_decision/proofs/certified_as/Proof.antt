@@ -12,7 +12,7 @@ returns c =
     told-again _ _ _ _ _ (i .before .before .before .before .pre .2) (i .if1 .taken) _ (c .before .same-bytes .ensures) (c .if2 .taken)
 
 is-certified-requires : tie.Need-is-certified-requires
-is-certified-requires c κs = search needs
+is-certified-requires c κs = (search needs, search needs, search needs)
 
 returns-2 : tie.Need-returns-2
 returns-2 c = search needs

@@ -36,7 +36,7 @@ returns c =
     via-not-true _ _ _ _ _ a (c .if1 .taken) refl
 
 certified-as-requires : tie.Need-certified-as-requires
-certified-as-requires c κs = search needs
+certified-as-requires c κs = (search needs, search needs, search needs, search needs)
 
 returns-2 : tie.Need-returns-2
 unfolding recordResult

@@ -14,10 +14,10 @@ use Rattle.gate_decision.proofs.judge_groups.Statement.{statement}
 use Rattle.gate_decision.proofs.judge_groups.Tie as tie
 
 abbrev Inv-loop : tie.InvT-loop
-Inv-loop counts counters elapsed km0 req acl near₀ place₀ seen₀ some₀ held₀ at₀ near place seen some held at = (at ≤ length acl) × ((place ≤ at) × ((64 ≤ length acl - at → getD acl at 0 ≡ 1) × ((judgedFrom (groupResult counts counters elapsed km0 (requestOf req)) near place (groupsOf (recordsFrom acl at)) ≡ judgedFrom (groupResult counts counters elapsed km0 (requestOf req)) Nothing 0 (aclOf acl)) × ((seen ≤ at) × Remembered (requestOf req) (lentRecord acl seen) some held))))
+Inv-loop counts counters elapsed km0 req acl start links shown near₀ place₀ seen₀ some₀ held₀ at₀ near place seen some held at = (at ≤ length acl) × ((place ≤ at) × ((64 ≤ length acl - at → getD acl at 0 ≡ 1) × ((judgedFrom (groupResult counts counters elapsed km0 (requestOf req)) near place (groupsOf (recordsFrom acl at)) ≡ judgedFrom (groupResult counts counters elapsed km0 (requestOf req)) Nothing 0 (aclOf acl)) × ((seen ≤ at) × Remembered (requestOf req) (lentRecord acl seen) some held))))
 
 abbrev μ-loop : tie.MeasureT-loop
-μ-loop counts counters elapsed km0 req acl near₀ place₀ seen₀ some₀ held₀ at₀ near place seen some held at = length acl - at
+μ-loop counts counters elapsed km0 req acl start links shown near₀ place₀ seen₀ some₀ held₀ at₀ near place seen some held at = length acl - at
 
 next-group-requires : tie.Need-next-group-requires Inv-loop μ-loop
 next-group-requires c κs = search needs
@@ -71,7 +71,7 @@ part-last-end : tie.Need-part-last-end Inv-loop μ-loop
 part-last-end c = search needs
 
 group-result-requires : tie.Need-group-result-requires Inv-loop μ-loop
-group-result-requires c κs = search needs
+group-result-requires c κs = (search needs, search needs, search needs, search needs)
 
 grants-requires : tie.Need-grants-requires Inv-loop μ-loop
 grants-requires c κs = search needs

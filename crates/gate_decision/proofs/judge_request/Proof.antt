@@ -12,8 +12,11 @@ returns c = search (needs, early-loaded)
 returns-2 : tie.Need-returns-2
 returns-2 c = search (needs, early-last)
 
+link-requires : tie.Need-link-requires
+link-requires c κs = (search needs, search needs, search needs)
+
 judge-groups-requires : tie.Need-judge-groups-requires
-judge-groups-requires c κs = search needs
+judge-groups-requires c κs = (search needs, search needs)
 
 returns-3 : tie.Need-returns-3
 returns-3 c = search (needs, in-time)
@@ -25,5 +28,6 @@ judge-request-spec =
     time-requires
     returns
     returns-2
+    link-requires
     judge-groups-requires
     returns-3)

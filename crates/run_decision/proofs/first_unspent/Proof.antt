@@ -11,10 +11,10 @@ use Rattle.run_decision.proofs.first_unspent.Statement.{statement}
 use Rattle.run_decision.proofs.first_unspent.Tie as tie
 
 abbrev Inv-loop : tie.InvT-loop
-Inv-loop counts counters elapsed acl bodies set unspent left₀ still₀ left still = (left < 2 ^ groupsMax) × ((still < 18446744073709551616) × ((firstIn (leftAt counts counters elapsed acl bodies) 64 left ≡ firstIn (leftAt counts counters elapsed acl bodies) 64 set) × Closes (leftAt counts counters elapsed acl bodies) unspent still))
+Inv-loop counts counters elapsed rows set unspent left₀ still₀ left still = (left < 2 ^ groupsMax) × ((still < 18446744073709551616) × ((firstIn (leftAt counts counters elapsed rows) 64 left ≡ firstIn (leftAt counts counters elapsed rows) 64 set) × Closes (leftAt counts counters elapsed rows) unspent still))
 
 abbrev μ-loop : tie.MeasureT-loop
-μ-loop counts counters elapsed acl bodies set unspent left₀ still₀ left still = left
+μ-loop counts counters elapsed rows set unspent left₀ still₀ left still = left
 
 loop-holds : tie.Need-loop-holds Inv-loop μ-loop
 loop-holds c = (search needs, (search needs, (refl, search (needs, closes-start))))

@@ -1,4 +1,4 @@
-use Rattle.run_decision.proofs.Deciding.{ready-inside, ready-few, admitting-below, judged-early, judged-late, judged-sets}
+use Rattle.run_decision.proofs.Deciding.{table-fits, ready-few, admitting-below, judged-early, judged-late, judged-sets}
 use Rattle.run_decision.proofs.Opening.{open-timed, closes-start, closes-then}
 use borrow.Author.Needs.{needs}
 use Rattle.run_decision.proofs.judge_record.Statement.{statement}
@@ -17,7 +17,7 @@ admitting-set-requires : tie.Need-admitting-set-requires
 admitting-set-requires c κs = search needs
 
 judge-sets-requires : tie.Need-judge-sets-requires
-judge-sets-requires c κs = (search (needs, admitting-below), search (needs, ready-few), search (needs, ready-inside), search (needs, open-timed))
+judge-sets-requires c κs = (search (needs, admitting-below), search (needs, ready-few), search (needs, table-fits), search (needs, open-timed))
 
 returns-3 : tie.Need-returns-3
 returns-3 c = (search (needs, judged-sets), search (needs, closes-then))

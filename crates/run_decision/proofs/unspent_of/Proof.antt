@@ -7,10 +7,10 @@ use Rattle.run_decision.proofs.unspent_of.Statement.{statement}
 use Rattle.run_decision.proofs.unspent_of.Tie as tie
 
 abbrev Inv-loop : tie.InvT-loop
-Inv-loop counts counters elapsed acl bodies set kept₀ left₀ kept left = (left < 2 ^ groupsMax) × Keeping (leftAt counts counters elapsed acl bodies) set kept left
+Inv-loop counts counters elapsed rows set kept₀ left₀ kept left = (left < 2 ^ groupsMax) × Keeping (leftAt counts counters elapsed rows) set kept left
 
 abbrev μ-loop : tie.MeasureT-loop
-μ-loop counts counters elapsed acl bodies set kept₀ left₀ kept left = left
+μ-loop counts counters elapsed rows set kept₀ left₀ kept left = left
 
 loop-holds : tie.Need-loop-holds Inv-loop μ-loop
 loop-holds c = (search needs, search (needs, keeping-start))

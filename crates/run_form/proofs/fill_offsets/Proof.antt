@@ -4,7 +4,7 @@ use lib.ListN.{length}
 use Rattle.rules.specs.Sizes.{groupsMax}
 use Rattle.rules.specs.Basics.{records, recordsFrom}
 use Rattle.run_form.specs.Places.{offsetsFrom}
-use Rattle.run_form.proofs.Placing.{Filling, filling-start, filling-done, filling-skip, filling-room, filling-next, filling-sized, put-start, put-skip, put-next, put-done}
+use Rattle.run_form.proofs.Placing.{Filling, filling-start, filling-done, filling-count, filling-skip, filling-room, filling-next, filling-sized, put-start, put-skip, put-next, put-done}
 use borrow.Author.Needs.{needs}
 use Rattle.run_form.proofs.fill_offsets.Statement.{statement}
 use Rattle.run_form.proofs.fill_offsets.Tie as tie
@@ -49,7 +49,7 @@ loop-again-2 : tie.Need-loop-again-2 Inv-loop μ-loop
 loop-again-2 c = (search needs, (search (needs, filling-sized), (search (needs, filling-next), search (needs, put-next))))
 
 returns : tie.Need-returns Inv-loop μ-loop
-returns c = (search (needs, filling-done), search (needs, put-done))
+returns c = (search (needs, filling-done), search (needs, put-done), search (needs, filling-count))
 
 pub fill-offsets-spec : {M : Type 1} → statement M
 fill-offsets-spec =

@@ -10,7 +10,7 @@ pick-requires : tie.Need-pick-requires
 pick-requires c κs = search needs
 
 answer-used-requires : tie.Need-answer-used-requires
-answer-used-requires c κs = (search needs, search needs, search needs, search needs, search (needs, open-used))
+answer-used-requires c κs = (search needs, search needs, search needs, search needs, search (needs, open-used), search needs)
 
 returns : tie.Need-returns
 returns c = (search needs, search needs)

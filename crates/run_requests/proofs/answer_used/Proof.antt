@@ -1,4 +1,4 @@
-use Rattle.run_decision.proofs.Deciding.{ready-inside}
+use Rattle.run_decision.proofs.Deciding.{table-fits}
 use Rattle.run_requests.proofs.Granting.{is-laid-out, granted-count, granted-able, answered-permit, answered-denied, answered-malformed}
 use Rattle.run_decision.proofs.Opening.{closes-kept, closes-same}
 use borrow.Author.Needs.{needs}
@@ -15,7 +15,7 @@ returns : tie.Need-returns
 returns c = (search (needs, answered-malformed), search (needs, closes-kept))
 
 judge-record-requires : tie.Need-judge-record-requires
-judge-record-requires c κs = (search needs, search needs, search (needs, is-laid-out), search needs)
+judge-record-requires c κs = (search needs, search needs, search (needs, is-laid-out), search needs, search needs)
 
 group-of-requires : tie.Need-group-of-requires
 group-of-requires c κs = search needs
@@ -32,8 +32,8 @@ refusal-requires c κs = search needs
 returns-2 : tie.Need-returns-2
 returns-2 c = (search (needs, answered-denied), search (needs, closes-same))
 
-charge-at-requires : tie.Need-charge-at-requires
-charge-at-requires c κs = (search needs, search needs, search needs, search (needs, granted-count), search (needs, ready-inside), search (needs, granted-able))
+charge-row-requires : tie.Need-charge-row-requires
+charge-row-requires c κs = (search needs, search (needs, table-fits), search needs, search needs, search (needs, granted-count), search (needs, granted-able))
 
 be64-requires : tie.Need-be64-requires
 be64-requires c κs = search needs
@@ -57,7 +57,7 @@ answer-used-spec =
     near-of-requires
     refusal-requires
     returns-2
-    charge-at-requires
+    charge-row-requires
     be64-requires
     permit-requires
     returns-3)

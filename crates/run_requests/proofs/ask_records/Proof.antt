@@ -15,11 +15,11 @@ use Rattle.run_requests.proofs.ask_records.Statement.{statement}
 use Rattle.run_requests.proofs.ask_records.Tie as tie
 
 abbrev Inv-loop : tie.InvT-loop
-Inv-loop counts₀ counters₀ loaded before km0 acl bodies uses sets unspent requests buf₀ last₀ still₀ from₀ at₀ counts counters buf last still from′ at =
-    (at ≤ length requests) × (length buf ≡ length buf₀) × (length counts ≡ groupsMax) × (length counters ≡ countersMax) × OpenFrom counts counters (last - loaded) acl bodies (sets .certified) unspent × OpenFrom counts counters (from′ - loaded) acl bodies (sets .certified) still × (writing (askSets km0 (aclOf acl) (sets .certified)) (ledgerOfTables counts counters loaded last) buf (at / 64 * 8) (recordsFrom requests at) ≡ writing (askSets km0 (aclOf acl) (sets .certified)) (ledgerOfTables counts₀ counters₀ loaded before) buf₀ 0 (records requests))
+Inv-loop counts₀ counters₀ loaded before km0 acl bodies rows uses sets unspent requests buf₀ last₀ still₀ from₀ at₀ counts counters buf last still from′ at =
+    (at ≤ length requests) × (length buf ≡ length buf₀) × (length counts ≡ groupsMax) × (length counters ≡ countersMax) × OpenFrom counts counters (last - loaded) rows (sets .certified) unspent × OpenFrom counts counters (from′ - loaded) rows (sets .certified) still × (writing (askSets km0 (aclOf acl) (sets .certified)) (ledgerOfTables counts counters loaded last) buf (at / 64 * 8) (recordsFrom requests at) ≡ writing (askSets km0 (aclOf acl) (sets .certified)) (ledgerOfTables counts₀ counters₀ loaded before) buf₀ 0 (records requests))
 
 abbrev μ-loop : tie.MeasureT-loop
-μ-loop counts₀ counters₀ loaded before km0 acl bodies uses sets unspent requests buf₀ last₀ still₀ from₀ at₀ counts counters buf last still from′ at =
+μ-loop counts₀ counters₀ loaded before km0 acl bodies rows uses sets unspent requests buf₀ last₀ still₀ from₀ at₀ counts counters buf last still from′ at =
     length requests - at
 
 loop-holds : tie.Need-loop-holds Inv-loop μ-loop
@@ -42,7 +42,7 @@ part-answer-one-end : tie.Need-part-answer-one-end Inv-loop μ-loop
 part-answer-one-end c = search needs
 
 answer-one-requires : tie.Need-answer-one-requires Inv-loop μ-loop
-answer-one-requires c κs = (search needs, search needs, search needs, search needs, search needs, search needs)
+answer-one-requires c κs = (search needs, search needs, search needs, search needs, search needs, search needs, search needs)
 
 mul-put-answer : tie.Need-mul-put-answer Inv-loop μ-loop
 mul-put-answer c = search needs

@@ -1,4 +1,4 @@
-use Rattle.run_decision.proofs.Deciding.{ready-inside}
+use Rattle.run_decision.proofs.Deciding.{table-fits}
 use Rattle.run_decision.proofs.Opening.{open-start}
 use borrow.Author.Needs.{needs}
 use Rattle.run_requests.proofs.Opening.{word-within}
@@ -9,10 +9,10 @@ seconds-used-requires : tie.Need-seconds-used-requires
 seconds-used-requires c κs = search needs
 
 unspent-of-requires : tie.Need-unspent-of-requires
-unspent-of-requires c κs = (search (needs, word-within), search (needs, ready-inside))
+unspent-of-requires c κs = (search (needs, word-within), search (needs, table-fits))
 
 ask-records-requires : tie.Need-ask-records-requires
-ask-records-requires c κs = (search needs, search needs, search needs, search needs, search needs, search (needs, open-start))
+ask-records-requires c κs = (search needs, search needs, search needs, search needs, search needs, search (needs, open-start), search needs)
 
 same-length : tie.Need-same-length
 same-length c = search needs
