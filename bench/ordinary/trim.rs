@@ -92,11 +92,15 @@ fn write(acl: &[Record], keeping: &Keeping, new: &mut [Record], hints: &mut [Rec
 pub fn trim(bundle: &[u8], acl: &[u8], new: &mut [u8], hints: &mut [u8]) -> Result<(u64, u64), NotTrimmed> {
     let refused = |why: Refusal| NotTrimmed::Refused(why.into());
     let (bundle, acl) = desk::open(bundle, acl).map_err(refused)?;
+    let rules = Rules::of(&bundle);
+    if let Err(step) = bundle.steps_before_acl() {
+        acl::read(acl, &mut ()).and_then(|()| rules.check_suite()).map_err(refused)?;
+        return Err(NotTrimmed::Failed(STEPS[step as usize]));
+    }
     let kept = [Kept { officers: false, actions: 0 }; GROUPS];
-    let mut keeping = Keeping { rules: Rules::of(&bundle), groups: 0, kept, actions: 0, records: 0 };
+    let mut keeping = Keeping { rules, groups: 0, kept, actions: 0, records: 0 };
     acl::read(acl, &mut keeping).map_err(refused)?;
     keeping.rules.check_suite().map_err(refused)?;
-    bundle.steps_before_acl().map_err(|step| NotTrimmed::Failed(STEPS[step as usize]))?;
     let (new, hints) = (new.as_chunks_mut().0.get_mut(..keeping.records), hints.as_chunks_mut().0.get_mut(..keeping.groups));
     let (Some(new), Some(hints)) = (new, hints) else { return Err(refused(Refusal::ShortBuffer)) };
     write(acl, &keeping, new, hints);
