@@ -107,23 +107,43 @@ fn prepared(acl: &[u8]) -> String {
     }
 }
 
-// A run on the ledger, prepared if it has a form; in slot 5 of a cabinet that has the same tables it answers the same.
-fn ran(s: &mut Script, ledger: &mut Ledger, form: Option<Form>) -> Option<String> {
-    let (km0, acl, row, requests, mut answers) = (s.bytes()?, s.bytes()?, s.row()?, s.bytes()?, s.buffer()?);
-    let (mut cabinet, mut same) = (Cabinet::fresh(), answers.clone());
-    let slot = &mut cabinet.slots[5];
-    (slot.counts, slot.loaded, slot.last, cabinet.counters) = (ledger.counts, ledger.loaded, ledger.last, ledger.counters);
-    let (told, in_slot) = match form {
-        None => (ledger.run(km0, acl, &row, requests, &mut answers), cabinet.run(5, km0, acl, &row, requests, &mut same)),
-        Some(f) => (
-            ledger.prepared_run(km0, acl, &row, f, requests, &mut answers),
-            cabinet.prepared_run(5, km0, acl, &row, f, requests, &mut same),
-        ),
-    };
-    let slot = &cabinet.slots[5];
-    let after = Ledger { counts: slot.counts, counters: cabinet.counters, loaded: slot.loaded, last: slot.last };
-    assert_eq!((&*ledger, told, &answers), (&after, in_slot, &same));
-    Some(with_ledger(with_buffer(told, &answers), ledger))
+// What a run is lent, with the form that comes first if it is prepared, and the buffer for its answers.
+struct Run<'a> {
+    form: Option<Form>,
+    km0: &'a [u8],
+    acl: &'a [u8],
+    row: Vec<Certificate>,
+    requests: &'a [u8],
+    answers: Vec<u8>,
+}
+
+impl<'a> Run<'a> {
+    fn read(s: &mut Script<'a>, prepared: bool) -> Option<Run<'a>> {
+        let form = if prepared { Some(s.form()?) } else { None };
+        Some(Run { form, km0: s.bytes()?, acl: s.bytes()?, row: s.row()?, requests: s.bytes()?, answers: s.buffer()? })
+    }
+
+    fn on(mut self, ledger: &mut Ledger) -> String {
+        let told = match self.form {
+            None => ledger.run(self.km0, self.acl, &self.row, self.requests, &mut self.answers),
+            Some(form) => ledger.prepared_run(self.km0, self.acl, &self.row, form, self.requests, &mut self.answers),
+        };
+        with_ledger(with_buffer(told, &self.answers), ledger)
+    }
+
+    fn in_slot(mut self, cabinet: &mut Cabinet, slot: usize) -> String {
+        let told = match self.form {
+            None => cabinet.run(slot, self.km0, self.acl, &self.row, self.requests, &mut self.answers),
+            Some(form) => cabinet.prepared_run(slot, self.km0, self.acl, &self.row, form, self.requests, &mut self.answers),
+        };
+        with_buffer(told, &self.answers) + &slot_words(cabinet, slot) + &table("counters", &cabinet.counters)
+    }
+}
+
+// The slot that was called; nothing where there is no such slot.
+fn slot_words(cabinet: &Cabinet, slot: usize) -> String {
+    let called = cabinet.slots.get(slot);
+    called.map_or(String::new(), |s| format!(" slot {slot} load {} last {}{}", s.loaded, s.last, table("counts", &s.counts)))
 }
 
 fn asked(letter: u8, s: &mut Script, ledger: &mut Ledger) -> Option<Reply> {
@@ -136,6 +156,11 @@ fn asked(letter: u8, s: &mut Script, ledger: &mut Ledger) -> Option<Reply> {
         b'C' => ledger.clear(s.number()? as usize),
         b'R' => ledger.request(s.bytes()?, s.bytes()?, s.bytes()?),
         b'N' => ledger.narrow(s.bytes()?, s.bytes()?, s.bytes()?, s.bytes()?, s.bytes()?),
+        b'K' => {
+            let (index, value) = (usize::try_from(s.number()?).ok()?, u32::try_from(s.number()?).ok()?);
+            *ledger.counts.iter_mut().chain(&mut ledger.counters).nth(index)? = value;
+            Reply::Done
+        }
         _ => ledger.expand(s.bytes()?, s.bytes()?, s.bytes()?, s.bytes()?),
     })
 }
@@ -154,15 +179,14 @@ fn asked_in_slot(letter: u8, s: &mut Script, cabinet: &mut Cabinet) -> Option<St
         b'n' => cabinet.narrow(first, s.bytes()?, s.bytes()?, s.bytes()?, s.bytes()?, s.bytes()?),
         _ => cabinet.expand(first, s.bytes()?, s.bytes()?, s.bytes()?, s.bytes()?),
     };
-    let called = cabinet.slots.get(first).filter(|_| letter != b'f' && letter != b'c');
-    let slot = called.map_or(String::new(), |s| format!(" slot {first} load {} last {}{}", s.loaded, s.last, table("counts", &s.counts)));
-    Some(reply(told) + &slot + &table("counters", &cabinet.counters))
+    let called = if matches!(letter, b'f' | b'c') { String::new() } else { slot_words(cabinet, first) };
+    Some(reply(told) + &called + &table("counters", &cabinet.counters))
 }
 
 // The answer to one call; none where the script cannot be read on.
 fn answer(letter: u8, s: &mut Script, ledger: &mut Ledger, cabinet: &mut Cabinet) -> Option<String> {
     Some(match letter {
-        b'F' | b'L' | b'C' | b'R' | b'N' | b'X' => with_ledger(reply(asked(letter, s, ledger)?), ledger),
+        b'F' | b'L' | b'C' | b'R' | b'N' | b'X' | b'K' => with_ledger(reply(asked(letter, s, ledger)?), ledger),
         b'f' | b'l' | b'c' | b'r' | b'n' | b'x' => asked_in_slot(letter, s, cabinet)?,
         b'D' => verdict(assess(s.bytes()?, s.bytes()?)),
         b'S' => {
@@ -173,10 +197,10 @@ fn answer(letter: u8, s: &mut Script, ledger: &mut Ledger, cabinet: &mut Cabinet
         b'T' => listing(s, read_listing)?,
         b'M' => trimmed(s)?,
         b'P' => prepared(s.bytes()?),
-        b'B' => ran(s, ledger, None)?,
-        b'Q' => {
-            let form = s.form()?;
-            ran(s, ledger, Some(form))?
+        b'B' | b'Q' => Run::read(s, letter == b'Q')?.on(ledger),
+        b'b' | b'q' => {
+            let slot = s.number()? as usize;
+            Run::read(s, letter == b'q')?.in_slot(cabinet, slot)
         }
         _ => return None,
     })
