@@ -17,6 +17,7 @@ const LISTED: u8 = 32;
 const NEVER_SPENT: u32 = u32::MAX;
 const MECHANISM: u8 = 7;
 const DELEGATING: u8 = 150;
+const CERTIFIERS: u8 = 170;
 const TEMPLATE: u8 = 90;
 
 // Flag 6 of a blob action or request.
@@ -151,13 +152,24 @@ pub fn small_request(permission: u8) -> Vec<u8> {
     file(&[record(6, 0, &[(4, &[permission]), (56, &TIME.to_be_bytes())])])
 }
 
-/// A use of a permission with 32 certificates.
-pub fn full_request(permission: u8) -> Vec<u8> {
+/// A use of a permission with so many certificates.
+pub fn certified_request(permission: u8, certificates: u8) -> Vec<u8> {
     let mut req = small_request(permission);
-    for c in 0..CERTIFICATES {
+    for c in 0..certificates {
         req.extend(record(9, 0, &[(4, &hash(100 + c)), (24, &[0, MECHANISM])]));
     }
     req
+}
+
+/// A use of a permission with 32 certificates.
+pub fn full_request(permission: u8) -> Vec<u8> {
+    certified_request(permission, CERTIFICATES)
+}
+
+/// A working blob under KM0 and the first token of the full groups.
+pub fn blob_request() -> Vec<u8> {
+    let token = token_blob(0, 40);
+    file(&[record(7, 1, &[(4, &token[4..52]), (56, &TIME.to_be_bytes())])])
 }
 
 // The key that the first links of a chain lead to; the last link of the last chain leads to the last certificate.
@@ -179,6 +191,159 @@ pub fn delegated_request(permission: u8) -> Vec<u8> {
         }
     }
     req
+}
+
+/// The longest request: full groups that all permit a use, each with a certifier of its own; only the last is certified, by a chain of `delegated_by_last`.
+pub fn own_certifiers(groups: u8, permission: u8) -> Vec<u8> {
+    let rows = (0..groups).flat_map(|g| {
+        let mut rows = full_group(g, 1 << permission, NEVER_SPENT);
+        rows[0] = record(1, 3, &[(4, &hash(CERTIFIERS + g)), (24, &[0, MECHANISM])]);
+        rows
+    });
+    file(&rows.collect::<Vec<_>>())
+}
+
+/// Full groups that all permit a use, by one key that is not presented, each with a mechanism of its own; only the last names that of the certificates.
+pub fn own_mechanisms(groups: u8, permission: u8) -> Vec<u8> {
+    let rows = (0..groups).flat_map(|g| {
+        let mut rows = full_group(g, 1 << permission, NEVER_SPENT);
+        let mechanism = if g == groups - 1 { [0, MECHANISM] } else { [1, g] };
+        rows[0] = record(1, 3, &[(4, &hash(DELEGATING)), (24, &mechanism)]);
+        rows
+    });
+    file(&rows.collect::<Vec<_>>())
+}
+
+/// A use with so many certificates and delegations, in chains of four, each with its last link first. Chain c begins at the certifier of the last group but c of
+/// `own_certifiers`; the first chain leads to the last certificate, the others to none.
+pub fn delegated_by_last(groups: u8, permission: u8, certificates: u8, delegations: u8) -> Vec<u8> {
+    let mut req = certified_request(permission, certificates);
+    let mask = (1u16 << permission).to_be_bytes();
+    for chain in 0..delegations.div_ceil(LINKS) {
+        let links = LINKS.min(delegations - LINKS * chain);
+        let start = hash(CERTIFIERS + groups - 1 - chain % groups);
+        let end = hash(if chain == 0 { 99 + certificates } else { 99 });
+        let key = |link| hash(DELEGATING + LINKS * chain + link);
+        for link in (0..links).rev() {
+            let from = if link == 0 { start } else { key(link) };
+            let to = if link + 1 == links { end } else { key(link + 1) };
+            req.extend(record(14, 0, &[(4, &from), (24, &to), (44, &mask)]));
+        }
+    }
+    req
+}
+
+/// For the growth of a request: groups with so many actions, each with a certifier of its own. The last is certified by what is presented: by a chain, else by
+/// the last certificate; it has no certifier if nothing is presented.
+pub fn growing_acl(groups: u8, actions: u8, certificates: u8, delegations: u8) -> Vec<u8> {
+    let rows = (0..groups).flat_map(|g| {
+        let full = full_group(g, 1 << SIGN, NEVER_SPENT);
+        let certifier = match (g == groups - 1, certificates, delegations) {
+            (true, 0, 0) => None,
+            (true, c, 0) => Some(99 + c),
+            _ => Some(CERTIFIERS + g),
+        };
+        let head = certifier.map_or(record(1, 0, &[]), |key| record(1, 1, &[(4, &hash(key))]));
+        // The last of the eight actions is the one that permits; recovery blobs name their key, as an open group's have to.
+        let limits = full[1..5].to_vec();
+        [vec![head], limits, full[full.len() - usize::from(actions)..].to_vec()].concat()
+    });
+    file(&rows.collect::<Vec<_>>())
+}
+
+/// The longest files of a narrowing but for the permission that it needs: full groups, each of a mechanism of its own, with seven actions that store a blob and one that
+/// permits ReduceACL.
+pub fn worst_narrowing_acl() -> Vec<u8> {
+    let acl = own_mechanisms(ALL, REDUCE_ACL);
+    let (records, _) = acl.as_chunks::<64>();
+    let rows = records.iter().flat_map(|rec| match rec[0] {
+        4 | 5 => stored_blob(TEMPLATE).to_vec(),
+        _ => vec![*rec],
+    });
+    file(&rows.collect::<Vec<_>>())
+}
+
+/// The same groups without certifiers.
+pub fn opened(mut acl: Vec<u8>) -> Vec<u8> {
+    acl.chunks_mut(64).filter(|rec| rec[0] == 1).for_each(|rec| rec[3..26].fill(0));
+    acl
+}
+
+// The groups' limits of a sort get this maximum, but for that of the last group, if it is spared.
+fn limited(mut acl: Vec<u8>, sort: u8, maximum: u32, spared: bool) -> Vec<u8> {
+    let mut limits: Vec<_> = acl.chunks_mut(64).filter(|rec| rec[0] == 2 && rec[4] == sort).collect();
+    if spared {
+        limits.pop();
+    }
+    limits.into_iter().for_each(|rec| rec[8..12].copy_from_slice(&maximum.to_be_bytes()));
+    acl
+}
+
+/// Open groups that permit Sign, of which all but the last are spent.
+pub fn last_unspent(groups: u8) -> Vec<u8> {
+    limited(all_permit(groups), 3, 0, true)
+}
+
+/// Open groups that permit Sign, so many times after each load.
+pub fn used_up(groups: u8, uses: u32) -> Vec<u8> {
+    limited(all_permit(groups), 1, uses, false)
+}
+
+/// Open groups that permit Sign in the first seconds after a load.
+pub fn in_first_seconds(groups: u8, seconds: u32) -> Vec<u8> {
+    limited(all_permit(groups), 3, seconds, false)
+}
+
+fn all_permit(groups: u8) -> Vec<u8> {
+    opened(file(&(0..groups).flat_map(|g| full_group(g, 1 << SIGN, NEVER_SPENT)).collect::<Vec<_>>()))
+}
+
+/// The request at a later time.
+pub fn later(mut request: Vec<u8>, seconds: u64) -> Vec<u8> {
+    request[56..64].copy_from_slice(&(TIME + seconds).to_be_bytes());
+    request
+}
+
+/// The certificates of a request file, decoded: hash and mechanism of each.
+pub fn row(request: &[u8]) -> Vec<([u8; 20], u16)> {
+    request[64..].chunks(64).filter(|rec| rec[0] == 9).map(|rec| (rec[4..24].try_into().unwrap(), u16::from_be_bytes([rec[24], rec[25]]))).collect()
+}
+
+/// A file whose first record is bad.
+pub fn bad_first(mut file: Vec<u8>) -> Vec<u8> {
+    file[1] = 1;
+    file
+}
+
+/// The bundle with a warrant whose signature is bad, so that the first step fails.
+pub fn bad_warrant(mut bundle: Vec<u8>) -> Vec<u8> {
+    let signature = bundle.chunks_mut(64).find(|rec| rec[0] == 11).expect("a signature");
+    signature[5] = 0;
+    bundle
+}
+
+/// The listing of full groups in which each line is as long as it can be, but for the eight actions, which are all this one.
+fn longest_listing(action: &str) -> Vec<u8> {
+    let hash = "5a".repeat(20);
+    let limits: String = (252..=255).map(|c| format!("limit counter {c} uses 4294967295\n")).collect();
+    format!("group certifier {hash} mechanism 65535\n{limits}{}", format!("{action}\n").repeat(8)).repeat(64).into_bytes()
+}
+
+/// The longest listing.
+pub fn longest_blobs() -> Vec<u8> {
+    let hash = "5a".repeat(20);
+    longest_listing(&format!(
+        "MakeBlob AllowKmOnly AllowNonKm0 kmhash {hash} kthash {hash} \
+         ktparams AllowSoftSlots needed 10 total 64 seconds 4294967295 AllowNullKmToken blobfile\n\
+         blobfile devices 4294967295 template {hash}"
+    ))
+}
+
+pub fn longest_permissions() -> Vec<u8> {
+    longest_listing(
+        "OpPermissions DuplicateHandle GetAppData ReduceACL GetACL Sign Verify SignModuleCert UseAsCertificate \
+         Encrypt Decrypt ExportAsPlain SetAppData ExpandACL UseAsBlobKey UseAsKM UseAsLoaderKey",
+    )
 }
 
 /// A hint for each of `groups` groups: its own place, and each of its first `actions` actions by its own place.
