@@ -77,7 +77,9 @@ pub extern "C" fn akubolinfe_cabinet_request(
     acl: &[u8],
     req: &[u8],
 ) -> HostCabinetOutcome
-    ensures { λ r. ⌜ hostCabinetOutcomeAs r ≡ hostCabinetOutcomeFor (cabinetRequest (cabinetAs cabinet) slot (now (km0 .entry)) (now (acl .entry)) (now (req .entry))) ⌝ }
+    ensures { λ r. ⌜
+        hostCabinetOutcomeAs r ≡ hostCabinetOutcomeFor (cabinetRequest (cabinetAs cabinet) slot (now (km0 .entry)) (now (acl .entry)) (now (req .entry)))
+        ⌝ }
 {
     c_answers::host_cabinet_outcome(cabinet.request(slot, km0, acl, req))
 }
@@ -91,7 +93,10 @@ pub extern "C" fn akubolinfe_cabinet_request_in_place(
     acl: &[u8],
     req: &[u8],
 ) -> HostReply
-    ensures { λ r. ⌜ hostCabinetOutcomeIn r (now (cabinet .exit)) ≡ hostCabinetOutcomeFor (cabinetRequest (cabinetAs (now (cabinet .entry))) slot (now (km0 .entry)) (now (acl .entry)) (now (req .entry))) ⌝ }
+    ensures { λ r. ⌜
+        hostCabinetOutcomeIn r (now (cabinet .exit)) ≡
+        hostCabinetOutcomeFor (cabinetRequest (cabinetAs (now (cabinet .entry))) slot (now (km0 .entry)) (now (acl .entry)) (now (req .entry)))
+        ⌝ }
 {
     let o = akubolinfe_cabinet_request(*cabinet, slot, km0, acl, req);
     *cabinet = o.cabinet;
@@ -112,7 +117,11 @@ pub extern "C" fn akubolinfe_cabinet_narrow(
     new: &[u8],
     hints: &[u8],
 ) -> HostCabinetOutcome
-    ensures { λ r. ⌜ hostCabinetOutcomeAs r ≡ hostCabinetOutcomeFor (cabinetNarrow (cabinetAs cabinet) slot (now (km0 .entry)) (now (acl .entry)) (now (req .entry)) (now (new .entry)) (now (hints .entry))) ⌝ }
+    ensures { λ r. ⌜
+        hostCabinetOutcomeAs r ≡
+        hostCabinetOutcomeFor
+        (cabinetNarrow (cabinetAs cabinet) slot (now (km0 .entry)) (now (acl .entry)) (now (req .entry)) (now (new .entry)) (now (hints .entry)))
+        ⌝ }
 {
     c_answers::host_cabinet_outcome(cabinet.narrow(slot, km0, acl, req, new, hints))
 }
@@ -128,7 +137,11 @@ pub extern "C" fn akubolinfe_cabinet_narrow_in_place(
     new: &[u8],
     hints: &[u8],
 ) -> HostReply
-    ensures { λ r. ⌜ hostCabinetOutcomeIn r (now (cabinet .exit)) ≡ hostCabinetOutcomeFor (cabinetNarrow (cabinetAs (now (cabinet .entry))) slot (now (km0 .entry)) (now (acl .entry)) (now (req .entry)) (now (new .entry)) (now (hints .entry))) ⌝ }
+    ensures { λ r. ⌜
+        hostCabinetOutcomeIn r (now (cabinet .exit)) ≡
+        hostCabinetOutcomeFor
+        (cabinetNarrow (cabinetAs (now (cabinet .entry))) slot (now (km0 .entry)) (now (acl .entry)) (now (req .entry)) (now (new .entry)) (now (hints .entry)))
+        ⌝ }
 {
     let o = akubolinfe_cabinet_narrow(*cabinet, slot, km0, acl, req, new, hints);
     *cabinet = o.cabinet;
@@ -148,7 +161,10 @@ pub extern "C" fn akubolinfe_cabinet_expand(
     req: &[u8],
     new: &[u8],
 ) -> HostCabinetOutcome
-    ensures { λ r. ⌜ hostCabinetOutcomeAs r ≡ hostCabinetOutcomeFor (cabinetExpand (cabinetAs cabinet) slot (now (km0 .entry)) (now (acl .entry)) (now (req .entry)) (now (new .entry))) ⌝ }
+    ensures { λ r. ⌜
+        hostCabinetOutcomeAs r ≡
+        hostCabinetOutcomeFor (cabinetExpand (cabinetAs cabinet) slot (now (km0 .entry)) (now (acl .entry)) (now (req .entry)) (now (new .entry)))
+        ⌝ }
 {
     c_answers::host_cabinet_outcome(cabinet.expand(slot, km0, acl, req, new))
 }
@@ -163,7 +179,11 @@ pub extern "C" fn akubolinfe_cabinet_expand_in_place(
     req: &[u8],
     new: &[u8],
 ) -> HostReply
-    ensures { λ r. ⌜ hostCabinetOutcomeIn r (now (cabinet .exit)) ≡ hostCabinetOutcomeFor (cabinetExpand (cabinetAs (now (cabinet .entry))) slot (now (km0 .entry)) (now (acl .entry)) (now (req .entry)) (now (new .entry))) ⌝ }
+    ensures { λ r. ⌜
+        hostCabinetOutcomeIn r (now (cabinet .exit)) ≡
+        hostCabinetOutcomeFor
+        (cabinetExpand (cabinetAs (now (cabinet .entry))) slot (now (km0 .entry)) (now (acl .entry)) (now (req .entry)) (now (new .entry)))
+        ⌝ }
 {
     let o = akubolinfe_cabinet_expand(*cabinet, slot, km0, acl, req, new);
     *cabinet = o.cabinet;

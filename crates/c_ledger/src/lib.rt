@@ -79,7 +79,9 @@ pub extern "C" fn akubolinfe_request_in_place(
     acl: &[u8],
     req: &[u8],
 ) -> HostReply
-    ensures { λ r. ⌜ hostOutcomeIn r (now (ledger .exit)) ≡ hostOutcomeFor (request (ledgerAs (now (ledger .entry))) (now (km0 .entry)) (now (acl .entry)) (now (req .entry))) ⌝ }
+    ensures { λ r. ⌜
+        hostOutcomeIn r (now (ledger .exit)) ≡ hostOutcomeFor (request (ledgerAs (now (ledger .entry))) (now (km0 .entry)) (now (acl .entry)) (now (req .entry)))
+        ⌝ }
 {
     let o = akubolinfe_request(*ledger, km0, acl, req);
     *ledger = o.ledger;
@@ -99,7 +101,10 @@ pub extern "C" fn akubolinfe_narrow(
     new: &[u8],
     hints: &[u8],
 ) -> HostOutcome
-    ensures { λ r. ⌜ hostOutcomeAs r ≡ hostOutcomeFor (narrow (ledgerAs ledger) (now (km0 .entry)) (now (acl .entry)) (now (req .entry)) (now (new .entry)) (now (hints .entry))) ⌝ }
+    ensures { λ r. ⌜
+        hostOutcomeAs r ≡
+        hostOutcomeFor (narrow (ledgerAs ledger) (now (km0 .entry)) (now (acl .entry)) (now (req .entry)) (now (new .entry)) (now (hints .entry)))
+        ⌝ }
 {
     c_answers::host_outcome(ledger.narrow(km0, acl, req, new, hints))
 }
@@ -114,7 +119,11 @@ pub extern "C" fn akubolinfe_narrow_in_place(
     new: &[u8],
     hints: &[u8],
 ) -> HostReply
-    ensures { λ r. ⌜ hostOutcomeIn r (now (ledger .exit)) ≡ hostOutcomeFor (narrow (ledgerAs (now (ledger .entry))) (now (km0 .entry)) (now (acl .entry)) (now (req .entry)) (now (new .entry)) (now (hints .entry))) ⌝ }
+    ensures { λ r. ⌜
+        hostOutcomeIn r (now (ledger .exit)) ≡
+        hostOutcomeFor
+        (narrow (ledgerAs (now (ledger .entry))) (now (km0 .entry)) (now (acl .entry)) (now (req .entry)) (now (new .entry)) (now (hints .entry)))
+        ⌝ }
 {
     let o = akubolinfe_narrow(*ledger, km0, acl, req, new, hints);
     *ledger = o.ledger;
@@ -147,7 +156,10 @@ pub extern "C" fn akubolinfe_expand_in_place(
     req: &[u8],
     new: &[u8],
 ) -> HostReply
-    ensures { λ r. ⌜ hostOutcomeIn r (now (ledger .exit)) ≡ hostOutcomeFor (expand (ledgerAs (now (ledger .entry))) (now (km0 .entry)) (now (acl .entry)) (now (req .entry)) (now (new .entry))) ⌝ }
+    ensures { λ r. ⌜
+        hostOutcomeIn r (now (ledger .exit)) ≡
+        hostOutcomeFor (expand (ledgerAs (now (ledger .entry))) (now (km0 .entry)) (now (acl .entry)) (now (req .entry)) (now (new .entry)))
+        ⌝ }
 {
     let o = akubolinfe_expand(*ledger, km0, acl, req, new);
     *ledger = o.ledger;

@@ -35,7 +35,10 @@ pub extern "C" fn akubolinfe_run(
     requests: &[u8],
     answers: &mut [u8],
 ) -> HostRun
-    ensures { λ r. ⌜ hostRunAs r (now (answers .exit)) ≡ hostRunFor (run (ledgerAs ledger) (now (km0 .entry)) (now (acl .entry)) (rowAs (now (row .entry))) (now (requests .entry)) (now (answers .entry))) ⌝ }
+    ensures { λ r. ⌜
+        hostRunAs r (now (answers .exit)) ≡ hostRunFor (run (ledgerAs ledger) (now (km0 .entry)) (now (acl .entry)) (rowAs (now (row .entry)))
+        (now (requests .entry)) (now (answers .entry)))
+        ⌝ }
 {
     c_run_answers::run(runs::run(ledger, km0, acl, row, requests, answers))
 }
@@ -50,7 +53,10 @@ pub extern "C" fn akubolinfe_run_in_place(
     requests: &[u8],
     answers: &mut [u8],
 ) -> HostRunReply
-    ensures { λ r. ⌜ hostRunIn r (now (ledger .exit)) (now (answers .exit)) ≡ hostRunFor (run (ledgerAs (now (ledger .entry))) (now (km0 .entry)) (now (acl .entry)) (rowAs (now (row .entry))) (now (requests .entry)) (now (answers .entry))) ⌝ }
+    ensures { λ r. ⌜
+        hostRunIn r (now (ledger .exit)) (now (answers .exit)) ≡ hostRunFor (run (ledgerAs (now (ledger .entry))) (now (km0 .entry)) (now (acl .entry))
+        (rowAs (now (row .entry))) (now (requests .entry)) (now (answers .entry)))
+        ⌝ }
 {
     let o = akubolinfe_run(*ledger, km0, acl, row, requests, answers);
     *ledger = o.ledger;
@@ -71,7 +77,10 @@ pub extern "C" fn akubolinfe_prepared_run(
     requests: &[u8],
     answers: &mut [u8],
 ) -> HostRun
-    ensures { λ r. ⌜ hostRunAs r (now (answers .exit)) ≡ hostRunFor (preparedRun (ledgerAs ledger) (now (km0 .entry)) (now (acl .entry)) (rowAs (now (row .entry))) (formAs form) (now (requests .entry)) (now (answers .entry))) ⌝ }
+    ensures { λ r. ⌜
+        hostRunAs r (now (answers .exit)) ≡ hostRunFor (preparedRun (ledgerAs ledger) (now (km0 .entry)) (now (acl .entry)) (rowAs (now (row .entry)))
+        (formAs form) (now (requests .entry)) (now (answers .entry)))
+        ⌝ }
 {
     c_run_answers::run(runs::prepared_run(ledger, km0, acl, row, form, requests, answers))
 }
@@ -87,7 +96,10 @@ pub extern "C" fn akubolinfe_prepared_run_in_place(
     requests: &[u8],
     answers: &mut [u8],
 ) -> HostRunReply
-    ensures { λ r. ⌜ hostRunIn r (now (ledger .exit)) (now (answers .exit)) ≡ hostRunFor (preparedRun (ledgerAs (now (ledger .entry))) (now (km0 .entry)) (now (acl .entry)) (rowAs (now (row .entry))) (formAs form) (now (requests .entry)) (now (answers .entry))) ⌝ }
+    ensures { λ r. ⌜
+        hostRunIn r (now (ledger .exit)) (now (answers .exit)) ≡ hostRunFor (preparedRun (ledgerAs (now (ledger .entry))) (now (km0 .entry))
+        (now (acl .entry)) (rowAs (now (row .entry))) (formAs form) (now (requests .entry)) (now (answers .entry)))
+        ⌝ }
 {
     let o = akubolinfe_prepared_run(*ledger, km0, acl, row, form, requests, answers);
     *ledger = o.ledger;
@@ -108,7 +120,12 @@ pub extern "C" fn akubolinfe_cabinet_run(
     requests: &[u8],
     answers: &mut [u8],
 ) -> HostCabinetRun
-    ensures { λ r. ⌜ hostCabinetRunAs r (now (answers .exit)) ≡ hostCabinetRunFor (cabinetRun (cabinetAs cabinet) slot (now (km0 .entry)) (now (acl .entry)) (rowAs (now (row .entry))) (now (requests .entry)) (now (answers .entry))) ⌝ }
+    ensures { λ r. ⌜
+        hostCabinetRunAs r (now (answers .exit)) ≡
+        hostCabinetRunFor
+        (cabinetRun (cabinetAs cabinet) slot (now (km0 .entry)) (now (acl .entry)) (rowAs (now (row .entry))) (now (requests .entry))
+        (now (answers .entry)))
+        ⌝ }
 {
     c_run_answers::cabinet_run(cabinet_runs::run(cabinet, slot, km0, acl, row, requests, answers))
 }
@@ -124,7 +141,12 @@ pub extern "C" fn akubolinfe_cabinet_run_in_place(
     requests: &[u8],
     answers: &mut [u8],
 ) -> HostRunReply
-    ensures { λ r. ⌜ hostCabinetRunIn r (now (cabinet .exit)) (now (answers .exit)) ≡ hostCabinetRunFor (cabinetRun (cabinetAs (now (cabinet .entry))) slot (now (km0 .entry)) (now (acl .entry)) (rowAs (now (row .entry))) (now (requests .entry)) (now (answers .entry))) ⌝ }
+    ensures { λ r. ⌜
+        hostCabinetRunIn r (now (cabinet .exit)) (now (answers .exit)) ≡
+        hostCabinetRunFor
+        (cabinetRun (cabinetAs (now (cabinet .entry))) slot (now (km0 .entry)) (now (acl .entry)) (rowAs (now (row .entry))) (now (requests .entry))
+        (now (answers .entry)))
+        ⌝ }
 {
     let o = akubolinfe_cabinet_run(*cabinet, slot, km0, acl, row, requests, answers);
     *cabinet = o.cabinet;
@@ -146,7 +168,12 @@ pub extern "C" fn akubolinfe_cabinet_prepared_run(
     requests: &[u8],
     answers: &mut [u8],
 ) -> HostCabinetRun
-    ensures { λ r. ⌜ hostCabinetRunAs r (now (answers .exit)) ≡ hostCabinetRunFor (cabinetPreparedRun (cabinetAs cabinet) slot (now (km0 .entry)) (now (acl .entry)) (rowAs (now (row .entry))) (formAs form) (now (requests .entry)) (now (answers .entry))) ⌝ }
+    ensures { λ r. ⌜
+        hostCabinetRunAs r (now (answers .exit)) ≡
+        hostCabinetRunFor
+        (cabinetPreparedRun (cabinetAs cabinet) slot (now (km0 .entry)) (now (acl .entry)) (rowAs (now (row .entry))) (formAs form)
+        (now (requests .entry)) (now (answers .entry)))
+        ⌝ }
 {
     c_run_answers::cabinet_run(cabinet_runs::prepared_run(
         cabinet,
@@ -172,7 +199,12 @@ pub extern "C" fn akubolinfe_cabinet_prepared_run_in_place(
     requests: &[u8],
     answers: &mut [u8],
 ) -> HostRunReply
-    ensures { λ r. ⌜ hostCabinetRunIn r (now (cabinet .exit)) (now (answers .exit)) ≡ hostCabinetRunFor (cabinetPreparedRun (cabinetAs (now (cabinet .entry))) slot (now (km0 .entry)) (now (acl .entry)) (rowAs (now (row .entry))) (formAs form) (now (requests .entry)) (now (answers .entry))) ⌝ }
+    ensures { λ r. ⌜
+        hostCabinetRunIn r (now (cabinet .exit)) (now (answers .exit)) ≡
+        hostCabinetRunFor
+        (cabinetPreparedRun (cabinetAs (now (cabinet .entry))) slot (now (km0 .entry)) (now (acl .entry)) (rowAs (now (row .entry))) (formAs form)
+        (now (requests .entry)) (now (answers .entry)))
+        ⌝ }
 {
     let o = akubolinfe_cabinet_prepared_run(*cabinet, slot, km0, acl, row, form, requests, answers);
     *cabinet = o.cabinet;

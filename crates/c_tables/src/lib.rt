@@ -19,7 +19,12 @@ pub extern "C" fn akubolinfe_request_on_tables(
     acl: &[u8],
     req: &[u8],
 ) -> HostReply
-    ensures { λ r. ⌜ hostOutcomeOn r (now (counts .exit)) (now (counters .exit)) loaded (now (last .exit)) ≡ hostOutcomeFor (request (ledgerOfTables (now (counts .entry)) (now (counters .entry)) loaded (now (last .entry))) (now (km0 .entry)) (now (acl .entry)) (now (req .entry))) ⌝ }
+    ensures { λ r. ⌜
+        hostOutcomeOn r (now (counts .exit)) (now (counters .exit)) loaded (now (last .exit)) ≡
+        hostOutcomeFor
+        (request (ledgerOfTables (now (counts .entry)) (now (counters .entry)) loaded (now (last .entry))) (now (km0 .entry)) (now (acl .entry))
+        (now (req .entry)))
+        ⌝ }
 {
     c_answers::host_reply(gate_in_place::request(counts, counters, loaded, last, km0, acl, req))
 }
@@ -37,7 +42,12 @@ pub extern "C" fn akubolinfe_narrow_on_tables(
     new: &[u8],
     hints: &[u8],
 ) -> HostReply
-    ensures { λ r. ⌜ hostOutcomeOn r (now (counts .exit)) (now (counters .exit)) loaded (now (last .exit)) ≡ hostOutcomeFor (narrow (ledgerOfTables (now (counts .entry)) (now (counters .entry)) loaded (now (last .entry))) (now (km0 .entry)) (now (acl .entry)) (now (req .entry)) (now (new .entry)) (now (hints .entry))) ⌝ }
+    ensures { λ r. ⌜
+        hostOutcomeOn r (now (counts .exit)) (now (counters .exit)) loaded (now (last .exit)) ≡
+        hostOutcomeFor
+        (narrow (ledgerOfTables (now (counts .entry)) (now (counters .entry)) loaded (now (last .entry))) (now (km0 .entry)) (now (acl .entry))
+        (now (req .entry)) (now (new .entry)) (now (hints .entry)))
+        ⌝ }
 {
     c_answers::host_reply(gate_in_place::narrow(
         counts,
@@ -64,7 +74,12 @@ pub extern "C" fn akubolinfe_expand_on_tables(
     req: &[u8],
     new: &[u8],
 ) -> HostReply
-    ensures { λ r. ⌜ hostOutcomeOn r (now (counts .exit)) (now (counters .exit)) loaded (now (last .exit)) ≡ hostOutcomeFor (expand (ledgerOfTables (now (counts .entry)) (now (counters .entry)) loaded (now (last .entry))) (now (km0 .entry)) (now (acl .entry)) (now (req .entry)) (now (new .entry))) ⌝ }
+    ensures { λ r. ⌜
+        hostOutcomeOn r (now (counts .exit)) (now (counters .exit)) loaded (now (last .exit)) ≡
+        hostOutcomeFor
+        (expand (ledgerOfTables (now (counts .entry)) (now (counters .entry)) loaded (now (last .entry))) (now (km0 .entry)) (now (acl .entry))
+        (now (req .entry)) (now (new .entry)))
+        ⌝ }
 {
     c_answers::host_reply(gate_in_place::expand(counts, counters, loaded, last, km0, acl, req, new))
 }

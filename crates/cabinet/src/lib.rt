@@ -76,7 +76,13 @@ fn request_in<'a>(
     acl: &[u8],
     req: &[u8],
 ) -> Reply
-    ensures { λ r. ⌜ Settles (ledgerOfTables (now (counts .entry)) (now (counters .entry)) loaded last) (aclOf (now (acl .entry))) (requestOf (now (req .entry)) .time) countsCharged (answerAs r) (ifThere there (ledgerOfTables (now (counts .entry)) (now (counters .entry)) loaded last) (request (ledgerOfTables (now (counts .entry)) (now (counters .entry)) loaded last) (now (km0 .entry)) (now (acl .entry)) (now (req .entry)))) ⌝ }
+    ensures { λ r. ⌜
+        Settles (ledgerOfTables (now (counts .entry)) (now (counters .entry)) loaded last) (aclOf (now (acl .entry))) (requestOf (now (req .entry)) .time)
+        countsCharged (answerAs r)
+        (ifThere there (ledgerOfTables (now (counts .entry)) (now (counters .entry)) loaded last)
+        (request (ledgerOfTables (now (counts .entry)) (now (counters .entry)) loaded last) (now (km0 .entry)) (now (acl .entry))
+        (now (req .entry))))
+        ⌝ }
 {
     if !there {
         return Reply::Refuse(Refusal::NoSlot);
@@ -97,7 +103,13 @@ fn narrow_in<'a>(
     new: &[u8],
     hints: &[u8],
 ) -> Reply
-    ensures { λ r. ⌜ Settles (ledgerOfTables (now (counts .entry)) (now (counters .entry)) loaded last) (aclOf (now (acl .entry))) (requestOf (now (req .entry)) .time) (narrowedCounts (hintsOf (now (hints .entry)))) (answerAs r) (ifThere there (ledgerOfTables (now (counts .entry)) (now (counters .entry)) loaded last) (narrow (ledgerOfTables (now (counts .entry)) (now (counters .entry)) loaded last) (now (km0 .entry)) (now (acl .entry)) (now (req .entry)) (now (new .entry)) (now (hints .entry)))) ⌝ }
+    ensures { λ r. ⌜
+        Settles (ledgerOfTables (now (counts .entry)) (now (counters .entry)) loaded last) (aclOf (now (acl .entry))) (requestOf (now (req .entry)) .time)
+        (narrowedCounts (hintsOf (now (hints .entry)))) (answerAs r)
+        (ifThere there (ledgerOfTables (now (counts .entry)) (now (counters .entry)) loaded last)
+        (narrow (ledgerOfTables (now (counts .entry)) (now (counters .entry)) loaded last) (now (km0 .entry)) (now (acl .entry))
+        (now (req .entry)) (now (new .entry)) (now (hints .entry))))
+        ⌝ }
 {
     if !there {
         return Reply::Refuse(Refusal::NoSlot);
@@ -117,7 +129,13 @@ fn expand_in<'a>(
     req: &[u8],
     new: &[u8],
 ) -> Reply
-    ensures { λ r. ⌜ Settles (ledgerOfTables (now (counts .entry)) (now (counters .entry)) loaded last) (aclOf (now (acl .entry))) (requestOf (now (req .entry)) .time) (countsAfter noCounts) (answerAs r) (ifThere there (ledgerOfTables (now (counts .entry)) (now (counters .entry)) loaded last) (expand (ledgerOfTables (now (counts .entry)) (now (counters .entry)) loaded last) (now (km0 .entry)) (now (acl .entry)) (now (req .entry)) (now (new .entry)))) ⌝ }
+    ensures { λ r. ⌜
+        Settles (ledgerOfTables (now (counts .entry)) (now (counters .entry)) loaded last) (aclOf (now (acl .entry))) (requestOf (now (req .entry)) .time)
+        (countsAfter noCounts) (answerAs r)
+        (ifThere there (ledgerOfTables (now (counts .entry)) (now (counters .entry)) loaded last)
+        (expand (ledgerOfTables (now (counts .entry)) (now (counters .entry)) loaded last) (now (km0 .entry)) (now (acl .entry))
+        (now (req .entry)) (now (new .entry))))
+        ⌝ }
 {
     if !there {
         return Reply::Refuse(Refusal::NoSlot);
@@ -166,7 +184,15 @@ impl Cabinet {
         acl: &[u8],
     ) -> CabinetOutcome
         requires { ⌜ (at < slotsMax) × CountersRoom (self .counters) (aclOf (now acl)) (answerAs reply) ⌝ }
-        ensures { λ r. ⌜ cabinetOutcomeAs r ≡ asGate (cabinetAs self) at (record { answer = answerAs reply; ledger = ledgerOfTables counts (countersCharged (aclOf (now (acl .entry))) (answerAs reply) (self .counters)) loaded after }) ⌝ }
+        ensures { λ r. ⌜
+            cabinetOutcomeAs r ≡
+            asGate (cabinetAs self) at
+            (record {
+              answer = answerAs reply;
+              ledger =
+                  ledgerOfTables counts (countersCharged (aclOf (now (acl .entry))) (answerAs reply) (self .counters)) loaded after;
+            })
+            ⌝ }
     {
         gate_charge::charge_counters(&mut self.counters, reply, acl);
         let s = Slot {
@@ -240,7 +266,10 @@ impl Cabinet {
         new: &[u8],
         hints: &[u8],
     ) -> CabinetOutcome
-        ensures { λ r. ⌜ cabinetOutcomeAs r ≡ cabinetNarrow (cabinetAs self) slot (now (km0 .entry)) (now (acl .entry)) (now (req .entry)) (now (new .entry)) (now (hints .entry)) ⌝ }
+        ensures { λ r. ⌜
+            cabinetOutcomeAs r ≡
+            cabinetNarrow (cabinetAs self) slot (now (km0 .entry)) (now (acl .entry)) (now (req .entry)) (now (new .entry)) (now (hints .entry))
+            ⌝ }
     {
         let there = is_slot(slot);
         let at = slot_index(slot);
@@ -275,7 +304,9 @@ impl Cabinet {
         req: &[u8],
         new: &[u8],
     ) -> CabinetOutcome
-        ensures { λ r. ⌜ cabinetOutcomeAs r ≡ cabinetExpand (cabinetAs self) slot (now (km0 .entry)) (now (acl .entry)) (now (req .entry)) (now (new .entry)) ⌝ }
+        ensures { λ r. ⌜
+            cabinetOutcomeAs r ≡ cabinetExpand (cabinetAs self) slot (now (km0 .entry)) (now (acl .entry)) (now (req .entry)) (now (new .entry))
+            ⌝ }
     {
         let there = is_slot(slot);
         let at = slot_index(slot);

@@ -94,7 +94,11 @@ fn run_judged(
     requests: &[u8],
     answers: &mut [u8],
 ) -> CabinetRan
-    ensures { λ r. ⌜ cabinetRanAs r (now (answers .exit)) ≡ runInSlot (cabinetAs cabinet) slot (now (answers .entry)) (runSeen (ledgerAt (cabinetAs cabinet) slot) (now (km0 .entry)) (now (acl .entry)) seen (now (requests .entry)) (now (answers .entry))) ⌝ }
+    ensures { λ r. ⌜
+        cabinetRanAs r (now (answers .exit)) ≡
+        runInSlot (cabinetAs cabinet) slot (now (answers .entry)) (runSeen (ledgerAt (cabinetAs cabinet) slot) (now (km0 .entry)) (now (acl .entry)) seen
+        (now (requests .entry)) (now (answers .entry)))
+        ⌝ }
 {
     if Cabinet::SLOTS <= slot {
         return no_slot(cabinet);
@@ -121,7 +125,12 @@ fn prepared_judged(
     requests: &[u8],
     answers: &mut [u8],
 ) -> CabinetRan
-    ensures { λ r. ⌜ cabinetRanAs r (now (answers .exit)) ≡ runInSlot (cabinetAs cabinet) slot (now (answers .entry)) (preparedSeen (ledgerAt (cabinetAs cabinet) slot) (now (km0 .entry)) (now (acl .entry)) seen (formAs form) (now (requests .entry)) (now (answers .entry))) ⌝ }
+    ensures { λ r. ⌜
+        cabinetRanAs r (now (answers .exit)) ≡
+        runInSlot (cabinetAs cabinet) slot (now (answers .entry))
+        (preparedSeen (ledgerAt (cabinetAs cabinet) slot) (now (km0 .entry)) (now (acl .entry)) seen (formAs form) (now (requests .entry))
+        (now (answers .entry)))
+        ⌝ }
 {
     if Cabinet::SLOTS <= slot {
         return no_slot(cabinet);
@@ -148,7 +157,10 @@ pub fn run(
     requests: &[u8],
     answers: &mut [u8],
 ) -> CabinetRan
-    ensures { λ r. ⌜ cabinetRanAs r (now (answers .exit)) ≡ cabinetRun (cabinetAs cabinet) slot (now (km0 .entry)) (now (acl .entry)) (rowAs (now (row .entry))) (now (requests .entry)) (now (answers .entry)) ⌝ }
+    ensures { λ r. ⌜
+        cabinetRanAs r (now (answers .exit)) ≡
+        cabinetRun (cabinetAs cabinet) slot (now (km0 .entry)) (now (acl .entry)) (rowAs (now (row .entry))) (now (requests .entry)) (now (answers .entry))
+        ⌝ }
 {
     run_judged(
         cabinet,
@@ -172,7 +184,11 @@ pub fn prepared_run(
     requests: &[u8],
     answers: &mut [u8],
 ) -> CabinetRan
-    ensures { λ r. ⌜ cabinetRanAs r (now (answers .exit)) ≡ cabinetPreparedRun (cabinetAs cabinet) slot (now (km0 .entry)) (now (acl .entry)) (rowAs (now (row .entry))) (formAs form) (now (requests .entry)) (now (answers .entry)) ⌝ }
+    ensures { λ r. ⌜
+        cabinetRanAs r (now (answers .exit)) ≡
+        cabinetPreparedRun (cabinetAs cabinet) slot (now (km0 .entry)) (now (acl .entry)) (rowAs (now (row .entry))) (formAs form) (now (requests .entry))
+        (now (answers .entry))
+        ⌝ }
 {
     prepared_judged(
         cabinet,

@@ -90,7 +90,10 @@ fn suite_known(places: &[usize; bundle_facts::ENTRIES], bundle: &[u8]) -> Checke
 // found, whatever they are; else the table is as it was.
 pub fn read_both(places: &mut [usize; bundle_facts::ENTRIES], bundle: &[u8], acl: &[u8]) -> Checked
     requires { ⌜ now places ≡ replicate entries 0 ⌝ }
-    ensures { λ r. ⌜ (faultAs r ≡ deskFault (now (bundle .entry)) (now (acl .entry))) × (faultAs r ≡ none → Found (now (bundle .entry)) (now (places .exit))) × (now (places .exit) ≡ placesRead (now (bundle .entry)) (now (acl .entry))) ⌝ }
+    ensures { λ r. ⌜
+        (faultAs r ≡ deskFault (now (bundle .entry)) (now (acl .entry))) × (faultAs r ≡ none → Found (now (bundle .entry)) (now (places .exit))) ×
+        (now (places .exit) ≡ placesRead (now (bundle .entry)) (now (acl .entry)))
+        ⌝ }
 {
     if !(files::whole(record_sizes::BUNDLE_RECORDS, bundle)
         & files::whole(record_sizes::ACL_RECORDS, acl)) {
@@ -154,7 +157,12 @@ fn judge_acl(
     acl: &[u8],
 ) -> Verdict
     requires { ⌜ (policyAs policy ≡ policyOf (records (now bundle))) × Found (now bundle) (now places) × (beforeAcl (records (now bundle)) ≡ none) ⌝ }
-    ensures { λ r. ⌜ verdictAs r ≡ verdictFor (acceptedUnless (fullFailure (records (now (bundle .entry))) (aclOf (now (acl .entry)))) (approach2 (gradeOf (records (now (bundle .entry))) (aclOf (now (acl .entry)))))) ⌝ }
+    ensures { λ r. ⌜
+        verdictAs r ≡
+        verdictFor
+        (acceptedUnless (fullFailure (records (now (bundle .entry))) (aclOf (now (acl .entry))))
+        (approach2 (gradeOf (records (now (bundle .entry))) (aclOf (now (acl .entry))))))
+        ⌝ }
 {
     let grade = desk_grading::acl_grade(policy, places, bundle, acl);
     let failure = acl_steps(policy, places, bundle, grade);
@@ -174,7 +182,12 @@ fn judge_policy(
     acl: &[u8],
 ) -> Verdict
     requires { ⌜ (policyAs policy ≡ policyOf (records (now bundle))) × Found (now bundle) (now places) ⌝ }
-    ensures { λ r. ⌜ verdictAs r ≡ verdictFor (acceptedUnless (fullFailure (records (now (bundle .entry))) (aclOf (now (acl .entry)))) (approach2 (gradeOf (records (now (bundle .entry))) (aclOf (now (acl .entry)))))) ⌝ }
+    ensures { λ r. ⌜
+        verdictAs r ≡
+        verdictFor
+        (acceptedUnless (fullFailure (records (now (bundle .entry))) (aclOf (now (acl .entry))))
+        (approach2 (gradeOf (records (now (bundle .entry))) (aclOf (now (acl .entry))))))
+        ⌝ }
 {
     let early = desk_steps::bundle_steps(places, bundle);
     match early {

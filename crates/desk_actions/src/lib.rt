@@ -195,7 +195,10 @@ pub fn archive_steps(policy: Policy, hkre: &[u8], rec: &[u8]) -> Failure
 // The first step that an action fails, under a policy and the keys that are trusted; an empty part for one that is not.
 pub fn action_steps(policy: Policy, hkm: &[u8], hkre: &[u8], rec: &[u8]) -> Failure
     requires { ⌜ length (now rec) ≡ recordBytes ⌝ }
-    ensures { λ r. ⌜ ((file : Option BlobfileRule) → failureAs r ≡ failureUnder (policyAs policy) (given (now (hkm .entry))) (given (now (hkre .entry))) (actionOf (now (rec .entry)) file)) ⌝ }
+    ensures { λ r. ⌜
+        ((file : Option BlobfileRule) → failureAs r ≡
+        failureUnder (policyAs policy) (given (now (hkm .entry))) (given (now (hkre .entry))) (actionOf (now (rec .entry)) file))
+        ⌝ }
 {
     let kind = rec[0];
     if kind == record_kinds::OP_PERMISSIONS {

@@ -91,7 +91,9 @@ pub fn same_fields(m: u8, n: u8, places: &[usize; bundle_facts::ENTRIES], bundle
 // What certificates 3 and 4 both vouch with: the officer's key, the module key and its confirmation.
 fn km_confirmed(places: &[usize; bundle_facts::ENTRIES], bundle: &[u8]) -> bool
     requires { ⌜ Found (now bundle) (now places) ⌝ }
-    ensures { λ r. ⌜ r ≡ (hasField 5 (records (now (bundle .entry))) && hasField 6 (records (now (bundle .entry))) && hasField 12 (records (now (bundle .entry)))) ⌝ }
+    ensures { λ r. ⌜
+        r ≡ (hasField 5 (records (now (bundle .entry))) && hasField 6 (records (now (bundle .entry))) && hasField 12 (records (now (bundle .entry))))
+        ⌝ }
 {
     has_field(5, places, bundle) & has_field(6, places, bundle) & has_field(12, places, bundle)
 }

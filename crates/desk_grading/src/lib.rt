@@ -48,7 +48,10 @@ fn joined(a: Grade, b: Grade) -> Grade
 // MakeArchiveBlob makes the key recoverable. The kind is looked at once for all three.
 fn action_grade(policy: Policy, hkm: &[u8], hkre: &[u8], rec: &[u8]) -> Grade
     requires { ⌜ length (now rec) ≡ recordBytes ⌝ }
-    ensures { λ r. ⌜ ((file : Option BlobfileRule) → gradedAs r ≡ actionGraded (policyAs policy) (given (now (hkm .entry))) (given (now (hkre .entry))) (actionOf (now (rec .entry)) file)) ⌝ }
+    ensures { λ r. ⌜
+        ((file : Option BlobfileRule) → gradedAs r ≡
+        actionGraded (policyAs policy) (given (now (hkm .entry))) (given (now (hkre .entry))) (actionOf (now (rec .entry)) file))
+        ⌝ }
 {
     let kind = rec[0];
     if kind == record_kinds::OP_PERMISSIONS {
@@ -86,7 +89,10 @@ fn no_actions(recoverable: bool) -> Grade
 // The grade of an ACL's groups, by one walk over groups and actions. `checked` is whether the actions at this point are checked: not before the first
 // group, and not in a group that the officer's key certifies, which marks the key recoverable. The certifier's mechanism does not matter.
 fn groups_grade(officer: &[u8], policy: Policy, hkm: &[u8], hkre: &[u8], acl: &[u8]) -> Grade
-    ensures { λ r. ⌜ gradedAs r ≡ groupsGraded (given (now (officer .entry))) (policyAs policy) (given (now (hkm .entry))) (given (now (hkre .entry))) (aclOf (now (acl .entry))) ⌝ }
+    ensures { λ r. ⌜
+        gradedAs r ≡
+        groupsGraded (given (now (officer .entry))) (policyAs policy) (given (now (hkm .entry))) (given (now (hkre .entry))) (aclOf (now (acl .entry)))
+        ⌝ }
 {
     let mut found = no_actions(false);
     let mut checked = false;

@@ -98,7 +98,12 @@ pub fn request_reply<'a>(
     acl: &[u8],
     req: &[u8],
 ) -> Reply
-    ensures { λ r. ⌜ Settles (ledgerOfTables (now (counts .entry)) (now (counters .entry)) loaded last) (aclOf (now (acl .entry))) (requestOf (now (req .entry)) .time) countsCharged (answerAs r) (request (ledgerOfTables (now (counts .entry)) (now (counters .entry)) loaded last) (now (km0 .entry)) (now (acl .entry)) (now (req .entry))) ⌝ }
+    ensures { λ r. ⌜
+        Settles (ledgerOfTables (now (counts .entry)) (now (counters .entry)) loaded last) (aclOf (now (acl .entry))) (requestOf (now (req .entry)) .time)
+        countsCharged (answerAs r)
+        (request (ledgerOfTables (now (counts .entry)) (now (counters .entry)) loaded last) (now (km0 .entry)) (now (acl .entry))
+        (now (req .entry)))
+        ⌝ }
 {
     let fault = gate_files::request_files(km0, acl, req);
     match fault {
@@ -152,7 +157,12 @@ pub fn narrow_reply<'a>(
     new: &[u8],
     hints: &[u8],
 ) -> Reply
-    ensures { λ r. ⌜ Settles (ledgerOfTables (now (counts .entry)) (now (counters .entry)) loaded last) (aclOf (now (acl .entry))) (requestOf (now (req .entry)) .time) (narrowedCounts (hintsOf (now (hints .entry)))) (answerAs r) (narrow (ledgerOfTables (now (counts .entry)) (now (counters .entry)) loaded last) (now (km0 .entry)) (now (acl .entry)) (now (req .entry)) (now (new .entry)) (now (hints .entry))) ⌝ }
+    ensures { λ r. ⌜
+        Settles (ledgerOfTables (now (counts .entry)) (now (counters .entry)) loaded last) (aclOf (now (acl .entry))) (requestOf (now (req .entry)) .time)
+        (narrowedCounts (hintsOf (now (hints .entry)))) (answerAs r)
+        (narrow (ledgerOfTables (now (counts .entry)) (now (counters .entry)) loaded last) (now (km0 .entry)) (now (acl .entry)) (now (req .entry))
+        (now (new .entry)) (now (hints .entry)))
+        ⌝ }
 {
     let fault = gate_files::narrow_files(km0, acl, req, new, hints);
     match fault {
@@ -176,7 +186,12 @@ pub fn expand_reply<'a>(
     req: &[u8],
     new: &[u8],
 ) -> Reply
-    ensures { λ r. ⌜ Settles (ledgerOfTables (now (counts .entry)) (now (counters .entry)) loaded last) (aclOf (now (acl .entry))) (requestOf (now (req .entry)) .time) (countsAfter noCounts) (answerAs r) (expand (ledgerOfTables (now (counts .entry)) (now (counters .entry)) loaded last) (now (km0 .entry)) (now (acl .entry)) (now (req .entry)) (now (new .entry))) ⌝ }
+    ensures { λ r. ⌜
+        Settles (ledgerOfTables (now (counts .entry)) (now (counters .entry)) loaded last) (aclOf (now (acl .entry))) (requestOf (now (req .entry)) .time)
+        (countsAfter noCounts) (answerAs r)
+        (expand (ledgerOfTables (now (counts .entry)) (now (counters .entry)) loaded last) (now (km0 .entry)) (now (acl .entry)) (now (req .entry))
+        (now (new .entry)))
+        ⌝ }
 {
     let fault = gate_files::expand_files(km0, acl, req, new);
     match fault {
@@ -192,7 +207,9 @@ impl Ledger {
     // A narrowing, a use of ReduceACL: KM0, the ACL, the request with its certificates, the new ACL, a hint for each new group. A refusal
     // returns the ledger unchanged.
     pub fn narrow(mut self, km0: &[u8], acl: &[u8], req: &[u8], new: &[u8], hints: &[u8]) -> Outcome
-        ensures { λ r. ⌜ outcomeAs r ≡ narrow (ledgerAs self) (now (km0 .entry)) (now (acl .entry)) (now (req .entry)) (now (new .entry)) (now (hints .entry)) ⌝ }
+        ensures { λ r. ⌜
+            outcomeAs r ≡ narrow (ledgerAs self) (now (km0 .entry)) (now (acl .entry)) (now (req .entry)) (now (new .entry)) (now (hints .entry))
+            ⌝ }
     {
         let loaded = self.loaded;
         let last = self.last;

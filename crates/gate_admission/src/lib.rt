@@ -165,7 +165,11 @@ fn admits_use(p: u8, act: &[u8]) -> bool
 // that costs less.
 fn admits_working(km0: &[u8], rec: &[u8], rest: &[u8], act: &[u8], after: &[u8]) -> bool
     requires { ⌜ (length (now act) ≡ recordBytes) × (length (now rec) ≡ recordBytes) ⌝ }
-    ensures { λ r. ⌜ r ≡ admitsWorking (now (km0 .entry)) (workingBlobOf (now (rec .entry))) (blobfileNext (records (now (rest .entry)))) (actionOf (now (act .entry)) (blobfileRuleNext (records (now (after .entry))))) ⌝ }
+    ensures { λ r. ⌜
+        r ≡
+        admitsWorking (now (km0 .entry)) (workingBlobOf (now (rec .entry))) (blobfileNext (records (now (rest .entry))))
+        (actionOf (now (act .entry)) (blobfileRuleNext (records (now (after .entry)))))
+        ⌝ }
 {
     if act[0] != record_kinds::MAKE_BLOB {
         return false;
@@ -179,7 +183,11 @@ fn admits_working(km0: &[u8], rec: &[u8], rest: &[u8], act: &[u8], after: &[u8])
 // Whether an action admits a recovery blob.
 fn admits_recovery(rec: &[u8], rest: &[u8], act: &[u8], after: &[u8]) -> bool
     requires { ⌜ (length (now act) ≡ recordBytes) × (length (now rec) ≡ recordBytes) ⌝ }
-    ensures { λ r. ⌜ r ≡ admitsRecovery (recoveryBlobOf (now (rec .entry))) (blobfileNext (records (now (rest .entry)))) (actionOf (now (act .entry)) (blobfileRuleNext (records (now (after .entry))))) ⌝ }
+    ensures { λ r. ⌜
+        r ≡
+        admitsRecovery (recoveryBlobOf (now (rec .entry))) (blobfileNext (records (now (rest .entry))))
+        (actionOf (now (act .entry)) (blobfileRuleNext (records (now (after .entry)))))
+        ⌝ }
 {
     let kind = act[0];
     if kind == record_kinds::OP_PERMISSIONS {
@@ -194,7 +202,11 @@ fn admits_recovery(rec: &[u8], rest: &[u8], act: &[u8], after: &[u8]) -> bool
 // Whether an action admits the blob that a request record asks for. `rest` follows the request record, `after` the action.
 fn action_admits(km0: &[u8], rec: &[u8], rest: &[u8], act: &[u8], after: &[u8]) -> bool
     requires { ⌜ (length (now act) ≡ recordBytes) × (length (now rec) ≡ recordBytes) × (kind (now rec) ≡ 6 → ⊥) ⌝ }
-    ensures { λ r. ⌜ r ≡ admits (now (km0 .entry)) (wantedOf (now (rec .entry)) (blobfileNext (records (now (rest .entry))))) (actionOf (now (act .entry)) (blobfileRuleNext (records (now (after .entry))))) ⌝ }
+    ensures { λ r. ⌜
+        r ≡
+        admits (now (km0 .entry)) (wantedOf (now (rec .entry)) (blobfileNext (records (now (rest .entry)))))
+        (actionOf (now (act .entry)) (blobfileRuleNext (records (now (after .entry)))))
+        ⌝ }
 {
     if rec[0] == record_kinds::BLOB {
         return admits_working(km0, rec, rest, act, after);
@@ -205,7 +217,10 @@ fn action_admits(km0: &[u8], rec: &[u8], rest: &[u8], act: &[u8], after: &[u8]) 
 // Whether a group admits the blob that a request asks for, of the records that follow the group's first one.
 fn admits_some_blob(km0: &[u8], rec: &[u8], rest: &[u8], body: &[u8]) -> bool
     requires { ⌜ (length (now rec) ≡ recordBytes) × (kind (now rec) ≡ 6 → ⊥) ⌝ }
-    ensures { λ r. ⌜ r ≡ any (admits (now (km0 .entry)) (wantedOf (now (rec .entry)) (blobfileNext (records (now (rest .entry)))))) (actionsOf (records (now (body .entry)))) ⌝ }
+    ensures { λ r. ⌜
+        r ≡
+        any (admits (now (km0 .entry)) (wantedOf (now (rec .entry)) (blobfileNext (records (now (rest .entry)))))) (actionsOf (records (now (body .entry))))
+        ⌝ }
 {
     let mut at = acl_groups::next_action(body, 0);
     while record_sizes::RECORD <= body.len() - at {
@@ -244,7 +259,10 @@ fn admits_some_use(p: u8, body: &[u8]) -> bool
 // Whether a group admits what a request asks for. Its kind is looked at once, not for each action. `rest` follows the request record.
 pub fn group_admits(km0: &[u8], rec: &[u8], rest: &[u8], body: &[u8]) -> bool
     requires { ⌜ length (now rec) ≡ recordBytes ⌝ }
-    ensures { λ r. ⌜ r ≡ any (admits (now (km0 .entry)) (wantedOf (now (rec .entry)) (blobfileNext (records (now (rest .entry)))))) (actionsOf (records (now (body .entry)))) ⌝ }
+    ensures { λ r. ⌜
+        r ≡
+        any (admits (now (km0 .entry)) (wantedOf (now (rec .entry)) (blobfileNext (records (now (rest .entry)))))) (actionsOf (records (now (body .entry))))
+        ⌝ }
 {
     if rec[0] == record_kinds::USE {
         return admits_some_use(rec[4], body);

@@ -105,7 +105,11 @@ fn holds_bit(p: u8, del: &[u8]) -> bool
 // lead to its start.
 fn mark(p: u8, key: &[u8], set: u64, into: u64, del: &[u8]) -> u64
     requires { ⌜ length (now del) ≡ recordBytes ⌝ }
-    ensures { λ r. ⌜ r ≡ (if holds p (delegationOf (now (del .entry))) && (same (part 4 hashBytes (now (del .entry))) (now (key .entry)) || not (eqb (bitAnd set into) 0)) then 1 else 0) ⌝ }
+    ensures { λ r. ⌜
+        r ≡
+        (if holds p (delegationOf (now (del .entry))) &&
+        (same (part 4 hashBytes (now (del .entry))) (now (key .entry)) || not (eqb (bitAnd set into) 0)) then 1 else 0)
+        ⌝ }
 {
     if !holds_bit(p, del) {
         return 0;
@@ -162,7 +166,9 @@ fn of_mechanism(group: &[u8], cert: &[u8]) -> bool
 // Whether a certificate is of a key and, where a group names one, of its mechanism.
 fn certificate_serves(key: &[u8], group: &[u8], cert: &[u8]) -> bool
     requires { ⌜ (length (now group) ≡ recordBytes) × (length (now cert) ≡ recordBytes) ⌝ }
-    ensures { λ r. ⌜ r ≡ serves (now (key .entry)) (optional (flag 1 (now (group .entry))) (number 24 2 (now (group .entry)))) (certificateOf (now (cert .entry))) ⌝ }
+    ensures { λ r. ⌜
+        r ≡ serves (now (key .entry)) (optional (flag 1 (now (group .entry))) (number 24 2 (now (group .entry)))) (certificateOf (now (cert .entry)))
+        ⌝ }
 {
     if !record_fields::same_bytes(&cert[4..24], key) {
         return false;
@@ -173,7 +179,11 @@ fn certificate_serves(key: &[u8], group: &[u8], cert: &[u8]) -> bool
 // Whether one of the presented certificates is.
 fn some_serves(key: &[u8], group: &[u8], certs: &[u8]) -> bool
     requires { ⌜ length (now group) ≡ recordBytes ⌝ }
-    ensures { λ r. ⌜ r ≡ any (serves (now (key .entry)) (optional (flag 1 (now (group .entry))) (number 24 2 (now (group .entry))))) (certificatesOf (records (now (certs .entry)))) ⌝ }
+    ensures { λ r. ⌜
+        r ≡
+        any (serves (now (key .entry)) (optional (flag 1 (now (group .entry))) (number 24 2 (now (group .entry)))))
+        (certificatesOf (records (now (certs .entry))))
+        ⌝ }
 {
     let mut at = 0;
     while record_sizes::RECORD <= certs.len() - at {
@@ -193,7 +203,11 @@ fn some_serves(key: &[u8], group: &[u8], certs: &[u8]) -> bool
 // lead to its key.
 fn is_end(set: u64, into: u64, group: &[u8], cert: &[u8]) -> bool
     requires { ⌜ (length (now group) ≡ recordBytes) × (length (now cert) ≡ recordBytes) ⌝ }
-    ensures { λ r. ⌜ r ≡ (not (eqb (bitAnd set into) 0) && matchesNumber (optional (flag 1 (now (group .entry))) (number 24 2 (now (group .entry)))) (number 24 2 (now (cert .entry)))) ⌝ }
+    ensures { λ r. ⌜
+        r ≡
+        (not (eqb (bitAnd set into) 0) &&
+        matchesNumber (optional (flag 1 (now (group .entry))) (number 24 2 (now (group .entry)))) (number 24 2 (now (cert .entry))))
+        ⌝ }
 {
     if set & into == 0 {
         return false;
@@ -210,7 +224,12 @@ fn one_leads_to_presented(
     shown: &[u64; TABLE],
 ) -> bool
     requires { ⌜ (length (now group) ≡ recordBytes) × (length (now certs) ≤ 4032) × Links (now certs) (now dels) (now shown) ⌝ }
-    ensures { λ r. ⌜ r ≡ anyIn set (leadsToPresented (optional (flag 1 (now (group .entry))) (number 24 2 (now (group .entry)))) (certificatesOf (records (now (certs .entry))))) (delegationsOf (records (now (dels .entry)))) ⌝ }
+    ensures { λ r. ⌜
+        r ≡
+        anyIn set
+        (leadsToPresented (optional (flag 1 (now (group .entry))) (number 24 2 (now (group .entry)))) (certificatesOf (records (now (certs .entry)))))
+        (delegationsOf (records (now (dels .entry))))
+        ⌝ }
 {
     let mut at = 0;
     while record_sizes::RECORD <= certs.len() - at {
@@ -236,8 +255,15 @@ fn has_chain(
     leads: &[u64; TABLE],
     shown: &[u64; TABLE],
 ) -> bool
-    requires { ⌜ (length (now group) ≡ recordBytes) × (length (now certs) ≤ 4032) × (length (now dels) ≤ 4032) × Links (now dels) (now dels) (now leads) × Links (now certs) (now dels) (now shown) ⌝ }
-    ensures { λ r. ⌜ r ≡ chained chainMax p (part 4 hashBytes (now (group .entry))) (optional (flag 1 (now (group .entry))) (number 24 2 (now (group .entry)))) (certificatesOf (records (now (certs .entry)))) (delegationsOf (records (now (dels .entry)))) ⌝ }
+    requires { ⌜
+        (length (now group) ≡ recordBytes) × (length (now certs) ≤ 4032) × (length (now dels) ≤ 4032) × Links (now dels) (now dels) (now leads) ×
+        Links (now certs) (now dels) (now shown)
+        ⌝ }
+    ensures { λ r. ⌜
+        r ≡
+        chained chainMax p (part 4 hashBytes (now (group .entry))) (optional (flag 1 (now (group .entry))) (number 24 2 (now (group .entry))))
+        (certificatesOf (records (now (certs .entry)))) (delegationsOf (records (now (dels .entry))))
+        ⌝ }
 {
     let key = &group[4..24];
     let mut ends = next_level(p, key, dels, 0, leads);
@@ -261,8 +287,16 @@ fn is_delegated(
     links: &[u64; TABLE],
     shown: &[u64; TABLE],
 ) -> bool
-    requires { ⌜ (length (now rec) ≡ recordBytes) × (length (now group) ≡ recordBytes) × (length (now certs) ≤ 4032) × (length (now dels) ≤ 4032) × Links (now dels) (now dels) (now links) × Links (now certs) (now dels) (now shown) ⌝ }
-    ensures { λ r. ⌜ ((file : Option Blobfile) → r ≡ delegated (wantedOf (now (rec .entry)) file) (part 4 hashBytes (now (group .entry))) (optional (flag 1 (now (group .entry))) (number 24 2 (now (group .entry)))) (certificatesOf (records (now (certs .entry)))) (delegationsOf (records (now (dels .entry))))) ⌝ }
+    requires { ⌜
+        (length (now rec) ≡ recordBytes) × (length (now group) ≡ recordBytes) × (length (now certs) ≤ 4032) × (length (now dels) ≤ 4032) ×
+        Links (now dels) (now dels) (now links) × Links (now certs) (now dels) (now shown)
+        ⌝ }
+    ensures { λ r. ⌜
+        ((file : Option Blobfile) → r ≡
+        delegated (wantedOf (now (rec .entry)) file) (part 4 hashBytes (now (group .entry)))
+        (optional (flag 1 (now (group .entry))) (number 24 2 (now (group .entry)))) (certificatesOf (records (now (certs .entry))))
+        (delegationsOf (records (now (dels .entry)))))
+        ⌝ }
 {
     if rec[0] != 6 {
         return false;

@@ -70,8 +70,14 @@ pub fn charge(
     place: usize,
     body: &[u8],
 )
-    requires { ⌜ (length (now counts) ≡ groupsMax) × (length (now counters) ≡ countersMax) × (getD (now counts) place 0 < fullCount) × Chargeable (now counters) (limitsOf (records (now body))) ⌝ }
-    ensures { λ _. ⌜ (now (counts .exit) ≡ raised (now (counts .entry)) place (now (counts .entry))) × (now (counters .exit) ≡ raisedBy (now (counters .entry)) (limitsOf (records (now (body .entry)))) (now (counters .entry))) ⌝ }
+    requires { ⌜
+        (length (now counts) ≡ groupsMax) × (length (now counters) ≡ countersMax) × (getD (now counts) place 0 < fullCount) ×
+        Chargeable (now counters) (limitsOf (records (now body)))
+        ⌝ }
+    ensures { λ _. ⌜
+        (now (counts .exit) ≡ raised (now (counts .entry)) place (now (counts .entry))) ×
+        (now (counters .exit) ≡ raisedBy (now (counters .entry)) (limitsOf (records (now (body .entry)))) (now (counters .entry)))
+        ⌝ }
 {
     raise_named(counters, body);
     raise_count(counts, place);

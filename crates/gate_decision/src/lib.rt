@@ -109,7 +109,10 @@ fn certified_as(
     some: bool,
     held: bool,
 ) -> bool
-    requires { ⌜ Sound (now req) × (length (now group) ≡ recordBytes) × Remembered (requestOf (now req)) (now last) some held × Linked (now req) start (now links) (now shown) ⌝ }
+    requires { ⌜
+        Sound (now req) × (length (now group) ≡ recordBytes) × Remembered (requestOf (now req)) (now last) some held ×
+        Linked (now req) start (now links) (now shown)
+        ⌝ }
     ensures { λ r. ⌜ r ≡ certified (requestOf (now (req .entry))) (groupOf (now (group .entry)) []) ⌝ }
 {
     if some {
@@ -136,8 +139,15 @@ fn group_result(
     some: bool,
     held: bool,
 ) -> GroupResult
-    requires { ⌜ Sound (now req) × (length (now group) ≡ recordBytes) × Remembered (requestOf (now req)) (now last) some held × Linked (now req) start (now links) (now shown) ⌝ }
-    ensures { λ r. ⌜ r ≡ recordResult (now (counters .entry)) own elapsed (now (km0 .entry)) (requestOf (now (req .entry))) (now (group .entry)) (records (now (body .entry))) ⌝ }
+    requires { ⌜
+        Sound (now req) × (length (now group) ≡ recordBytes) × Remembered (requestOf (now req)) (now last) some held ×
+        Linked (now req) start (now links) (now shown)
+        ⌝ }
+    ensures { λ r. ⌜
+        r ≡
+        recordResult (now (counters .entry)) own elapsed (now (km0 .entry)) (requestOf (now (req .entry))) (now (group .entry))
+        (records (now (body .entry)))
+        ⌝ }
 {
     let rest = &req[record_sizes::RECORD..];
     if !gate_admission::group_admits(km0, &req[0..record_sizes::RECORD], rest, body) {
@@ -274,7 +284,11 @@ fn judge_groups(
     shown: &[u64; gate_certification::TABLE],
 ) -> Judged
     requires { ⌜ Sound (now req) × Linked (now req) start (now links) (now shown) ⌝ }
-    ensures { λ r. ⌜ r ≡ judgedFrom (groupResult (now (counts .entry)) (now (counters .entry)) elapsed (now (km0 .entry)) (requestOf (now (req .entry)))) Nearest.Nothing 0 (aclOf (now (acl .entry))) ⌝ }
+    ensures { λ r. ⌜
+        r ≡
+        judgedFrom (groupResult (now (counts .entry)) (now (counters .entry)) elapsed (now (km0 .entry)) (requestOf (now (req .entry)))) Nearest.Nothing 0
+        (aclOf (now (acl .entry)))
+        ⌝ }
 {
     let mut near = Nearest::Nothing;
     let mut place = 0;
@@ -327,7 +341,12 @@ pub fn judge_request<'a>(
     req: &[u8],
 ) -> Judged
     requires { ⌜ Sound (now req) ⌝ }
-    ensures { λ r. ⌜ r ≡ judgedFor (judge (ledgerOfTables (now (counts .entry)) (now (counters .entry)) loaded last) (now (km0 .entry)) (aclOf (now (acl .entry))) (requestOf (now (req .entry)))) ⌝ }
+    ensures { λ r. ⌜
+        r ≡
+        judgedFor
+        (judge (ledgerOfTables (now (counts .entry)) (now (counters .entry)) loaded last) (now (km0 .entry)) (aclOf (now (acl .entry)))
+        (requestOf (now (req .entry))))
+        ⌝ }
 {
     let time = request_reader::time(req);
     if time < loaded {

@@ -21,7 +21,10 @@ fn charge(
     req: &[u8],
 )
     requires { ⌜ CountersRoom (now counters) (aclOf (now acl)) (answerAs reply) ⌝ }
-    ensures { λ _. ⌜ (now (counters .exit) ≡ countersCharged (aclOf (now (acl .entry))) (answerAs reply) (now (counters .entry))) × (now (last .exit) ≡ lastAfter (answerAs reply) (now (last .entry)) (requestOf (now (req .entry)) .time)) ⌝ }
+    ensures { λ _. ⌜
+        (now (counters .exit) ≡ countersCharged (aclOf (now (acl .entry))) (answerAs reply) (now (counters .entry))) ×
+        (now (last .exit) ≡ lastAfter (answerAs reply) (now (last .entry)) (requestOf (now (req .entry)) .time))
+        ⌝ }
 {
     measured(counters);
     gate_charge::charge_counters(counters, reply, acl);
@@ -39,7 +42,11 @@ pub fn request(
     acl: &[u8],
     req: &[u8],
 ) -> Reply
-    ensures { λ r. ⌜ outcomeIn (answerAs r) (now (counts .exit)) (now (counters .exit)) loaded (now (last .exit)) ≡ request (ledgerOfTables (now (counts .entry)) (now (counters .entry)) loaded (now (last .entry))) (now (km0 .entry)) (now (acl .entry)) (now (req .entry)) ⌝ }
+    ensures { λ r. ⌜
+        outcomeIn (answerAs r) (now (counts .exit)) (now (counters .exit)) loaded (now (last .exit)) ≡
+        request (ledgerOfTables (now (counts .entry)) (now (counters .entry)) loaded (now (last .entry))) (now (km0 .entry)) (now (acl .entry))
+        (now (req .entry))
+        ⌝ }
 {
     let before = *last;
     let reply = gate::request_reply(counts, counters, loaded, before, km0, acl, req);
@@ -61,7 +68,11 @@ pub fn narrow(
     new: &[u8],
     hints: &[u8],
 ) -> Reply
-    ensures { λ r. ⌜ outcomeIn (answerAs r) (now (counts .exit)) (now (counters .exit)) loaded (now (last .exit)) ≡ narrow (ledgerOfTables (now (counts .entry)) (now (counters .entry)) loaded (now (last .entry))) (now (km0 .entry)) (now (acl .entry)) (now (req .entry)) (now (new .entry)) (now (hints .entry)) ⌝ }
+    ensures { λ r. ⌜
+        outcomeIn (answerAs r) (now (counts .exit)) (now (counters .exit)) loaded (now (last .exit)) ≡
+        narrow (ledgerOfTables (now (counts .entry)) (now (counters .entry)) loaded (now (last .entry))) (now (km0 .entry)) (now (acl .entry))
+        (now (req .entry)) (now (new .entry)) (now (hints .entry))
+        ⌝ }
 {
     let before = *last;
     let reply = gate::narrow_reply(counts, counters, loaded, before, km0, acl, req, new, hints);
@@ -83,7 +94,11 @@ pub fn expand(
     req: &[u8],
     new: &[u8],
 ) -> Reply
-    ensures { λ r. ⌜ outcomeIn (answerAs r) (now (counts .exit)) (now (counters .exit)) loaded (now (last .exit)) ≡ expand (ledgerOfTables (now (counts .entry)) (now (counters .entry)) loaded (now (last .entry))) (now (km0 .entry)) (now (acl .entry)) (now (req .entry)) (now (new .entry)) ⌝ }
+    ensures { λ r. ⌜
+        outcomeIn (answerAs r) (now (counts .exit)) (now (counters .exit)) loaded (now (last .exit)) ≡
+        expand (ledgerOfTables (now (counts .entry)) (now (counters .entry)) loaded (now (last .entry))) (now (km0 .entry)) (now (acl .entry))
+        (now (req .entry)) (now (new .entry))
+        ⌝ }
 {
     let before = *last;
     let reply = gate::expand_reply(counts, counters, loaded, before, km0, acl, req, new);

@@ -42,7 +42,10 @@ fn action_at(body: &[u8], low: usize, from: usize, h: usize) -> usize
 // Whether the new action at offset `at` is no wider than the old one at offset `place`, which its hint names; false if no record begins there.
 fn hinted_no_wider(new: &[u8], at: usize, old: &[u8], place: usize) -> bool
     requires { ⌜ (recordBytes ≤ length (now new) - at) × (place ≤ length (now old)) ⌝ }
-    ensures { λ r. ⌜ (r ≡ noWiderThan (actionFrom (now (new .entry)) at) (actionIn (now (old .entry)) place)) × (r ≡ true → recordBytes ≤ length (now (old .entry)) - place) ⌝ }
+    ensures { λ r. ⌜
+        (r ≡ noWiderThan (actionFrom (now (new .entry)) at) (actionIn (now (old .entry)) place)) ×
+        (r ≡ true → recordBytes ≤ length (now (old .entry)) - place)
+        ⌝ }
 {
     if old.len() - place < record_sizes::RECORD {
         return false;
@@ -128,7 +131,9 @@ fn limits_answered(new: &[u8], old: &[u8]) -> bool
 // A new group against its source: first records, and the records that follow them.
 fn group_narrows(new: &[u8], new_body: &[u8], hints: &[u8], old: &[u8], old_body: &[u8]) -> bool
     requires { ⌜ (length (now new) ≡ recordBytes) × (length (now old) ≡ recordBytes) ⌝ }
-    ensures { λ r. ⌜ r ≡ recordsNarrow (now (new .entry)) (records (now («new_body» .entry))) (now (hints .entry)) (now (old .entry)) (records (now («old_body» .entry))) ⌝ }
+    ensures { λ r. ⌜
+        r ≡ recordsNarrow (now (new .entry)) (records (now («new_body» .entry))) (now (hints .entry)) (now (old .entry)) (records (now («old_body» .entry)))
+        ⌝ }
 {
     gate_restrictions::certifier_kept(new, old)
         & limits_answered(new_body, old_body)
@@ -138,7 +143,9 @@ fn group_narrows(new: &[u8], new_body: &[u8], hints: &[u8], old: &[u8], old_body
 // A new group against its source, the first of what is left of the old ACL; nothing where the hint names no group.
 fn source_narrows(new: &[u8], body: &[u8], hints: &[u8], rest: &[u8]) -> bool
     requires { ⌜ (length (now new) ≡ recordBytes) × (recordBytes ≤ length (now rest) → getD (now rest) 0 0 ≡ 1) ⌝ }
-    ensures { λ r. ⌜ r ≡ narrowsSource (groupOf (now (new .entry)) (records (now (body .entry)))) (now (hints .entry)) (getElem? (aclOf (now (rest .entry))) 0) ⌝ }
+    ensures { λ r. ⌜
+        r ≡ narrowsSource (groupOf (now (new .entry)) (records (now (body .entry)))) (now (hints .entry)) (getElem? (aclOf (now (rest .entry))) 0)
+        ⌝ }
 {
     if rest.len() < record_sizes::RECORD {
         return false;

@@ -62,7 +62,11 @@ fn not_added(f: u16, new: &[u8], old: &[u8]) -> bool
 // The hash that flag f of a MakeBlob action announces, at an offset.
 fn hash_kept(f: u16, at: usize, new: &[u8], old: &[u8]) -> bool
     requires { ⌜ (f < 16) × (at + hashBytes ≤ recordBytes) × (length (now new) ≡ recordBytes) × (length (now old) ≡ recordBytes) ⌝ }
-    ensures { λ r. ⌜ r ≡ kept (optional (flag f (now (new .entry))) (part at hashBytes (now (new .entry)))) (optional (flag f (now (old .entry))) (part at hashBytes (now (old .entry)))) ⌝ }
+    ensures { λ r. ⌜
+        r ≡
+        kept (optional (flag f (now (new .entry))) (part at hashBytes (now (new .entry))))
+        (optional (flag f (now (old .entry))) (part at hashBytes (now (old .entry))))
+        ⌝ }
 {
     kept_hash(
         record_fields::flag_of(f, new),
@@ -75,7 +79,11 @@ fn hash_kept(f: u16, at: usize, new: &[u8], old: &[u8]) -> bool
 // The token parameters of a MakeBlob action.
 fn parameters_kept(new: &[u8], old: &[u8]) -> bool
     requires { ⌜ (length (now new) ≡ recordBytes) × (length (now old) ≡ recordBytes) ⌝ }
-    ensures { λ r. ⌜ r ≡ keptParameters (optional (flag 4 (now (new .entry))) (parametersOf (part 44 8 (now (new .entry))))) (optional (flag 4 (now (old .entry))) (parametersOf (part 44 8 (now (old .entry))))) ⌝ }
+    ensures { λ r. ⌜
+        r ≡
+        keptParameters (optional (flag 4 (now (new .entry))) (parametersOf (part 44 8 (now (new .entry)))))
+        (optional (flag 4 (now (old .entry))) (parametersOf (part 44 8 (now (old .entry)))))
+        ⌝ }
 {
     kept_parameters(
         record_fields::flag_of(record_kinds::KTPARAMS, new),
@@ -132,7 +140,11 @@ fn rule_no_wider(new: &[u8], old: &[u8]) -> bool
 // An action against another: of the same kind and no wider. `after` and `behind` follow the new and the old action.
 pub fn action_no_wider(new: &[u8], after: &[u8], old: &[u8], behind: &[u8]) -> bool
     requires { ⌜ (length (now new) ≡ recordBytes) × (length (now old) ≡ recordBytes) ⌝ }
-    ensures { λ r. ⌜ r ≡ noWider (actionOf (now (new .entry)) (blobfileRuleNext (records (now (after .entry))))) (actionOf (now (old .entry)) (blobfileRuleNext (records (now (behind .entry))))) ⌝ }
+    ensures { λ r. ⌜
+        r ≡
+        noWider (actionOf (now (new .entry)) (blobfileRuleNext (records (now (after .entry)))))
+        (actionOf (now (old .entry)) (blobfileRuleNext (records (now (behind .entry)))))
+        ⌝ }
 {
     if new[0] == record_kinds::OP_PERMISSIONS {
         if old[0] != record_kinds::OP_PERMISSIONS {

@@ -148,7 +148,10 @@ fn is_certified(acl: &[u8], end: usize, found: bool) -> bool
 // The next group is marked, by whether the row has a certificate for it.
 fn marked(acl: &[u8], m: Marking, found: bool) -> Marking
     requires { ⌜ (recordBytes ≤ m .end) × (m .end ≤ length (now acl)) × (m .end % recordBytes ≡ 0) ⌝ }
-    ensures { λ r. ⌜ LastGroup (now (acl .entry)) (m .end - recordBytes) (r .end) × (r .set ≡ (digit (not (flag 0 (recordBefore (now (acl .entry)) (m .end))) || found) + 2 * m .set) % 18446744073709551616) ⌝ }
+    ensures { λ r. ⌜
+        LastGroup (now (acl .entry)) (m .end - recordBytes) (r .end) ×
+        (r .set ≡ (digit (not (flag 0 (recordBefore (now (acl .entry)) (m .end))) || found) + 2 * m .set) % 18446744073709551616)
+        ⌝ }
 {
     let end = m.end;
     Marking {

@@ -83,7 +83,10 @@ fn first_unspent(
     unspent: u64,
 ) -> First
     requires { ⌜ (set < 2 ^ groupsMax) × Fits (now rows) ⌝ }
-    ensures { λ r. ⌜ (r .place ≡ firstIn (leftAt (now (counts .entry)) (now (counters .entry)) elapsed (now (rows .entry))) setBits set) × Closes (leftAt (now (counts .entry)) (now (counters .entry)) elapsed (now (rows .entry))) unspent (r .still) ⌝ }
+    ensures { λ r. ⌜
+        (r .place ≡ firstIn (leftAt (now (counts .entry)) (now (counters .entry)) elapsed (now (rows .entry))) setBits set) ×
+        Closes (leftAt (now (counts .entry)) (now (counters .entry)) elapsed (now (rows .entry))) unspent (r .still)
+        ⌝ }
 {
     let mut left = set;
     let mut still = unspent;
@@ -188,8 +191,17 @@ fn judge_sets(
     certified: u64,
     unspent: u64,
 ) -> Chosen
-    requires { ⌜ (admitting < 2 ^ length (aclOf (now acl))) × (length (aclOf (now acl)) ≤ groupsMax) × Fits (now rows) × Opened (leftAt (now counts) (now counters) elapsed (now rows)) certified unspent ⌝ }
-    ensures { λ r. ⌜ (r .judged ≡ judgedFor (judgedBySets (aclOf (now (acl .entry))) admitting certified (leftAt (now (counts .entry)) (now (counters .entry)) elapsed (now (rows .entry))))) × Closes (leftAt (now (counts .entry)) (now (counters .entry)) elapsed (now (rows .entry))) unspent (r .still) ⌝ }
+    requires { ⌜
+        (admitting < 2 ^ length (aclOf (now acl))) × (length (aclOf (now acl)) ≤ groupsMax) × Fits (now rows) ×
+        Opened (leftAt (now counts) (now counters) elapsed (now rows)) certified unspent
+        ⌝ }
+    ensures { λ r. ⌜
+        (r .judged ≡
+        judgedFor
+        (judgedBySets (aclOf (now (acl .entry))) admitting certified
+        (leftAt (now (counts .entry)) (now (counters .entry)) elapsed (now (rows .entry))))) ×
+        Closes (leftAt (now (counts .entry)) (now (counters .entry)) elapsed (now (rows .entry))) unspent (r .still)
+        ⌝ }
 {
     if admitting < 1 {
         return Chosen {
@@ -252,7 +264,9 @@ fn admitting_set(
     sets: Sets,
     rec: &[u8],
 ) -> u64
-    requires { ⌜ Ready (now acl) (now bodies) (now uses) (sets .working) (sets .recovery) × (length (now rec) ≡ recordBytes) × (requestLaidOut (now rec) ≡ true) ⌝ }
+    requires { ⌜
+        Ready (now acl) (now bodies) (now uses) (sets .working) (sets .recovery) × (length (now rec) ≡ recordBytes) × (requestLaidOut (now rec) ≡ true)
+        ⌝ }
     ensures { λ r. ⌜ r ≡ admittingSet (now (km0 .entry)) (wantedOf (now (rec .entry)) none) (aclOf (now (acl .entry))) ⌝ }
 {
     let kind = rec[0];
@@ -279,8 +293,18 @@ pub fn judge_record(
     unspent: u64,
     rec: &[u8],
 ) -> Chosen
-    requires { ⌜ Ready (now acl) (now bodies) (now uses) (sets .working) (sets .recovery) × (length (now rec) ≡ recordBytes) × (requestLaidOut (now rec) ≡ true) × OpenAt (now counts) (now counters) loaded last (number 56 8 (now rec)) (now rows) (sets .certified) unspent × Rows (now acl) (now bodies) (now rows) ⌝ }
-    ensures { λ r. ⌜ (r .judged ≡ judgedFor (setJudge (ledgerOfTables (now (counts .entry)) (now (counters .entry)) loaded last) (now (km0 .entry)) (aclOf (now (acl .entry))) (sets .certified) (now (rec .entry)))) × Closes (leftAt (now (counts .entry)) (now (counters .entry)) (number 56 8 (now (rec .entry)) - loaded) (now (rows .entry))) unspent (r .still) ⌝ }
+    requires { ⌜
+        Ready (now acl) (now bodies) (now uses) (sets .working) (sets .recovery) × (length (now rec) ≡ recordBytes) × (requestLaidOut (now rec) ≡ true) ×
+        OpenAt (now counts) (now counters) loaded last (number 56 8 (now rec)) (now rows) (sets .certified) unspent × Rows (now acl) (now bodies) (now rows)
+        ⌝ }
+    ensures { λ r. ⌜
+        (r .judged ≡
+        judgedFor
+        (setJudge (ledgerOfTables (now (counts .entry)) (now (counters .entry)) loaded last) (now (km0 .entry)) (aclOf (now (acl .entry)))
+        (sets .certified) (now (rec .entry)))) ×
+        Closes (leftAt (now (counts .entry)) (now (counters .entry)) (number 56 8 (now (rec .entry)) - loaded) (now (rows .entry))) unspent
+        (r .still)
+        ⌝ }
 {
     let time = record_fields::be64(rec, 56);
     if time < loaded {

@@ -166,7 +166,10 @@ fn put_offset(bodies: &mut [usize; record_sizes::GROUPS], g: usize, at: usize) -
 // Fills the table of those offsets; how many groups there are. Entries past the last group are unchanged.
 pub fn fill_offsets(bodies: &mut [usize; record_sizes::GROUPS], acl: &[u8]) -> usize
     requires { ⌜ (length (now bodies) ≡ groupsMax) × Inside (now acl) (now bodies) × (length (aclOf (now acl)) ≤ groupsMax) ⌝ }
-    ensures { λ r. ⌜ Offsets (now (acl .entry)) (now (bodies .exit)) × (now (bodies .exit) ≡ offsetsFrom (now (bodies .entry)) 0 0 (records (now (acl .entry)))) × (r ≡ length (aclOf (now (acl .entry)))) ⌝ }
+    ensures { λ r. ⌜
+        Offsets (now (acl .entry)) (now (bodies .exit)) × (now (bodies .exit) ≡ offsetsFrom (now (bodies .entry)) 0 0 (records (now (acl .entry)))) ×
+        (r ≡ length (aclOf (now (acl .entry))))
+        ⌝ }
 {
     let mut g = 0;
     let mut at = 0;

@@ -101,7 +101,13 @@ struct Row {
 // A row with one limit more, whose word is put if it names a counter.
 fn put_limit(rows: &mut [u64; TABLE], from: usize, row: Row, limit: &[u8]) -> Row
     requires { ⌜ (length (now rows) ≡ tableWords) × («from» + row .n < tableWords) × (length (now limit) ≡ recordBytes) ⌝ }
-    ensures { λ r. ⌜ (now (rows .exit) ≡ namedPut (now (rows .entry)) («from» + row .n) (byte 4 (now (limit .entry))) (namedWord (byte 5 (now (limit .entry))) (number 8 4 (now (limit .entry))))) × (r .n ≡ namedCount (row .n) (byte 4 (now (limit .entry)))) × (r .bound ≡ boundWith (row .bound) (byte 4 (now (limit .entry))) (number 8 4 (now (limit .entry)))) × (r .last ≡ lastWith (row .last) (byte 4 (now (limit .entry))) (number 8 4 (now (limit .entry)))) ⌝ }
+    ensures { λ r. ⌜
+        (now (rows .exit) ≡
+        namedPut (now (rows .entry)) («from» + row .n) (byte 4 (now (limit .entry)))
+        (namedWord (byte 5 (now (limit .entry))) (number 8 4 (now (limit .entry))))) × (r .n ≡ namedCount (row .n) (byte 4 (now (limit .entry)))) ×
+        (r .bound ≡ boundWith (row .bound) (byte 4 (now (limit .entry))) (number 8 4 (now (limit .entry)))) ×
+        (r .last ≡ lastWith (row .last) (byte 4 (now (limit .entry))) (number 8 4 (now (limit .entry))))
+        ⌝ }
 {
     let sort = limit[4];
     let maximum = record_fields::be32(limit, 8);
@@ -126,7 +132,10 @@ fn put_bounds(rows: &mut [u64; TABLE], at: usize, row: Row)
 // The row of a group, from the records that follow its first one. What comes before the row in the table is unchanged.
 fn fill_row(rows: &mut [u64; TABLE], at: usize, body: &[u8])
     requires { ⌜ Fits (now rows) × (at + 8 ≤ tableWords) × (at % 8 ≡ 0) × (length (limitsOf (records (now body))) ≤ limitsMax) ⌝ }
-    ensures { λ _. ⌜ IsRow (now (rows .exit)) at (limitsOf (records (now (body .entry)))) × (take at (now (rows .exit)) ≡ take at (now (rows .entry))) × Fits (now (rows .exit)) ⌝ }
+    ensures { λ _. ⌜
+        IsRow (now (rows .exit)) at (limitsOf (records (now (body .entry)))) × (take at (now (rows .exit)) ≡ take at (now (rows .entry))) ×
+        Fits (now (rows .exit))
+        ⌝ }
 {
     let mut row = Row {
         bound: FULL,
@@ -152,7 +161,10 @@ pub fn fill_rows(
     bodies: &[usize; record_sizes::GROUPS],
     groups: usize,
 )
-    requires { ⌜ Fits (now rows) × Offsets (now acl) (now bodies) × (aclFault (records (now acl)) ≡ none) × (groups ≡ length (aclOf (now acl))) × (groups ≤ groupsMax) ⌝ }
+    requires { ⌜
+        Fits (now rows) × Offsets (now acl) (now bodies) × (aclFault (records (now acl)) ≡ none) × (groups ≡ length (aclOf (now acl))) ×
+        (groups ≤ groupsMax)
+        ⌝ }
     ensures { λ _. ⌜ Rows (now (acl .entry)) (now (bodies .entry)) (now (rows .exit)) ⌝ }
 {
     let mut k = 0;
@@ -237,7 +249,10 @@ fn raise_words(
     from: usize,
     n: u64,
 )
-    requires { ⌜ («from» + n ≤ tableWords) × (length (now rows) ≡ tableWords) × (length (now counters) ≡ countersMax) × Able (now counters) (take n (drop «from» (now rows))) ⌝ }
+    requires { ⌜
+        («from» + n ≤ tableWords) × (length (now rows) ≡ tableWords) × (length (now counters) ≡ countersMax) ×
+        Able (now counters) (take n (drop «from» (now rows)))
+        ⌝ }
     ensures { λ _. ⌜ now (counters .exit) ≡ raisedWords (now (counters .entry)) (take n (drop «from» (now (rows .entry)))) (now (counters .entry)) ⌝ }
 {
     let mut at = from;
@@ -256,8 +271,16 @@ pub fn charge_row(
     counts: &mut [u32; record_sizes::GROUPS],
     counters: &mut [u32; record_sizes::COUNTERS],
 )
-    requires { ⌜ (k < groupsMax) × Fits (now rows) × (length (now counts) ≡ groupsMax) × (length (now counters) ≡ countersMax) × (getD (now counts) k 0 < fullCount) × Able (now counters) (take (getD (now rows) (k * 8 + 2) 0) (drop (k * 8 + 3) (now rows))) ⌝ }
-    ensures { λ _. ⌜ (now (counts .exit) ≡ raised (now (counts .entry)) k (now (counts .entry))) × (now (counters .exit) ≡ raisedWords (now (counters .entry)) (take (getD (now (rows .entry)) (k * 8 + 2) 0) (drop (k * 8 + 3) (now (rows .entry)))) (now (counters .entry))) ⌝ }
+    requires { ⌜
+        (k < groupsMax) × Fits (now rows) × (length (now counts) ≡ groupsMax) × (length (now counters) ≡ countersMax) ×
+        (getD (now counts) k 0 < fullCount) × Able (now counters) (take (getD (now rows) (k * 8 + 2) 0) (drop (k * 8 + 3) (now rows)))
+        ⌝ }
+    ensures { λ _. ⌜
+        (now (counts .exit) ≡ raised (now (counts .entry)) k (now (counts .entry))) ×
+        (now (counters .exit) ≡
+        raisedWords (now (counters .entry)) (take (getD (now (rows .entry)) (k * 8 + 2) 0) (drop (k * 8 + 3) (now (rows .entry))))
+        (now (counters .entry)))
+        ⌝ }
 {
     let at = k * ROW;
     raise_words(counters, rows, at + 3, rows[at + 2]);

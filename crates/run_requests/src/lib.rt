@@ -166,8 +166,18 @@ fn answer_used(
     used: u64,
     rec: &[u8],
 ) -> Answered
-    requires { ⌜ Ready (now acl) (now bodies) (now uses) (sets .working) (sets .recovery) × (length (now counts) ≡ groupsMax) × (length (now counters) ≡ countersMax) × (length (now rec) ≡ recordBytes) × OpenAt (now counts) (now counters) loaded last (number 56 8 (now rec)) (now rows) (sets .certified) used × Rows (now acl) (now bodies) (now rows) ⌝ }
-    ensures { λ r. ⌜ IsOutcome (askSets (now (km0 .entry)) (aclOf (now (acl .entry))) (sets .certified) (ledgerOfTables (now (counts .entry)) (now (counters .entry)) loaded last) (now (rec .entry))) (now (counts .exit)) (now (counters .exit)) loaded (r .number) (r .group) (r .last) × Closes (leftAt (now (counts .entry)) (now (counters .entry)) (number 56 8 (now (rec .entry)) - loaded) (now (rows .entry))) used (r .still) ⌝ }
+    requires { ⌜
+        Ready (now acl) (now bodies) (now uses) (sets .working) (sets .recovery) × (length (now counts) ≡ groupsMax) ×
+        (length (now counters) ≡ countersMax) × (length (now rec) ≡ recordBytes) ×
+        OpenAt (now counts) (now counters) loaded last (number 56 8 (now rec)) (now rows) (sets .certified) used × Rows (now acl) (now bodies) (now rows)
+        ⌝ }
+    ensures { λ r. ⌜
+        IsOutcome
+        (askSets (now (km0 .entry)) (aclOf (now (acl .entry))) (sets .certified)
+        (ledgerOfTables (now (counts .entry)) (now (counters .entry)) loaded last) (now (rec .entry))) (now (counts .exit)) (now (counters .exit))
+        loaded (r .number) (r .group) (r .last) ×
+        Closes (leftAt (now (counts .entry)) (now (counters .entry)) (number 56 8 (now (rec .entry)) - loaded) (now (rows .entry))) used (r .still)
+        ⌝ }
 {
     if !stands_alone(rec) {
         return bad_record(last, used);
@@ -213,8 +223,19 @@ fn answer_one(
     from: u64,
     rec: &[u8],
 ) -> Turn
-    requires { ⌜ Ready (now acl) (now bodies) (now uses) (sets .working) (sets .recovery) × (length (now counts) ≡ groupsMax) × (length (now counters) ≡ countersMax) × (length (now rec) ≡ recordBytes) × OpenFrom (now counts) (now counters) (last - loaded) (now rows) (sets .certified) unspent × OpenFrom (now counts) (now counters) («from» - loaded) (now rows) (sets .certified) still × Rows (now acl) (now bodies) (now rows) ⌝ }
-    ensures { λ r. ⌜ IsOutcome (askSets (now (km0 .entry)) (aclOf (now (acl .entry))) (sets .certified) (ledgerOfTables (now (counts .entry)) (now (counters .entry)) loaded last) (now (rec .entry))) (now (counts .exit)) (now (counters .exit)) loaded (r .number) (r .group) (r .last) × OpenFrom (now (counts .entry)) (now (counters .entry)) (r .«from» - loaded) (now (rows .entry)) (sets .certified) (r .still) ⌝ }
+    requires { ⌜
+        Ready (now acl) (now bodies) (now uses) (sets .working) (sets .recovery) × (length (now counts) ≡ groupsMax) ×
+        (length (now counters) ≡ countersMax) × (length (now rec) ≡ recordBytes) ×
+        OpenFrom (now counts) (now counters) (last - loaded) (now rows) (sets .certified) unspent ×
+        OpenFrom (now counts) (now counters) («from» - loaded) (now rows) (sets .certified) still × Rows (now acl) (now bodies) (now rows)
+        ⌝ }
+    ensures { λ r. ⌜
+        IsOutcome
+        (askSets (now (km0 .entry)) (aclOf (now (acl .entry))) (sets .certified)
+        (ledgerOfTables (now (counts .entry)) (now (counters .entry)) loaded last) (now (rec .entry))) (now (counts .exit)) (now (counters .exit))
+        loaded (r .number) (r .group) (r .last) ×
+        OpenFrom (now (counts .entry)) (now (counters .entry)) (r .«from» - loaded) (now (rows .entry)) (sets .certified) (r .still)
+        ⌝ }
 {
     let time = record_fields::be64(rec, 56);
     let used = pick(from, time, still, unspent);
@@ -286,8 +307,17 @@ fn ask_records(
     requests: &[u8],
     buf: &mut [u8],
 ) -> u64
-    requires { ⌜ Ready (now acl) (now bodies) (now uses) (sets .working) (sets .recovery) × (length (now counts) ≡ groupsMax) × (length (now counters) ≡ countersMax) × (length (now requests) ≤ preparedRecords * recordBytes) × (length (now requests) / recordBytes * answerBytes ≤ length (now buf)) × OpenFrom (now counts) (now counters) (before - loaded) (now rows) (sets .certified) unspent × Rows (now acl) (now bodies) (now rows) ⌝ }
-    ensures { λ r. ⌜ Wrote (now (counts .exit)) (now (counters .exit)) loaded r (now (buf .exit)) (writing (askSets (now (km0 .entry)) (aclOf (now (acl .entry))) (sets .certified)) (ledgerOfTables (now (counts .entry)) (now (counters .entry)) loaded before) (now (buf .entry)) 0 (records (now (requests .entry)))) ⌝ }
+    requires { ⌜
+        Ready (now acl) (now bodies) (now uses) (sets .working) (sets .recovery) × (length (now counts) ≡ groupsMax) ×
+        (length (now counters) ≡ countersMax) × (length (now requests) ≤ preparedRecords * recordBytes) ×
+        (length (now requests) / recordBytes * answerBytes ≤ length (now buf)) ×
+        OpenFrom (now counts) (now counters) (before - loaded) (now rows) (sets .certified) unspent × Rows (now acl) (now bodies) (now rows)
+        ⌝ }
+    ensures { λ r. ⌜
+        Wrote (now (counts .exit)) (now (counters .exit)) loaded r (now (buf .exit))
+        (writing (askSets (now (km0 .entry)) (aclOf (now (acl .entry))) (sets .certified))
+        (ledgerOfTables (now (counts .entry)) (now (counters .entry)) loaded before) (now (buf .entry)) 0 (records (now (requests .entry))))
+        ⌝ }
 {
     let mut last = before;
     let mut still = unspent;
@@ -350,8 +380,16 @@ pub fn run_records(
     requests: &[u8],
     buf: &mut [u8],
 ) -> u64
-    requires { ⌜ Ready (now acl) (now bodies) (now uses) (sets .working) (sets .recovery) × (length (now counts) ≡ groupsMax) × (length (now counters) ≡ countersMax) × (length (now requests) ≤ preparedRecords * recordBytes) × (length (now requests) / recordBytes * answerBytes ≤ length (now buf)) × Rows (now acl) (now bodies) (now rows) ⌝ }
-    ensures { λ r. ⌜ Wrote (now (counts .exit)) (now (counters .exit)) loaded r (now (buf .exit)) (writing (askSets (now (km0 .entry)) (aclOf (now (acl .entry))) (sets .certified)) (ledgerOfTables (now (counts .entry)) (now (counters .entry)) loaded before) (now (buf .entry)) 0 (records (now (requests .entry)))) ⌝ }
+    requires { ⌜
+        Ready (now acl) (now bodies) (now uses) (sets .working) (sets .recovery) × (length (now counts) ≡ groupsMax) ×
+        (length (now counters) ≡ countersMax) × (length (now requests) ≤ preparedRecords * recordBytes) ×
+        (length (now requests) / recordBytes * answerBytes ≤ length (now buf)) × Rows (now acl) (now bodies) (now rows)
+        ⌝ }
+    ensures { λ r. ⌜
+        Wrote (now (counts .exit)) (now (counters .exit)) loaded r (now (buf .exit))
+        (writing (askSets (now (km0 .entry)) (aclOf (now (acl .entry))) (sets .certified))
+        (ledgerOfTables (now (counts .entry)) (now (counters .entry)) loaded before) (now (buf .entry)) 0 (records (now (requests .entry))))
+        ⌝ }
 {
     let since = seconds_used(loaded, before);
     let certified = sets.certified;

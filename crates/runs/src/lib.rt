@@ -65,8 +65,15 @@ fn ask_known(
     requests: &[u8],
     answers: &mut [u8],
 ) -> u64
-    requires { ⌜ Known (now acl) (record { uses = now uses; working = sets .working; recovery = sets .recovery }) (now requests) (length (now answers)) × (length (now counts) ≡ groupsMax) × (length (now counters) ≡ countersMax) ⌝ }
-    ensures { λ r. ⌜ Wrote (now (counts .exit)) (now (counters .exit)) loaded r (now (answers .exit)) (writing (askSets (now (km0 .entry)) (aclOf (now (acl .entry))) (sets .certified)) (ledgerOfTables (now (counts .entry)) (now (counters .entry)) loaded before) (now (answers .entry)) 0 (records (now (requests .entry)))) ⌝ }
+    requires { ⌜
+        Known (now acl) (record { uses = now uses; working = sets .working; recovery = sets .recovery }) (now requests) (length (now answers)) ×
+        (length (now counts) ≡ groupsMax) × (length (now counters) ≡ countersMax)
+        ⌝ }
+    ensures { λ r. ⌜
+        Wrote (now (counts .exit)) (now (counters .exit)) loaded r (now (answers .exit))
+        (writing (askSets (now (km0 .entry)) (aclOf (now (acl .entry))) (sets .certified))
+        (ledgerOfTables (now (counts .entry)) (now (counters .entry)) loaded before) (now (answers .entry)) 0 (records (now (requests .entry))))
+        ⌝ }
 {
     let mut bodies = [0usize; Ledger::GROUPS];
     let groups = run_form::fill_offsets(&mut bodies, acl);
@@ -99,7 +106,11 @@ fn run_known(
     answers: &mut [u8],
 ) -> RunOutcome
     requires { ⌜ Known (now acl) (formAs form) (now requests) (length (now answers)) ⌝ }
-    ensures { λ r. ⌜ runOutcomeAs r (now (answers .exit)) ≡ runEnd (ledgerAs ledger) (now (requests .entry)) (now (answers .entry)) none (askedInOrder (askSets (now (km0 .entry)) (aclOf (now (acl .entry))) certified) (ledgerAs ledger) (records (now (requests .entry)))) ⌝ }
+    ensures { λ r. ⌜
+        runOutcomeAs r (now (answers .exit)) ≡
+        runEnd (ledgerAs ledger) (now (requests .entry)) (now (answers .entry)) none
+        (askedInOrder (askSets (now (km0 .entry)) (aclOf (now (acl .entry))) certified) (ledgerAs ledger) (records (now (requests .entry))))
+        ⌝ }
 {
     let mut counts = ledger.counts;
     let uses = form.uses;
@@ -189,7 +200,10 @@ fn run_made(
     answers: &mut [u8],
 ) -> RunOutcome
     requires { ⌜ seenFault runRecords (now km0) (now acl) (seen .count) (seen .named) (now requests) (length (now answers)) ≡ none ⌝ }
-    ensures { λ r. ⌜ runOutcomeAs r (now (answers .exit)) ≡ runSeen (ledgerAs ledger) (now (km0 .entry)) (now (acl .entry)) seen (now (requests .entry)) (now (answers .entry)) ⌝ }
+    ensures { λ r. ⌜
+        runOutcomeAs r (now (answers .exit)) ≡
+        runSeen (ledgerAs ledger) (now (km0 .entry)) (now (acl .entry)) seen (now (requests .entry)) (now (answers .entry))
+        ⌝ }
 {
     let form = run_form::form_of(acl);
     run_known(ledger, km0, acl, seen.certified, form, requests, answers)
@@ -206,7 +220,10 @@ fn run_passed(
     answers: &mut [u8],
 ) -> RunOutcome
     requires { ⌜ seenFault preparedRecords (now km0) (now acl) (seen .count) (seen .named) (now requests) (length (now answers)) ≡ none ⌝ }
-    ensures { λ r. ⌜ runOutcomeAs r (now (answers .exit)) ≡ preparedSeen (ledgerAs ledger) (now (km0 .entry)) (now (acl .entry)) seen (formAs form) (now (requests .entry)) (now (answers .entry)) ⌝ }
+    ensures { λ r. ⌜
+        runOutcomeAs r (now (answers .exit)) ≡
+        preparedSeen (ledgerAs ledger) (now (km0 .entry)) (now (acl .entry)) seen (formAs form) (now (requests .entry)) (now (answers .entry))
+        ⌝ }
 {
     if !run_form::same_form(form, run_form::form_of(acl)) {
         return refused(ledger, Refusal::OtherForm);
@@ -223,7 +240,10 @@ pub fn run_judged(
     requests: &[u8],
     answers: &mut [u8],
 ) -> RunOutcome
-    ensures { λ r. ⌜ runOutcomeAs r (now (answers .exit)) ≡ runSeen (ledgerAs ledger) (now (km0 .entry)) (now (acl .entry)) seen (now (requests .entry)) (now (answers .entry)) ⌝ }
+    ensures { λ r. ⌜
+        runOutcomeAs r (now (answers .exit)) ≡
+        runSeen (ledgerAs ledger) (now (km0 .entry)) (now (acl .entry)) seen (now (requests .entry)) (now (answers .entry))
+        ⌝ }
 {
     let fault = seen_fault(
         record_sizes::RUN_RECORDS,
@@ -250,7 +270,10 @@ pub fn prepared_judged(
     requests: &[u8],
     answers: &mut [u8],
 ) -> RunOutcome
-    ensures { λ r. ⌜ runOutcomeAs r (now (answers .exit)) ≡ preparedSeen (ledgerAs ledger) (now (km0 .entry)) (now (acl .entry)) seen (formAs form) (now (requests .entry)) (now (answers .entry)) ⌝ }
+    ensures { λ r. ⌜
+        runOutcomeAs r (now (answers .exit)) ≡
+        preparedSeen (ledgerAs ledger) (now (km0 .entry)) (now (acl .entry)) seen (formAs form) (now (requests .entry)) (now (answers .entry))
+        ⌝ }
 {
     let fault = seen_fault(
         record_sizes::PREPARED_RECORDS,
@@ -277,7 +300,10 @@ pub fn run(
     requests: &[u8],
     answers: &mut [u8],
 ) -> RunOutcome
-    ensures { λ r. ⌜ runOutcomeAs r (now (answers .exit)) ≡ run (ledgerAs ledger) (now (km0 .entry)) (now (acl .entry)) (rowAs (now (row .entry))) (now (requests .entry)) (now (answers .entry)) ⌝ }
+    ensures { λ r. ⌜
+        runOutcomeAs r (now (answers .exit)) ≡
+        run (ledgerAs ledger) (now (km0 .entry)) (now (acl .entry)) (rowAs (now (row .entry))) (now (requests .entry)) (now (answers .entry))
+        ⌝ }
 {
     run_judged(
         ledger,
@@ -299,7 +325,11 @@ pub fn prepared_run(
     requests: &[u8],
     answers: &mut [u8],
 ) -> RunOutcome
-    ensures { λ r. ⌜ runOutcomeAs r (now (answers .exit)) ≡ preparedRun (ledgerAs ledger) (now (km0 .entry)) (now (acl .entry)) (rowAs (now (row .entry))) (formAs form) (now (requests .entry)) (now (answers .entry)) ⌝ }
+    ensures { λ r. ⌜
+        runOutcomeAs r (now (answers .exit)) ≡
+        preparedRun (ledgerAs ledger) (now (km0 .entry)) (now (acl .entry)) (rowAs (now (row .entry))) (formAs form) (now (requests .entry))
+        (now (answers .entry))
+        ⌝ }
 {
     prepared_judged(
         ledger,

@@ -107,7 +107,10 @@ pub fn write_hints(
     acl: &[u8],
     hints: &mut [u8],
 )
-    requires { ⌜ (Found (now bundle) (now places)) × (aclFault (records (now acl)) ≡ none) × (length (trimHints (records (now bundle)) (now acl)) ≤ length (now hints)) ⌝ }
+    requires { ⌜
+        (Found (now bundle) (now places)) × (aclFault (records (now acl)) ≡ none) ×
+        (length (trimHints (records (now bundle)) (now acl)) ≤ length (now hints))
+        ⌝ }
     ensures { λ _. ⌜ now (hints .exit) ≡ overwritten (trimHints (records (now (bundle .entry))) (now (acl .entry))) (now (hints .entry)) ⌝ }
 {
     let mut groups = 0;

@@ -45,7 +45,10 @@ fn hint_size(rec: &[u8]) -> usize
 // The lengths of both results. They are known before a byte is written, so that a short buffer leaves both.
 fn measure(places: &[usize; bundle_facts::ENTRIES], bundle: &[u8], acl: &[u8]) -> Lengths
     requires { ⌜ Found (now bundle) (now places) ⌝ }
-    ensures { λ r. ⌜ (r .acl ≡ length (trimmedAcl (records (now (bundle .entry))) (now (acl .entry)))) × (r .hints ≡ length (hintsFrom (records (now (bundle .entry))) 0 (records (now (acl .entry)))) * recordBytes) ⌝ }
+    ensures { λ r. ⌜
+        (r .acl ≡ length (trimmedAcl (records (now (bundle .entry))) (now (acl .entry)))) ×
+        (r .hints ≡ length (hintsFrom (records (now (bundle .entry))) 0 (records (now (acl .entry)))) * recordBytes)
+        ⌝ }
 {
     let mut n = 0;
     let mut m = 0;
@@ -67,7 +70,10 @@ fn measure(places: &[usize; bundle_facts::ENTRIES], bundle: &[u8], acl: &[u8]) -
 // A record of permissions with those that pass, over the front of the buffer.
 fn put_fewer(places: &[usize; bundle_facts::ENTRIES], bundle: &[u8], rec: &[u8], out: &mut [u8])
     requires { ⌜ Found (now bundle) (now places) × (length (now rec) ≡ recordBytes) × (recordBytes ≤ length (now out)) ⌝ }
-    ensures { λ _. ⌜ now (out .exit) ≡ overwritten (withBits (keptBits (policyOf (records (now (bundle .entry)))) (number 4 2 (now (rec .entry)))) (now (rec .entry))) (now (out .entry)) ⌝ }
+    ensures { λ _. ⌜
+        now (out .exit) ≡
+        overwritten (withBits (keptBits (policyOf (records (now (bundle .entry)))) (number 4 2 (now (rec .entry)))) (now (rec .entry))) (now (out .entry))
+        ⌝ }
 {
     let policy = bundle_facts::policy_of(places, bundle);
     let kept = trim_records::kept_bits(policy, record_fields::be16(rec, 4));
