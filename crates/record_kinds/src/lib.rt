@@ -16,6 +16,8 @@ pub const USE: u8 = 6;
 
 pub const BLOB: u8 = 7;
 
+pub const RECOVERY_BLOB: u8 = 8;
+
 // What is presented with a request, and the hints of a narrowing.
 pub const CERTIFICATE: u8 = 9;
 
