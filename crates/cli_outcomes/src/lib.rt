@@ -94,16 +94,23 @@ fn print_slot_of(cabinet: Cabinet, slot: usize) {
     }
 }
 
+// Prints a slot, if there is one of that number, and the counters that all slots share, which end a line; returns the cabinet.
+pub fn print_cabinet(cabinet: Cabinet, slot: usize) -> Cabinet
+    ensures { λ r. ⌜ r ≡ cabinet ⌝ }
+{
+    let counters = cabinet.counters;
+    print_slot_of(cabinet, slot);
+    cli_printing::print_counters(&counters);
+    cabinet
+}
+
 // Prints the line of a cabinet call, and returns the cabinet. The slot is past the last if the call takes none.
 pub fn cabinet_line(k: u64, o: CabinetOutcome, slot: usize) -> Cabinet
     ensures { λ r. ⌜ r ≡ o .cabinet ⌝ }
 {
     let reply = o.reply;
     let cabinet = o.cabinet;
-    let counters = cabinet.counters;
     cli_printing::print_line(k);
     print_reply(reply);
-    print_slot_of(cabinet, slot);
-    cli_printing::print_counters(&counters);
-    cabinet
+    print_cabinet(cabinet, slot)
 }

@@ -102,6 +102,37 @@ fn ran(
     s
 }
 
+// A run in a slot of the cabinet, its arguments in the buffers.
+fn ran_in_slot(
+    k: u64,
+    mut s: State,
+    call: Call,
+    form: &[u8],
+    a: &[u8],
+    b: &[u8],
+    c: &[u8],
+    d: &[u8],
+    e: &mut [u8],
+) -> State
+    requires { ⌜ length (now form) ≡ 144 ⌝ }
+{
+    let before = s.cabinet;
+    let m = replay_script::within(e, call.e);
+    s.cabinet = replay_runs::slot_run_call(
+        k,
+        before,
+        call.letter,
+        call.first,
+        form,
+        prefix(a, call.a),
+        prefix(b, call.b),
+        prefix(c, call.c),
+        prefix(d, call.d),
+        &mut e[0..m],
+    );
+    s
+}
+
 // A call, its arguments in the buffers. Those that write do so in the second, a trimming in the third and fourth, a run in the fifth.
 fn answered(
     k: u64,
@@ -119,6 +150,9 @@ fn answered(
     let letter = call.letter;
     if replay_script::is_run(letter) {
         return ran(k, s, call, form, a, b, c, d, e);
+    }
+    if replay_script::is_slot_run(letter) {
+        return ran_in_slot(k, s, call, form, a, b, c, d, e);
     }
     let given = prefix(a, call.a);
     let m = replay_script::within(b, call.b);

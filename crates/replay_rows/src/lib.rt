@@ -8,11 +8,16 @@ ghost use Rattle.rules.specs.Sizes.{hashBytes, certificatesMax};
 ghost use Rattle.rules.specs.Request as rules;
 ghost use Rattle.rules.specs.Runs.{run};
 ghost use Rattle.rules.specs.Prepared.{preparedRun};
+ghost use Rattle.rules.specs.CabinetRuns.{cabinetRun, cabinetPreparedRun};
 ghost use Rattle.gate.specs.Outcomes.{ledgerAs};
 ghost use Rattle.run_form.specs.Forms.{formAs};
 ghost use Rattle.run_certificates.specs.Rows.{certificateAs, rowAs};
 ghost use Rattle.runs.specs.Judged.{runOutcomeAs};
+ghost use Rattle.cabinet.specs.Kept.{cabinetAs};
+ghost use Rattle.cabinet_runs.specs.Handed.{cabinetRanAs};
 ghost use Rattle.replay_rows.specs.Given.{givenAt, rowGiven, lentOf};
+use cabinet::Cabinet;
+use cabinet_runs::CabinetRan;
 use gate::Ledger;
 use run_certificates::Certificate;
 use run_form::Prepared;
@@ -144,6 +149,91 @@ pub fn prepared_run(
 {
     prepared_run_lent(
         ledger,
+        km0,
+        acl,
+        decoded(row),
+        lent(row),
+        form,
+        requests,
+        answers,
+    )
+}
+
+// A run in a slot of a cabinet with the first certificates of a row.
+fn cabinet_run_lent(
+    cabinet: Cabinet,
+    slot: usize,
+    km0: &[u8],
+    acl: &[u8],
+    row: [Certificate; LENT],
+    n: usize,
+    requests: &[u8],
+    answers: &mut [u8],
+) -> CabinetRan
+    requires { ⌜ n ≤ 33 ⌝ }
+    ensures { λ r. ⌜ ((whole : List rules.Certificate) → take (certificatesMax + 1) whole ≡ rowAs (take n row) → cabinetRanAs r (now (answers .exit)) ≡ cabinetRun (cabinetAs cabinet) slot (now (km0 .entry)) (now (acl .entry)) whole (now (requests .entry)) (now (answers .entry))) ⌝ }
+{
+    cabinet_runs::run(cabinet, slot, km0, acl, &row[..n], requests, answers)
+}
+
+// The same on a prepared ACL.
+fn cabinet_prepared_run_lent(
+    cabinet: Cabinet,
+    slot: usize,
+    km0: &[u8],
+    acl: &[u8],
+    row: [Certificate; LENT],
+    n: usize,
+    form: Prepared,
+    requests: &[u8],
+    answers: &mut [u8],
+) -> CabinetRan
+    requires { ⌜ n ≤ 33 ⌝ }
+    ensures { λ r. ⌜ ((whole : List rules.Certificate) → take (certificatesMax + 1) whole ≡ rowAs (take n row) → cabinetRanAs r (now (answers .exit)) ≡ cabinetPreparedRun (cabinetAs cabinet) slot (now (km0 .entry)) (now (acl .entry)) whole (formAs form) (now (requests .entry)) (now (answers .entry))) ⌝ }
+{
+    cabinet_runs::prepared_run(cabinet, slot, km0, acl, &row[..n], form, requests, answers)
+}
+
+// A run in a slot of a cabinet with a row of certificates that is given as bytes.
+pub fn cabinet_run(
+    cabinet: Cabinet,
+    slot: usize,
+    km0: &[u8],
+    acl: &[u8],
+    row: &[u8],
+    requests: &[u8],
+    answers: &mut [u8],
+) -> CabinetRan
+    ensures { λ r. ⌜ cabinetRanAs r (now (answers .exit)) ≡ cabinetRun (cabinetAs cabinet) slot (now (km0 .entry)) (now (acl .entry)) (rowGiven (now (row .entry))) (now (requests .entry)) (now (answers .entry)) ⌝ }
+{
+    cabinet_run_lent(
+        cabinet,
+        slot,
+        km0,
+        acl,
+        decoded(row),
+        lent(row),
+        requests,
+        answers,
+    )
+}
+
+// The same on a prepared ACL.
+pub fn cabinet_prepared_run(
+    cabinet: Cabinet,
+    slot: usize,
+    km0: &[u8],
+    acl: &[u8],
+    row: &[u8],
+    form: Prepared,
+    requests: &[u8],
+    answers: &mut [u8],
+) -> CabinetRan
+    ensures { λ r. ⌜ cabinetRanAs r (now (answers .exit)) ≡ cabinetPreparedRun (cabinetAs cabinet) slot (now (km0 .entry)) (now (acl .entry)) (rowGiven (now (row .entry))) (formAs form) (now (requests .entry)) (now (answers .entry)) ⌝ }
+{
+    cabinet_prepared_run_lent(
+        cabinet,
+        slot,
         km0,
         acl,
         decoded(row),

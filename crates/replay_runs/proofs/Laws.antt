@@ -11,9 +11,11 @@ use Rattle.rules.specs.Basics.{Bytes, number}
 use Rattle.rules.specs.Ledger.{Ledger}
 use Rattle.rules.specs.Runs.{RunOutcome}
 use Rattle.rules.specs.Prepared.{Form, preparedRun}
+use Rattle.rules.specs.Cabinet.{Cabinet}
+use Rattle.rules.specs.CabinetRuns.{CabinetRan, cabinetPreparedRun}
 use Rattle.rules.proofs.Choices.{pick-ne}
 use Rattle.replay_rows.specs.Given.{rowGiven}
-use Rattle.replay_runs.specs.Letters.{usesGiven, formGiven, runAnswer}
+use Rattle.replay_runs.specs.Letters.{usesGiven, formGiven, runAnswer, slotRunAnswer}
 
 pub uses-start : (s : Bytes) → [] ≡ usesGiven s 0
 unfolding usesGiven
@@ -38,3 +40,10 @@ pub prepared-answer : (l : Ledger) (letter : ℕ) (form km0 acl row requests ans
 unfolding runAnswer
 prepared-answer l letter form km0 acl row requests answers f x n e p =
     pick-ne _ _ x letter 66 n (p ∙ ap (λ (g : Form). preparedRun l km0 acl (rowGiven row) g requests answers) e)
+
+-- a run in a slot that is not of the letter b
+pub slot-prepared-answer : (c : Cabinet) (letter slot : ℕ) (form km0 acl row requests answers : Bytes) (f : Form) (x : CabinetRan) → (letter ≡ 98 → ⊥) → f ≡ formGiven form
+    → x ≡ cabinetPreparedRun c slot km0 acl (rowGiven row) f requests answers → x ≡ slotRunAnswer c letter slot form km0 acl row requests answers
+unfolding slotRunAnswer
+slot-prepared-answer c letter slot form km0 acl row requests answers f x n e p =
+    pick-ne _ _ x letter 98 n (p ∙ ap (λ (g : Form). cabinetPreparedRun c slot km0 acl (rowGiven row) g requests answers) e)

@@ -7,6 +7,8 @@ use Rattle.rules.specs.Basics.{if_then_else_, Bytes, number}
 use Rattle.rules.specs.Ledger.{Ledger}
 use Rattle.rules.specs.Runs.{RunOutcome, run}
 use Rattle.rules.specs.Prepared.{Form, preparedRun}
+use Rattle.rules.specs.Cabinet.{Cabinet}
+use Rattle.rules.specs.CabinetRuns.{CabinetRan, cabinetRun, cabinetPreparedRun}
 use Rattle.replay_rows.specs.Given.{rowGiven}
 
 -- a form that is given as bytes, "144 of them: eighteen numbers"
@@ -27,3 +29,9 @@ unfoldable pub runAnswer : Ledger → ℕ → Bytes → Bytes → Bytes → Byte
 runAnswer l letter form km0 acl row requests answers =
     if eqb letter 66 then run l km0 acl (rowGiven row) requests answers
     else preparedRun l km0 acl (rowGiven row) (formGiven form) requests answers
+
+-- b and q: the same in a slot of the cabinet
+unfoldable pub slotRunAnswer : Cabinet → ℕ → ℕ → Bytes → Bytes → Bytes → Bytes → Bytes → Bytes → CabinetRan
+slotRunAnswer c letter slot form km0 acl row requests answers =
+    if eqb letter 98 then cabinetRun c slot km0 acl (rowGiven row) requests answers
+    else cabinetPreparedRun c slot km0 acl (rowGiven row) (formGiven form) requests answers

@@ -1,12 +1,17 @@
-// The calls of a replay script (docs/REPLAY.md) that run many requests on the ledger, and the call that prepares an ACL for them. Each makes the call and
-// prints its line; a run returns the ledger, and leaves the buffer, of its letter's definition. No contract can say what is printed.
+// The calls of a replay script (docs/REPLAY.md) that run many requests on the ledger or in a slot of the cabinet, and the call that prepares an ACL for
+// them. Each makes the call and prints its line; a run returns the ledger or the cabinet, and leaves the buffer, of its letter's definition. No contract
+// can say what is printed.
 ghost use mathlib.Core.Path.{_≡_};
 ghost use lib.ListN.{length};
 ghost use Rattle.rules.specs.Sizes.{permissionsMax};
 ghost use Rattle.gate.specs.Outcomes.{ledgerAs};
 ghost use Rattle.run_form.specs.Forms.{formAs};
 ghost use Rattle.runs.specs.Judged.{runOutcomeAs};
-ghost use Rattle.replay_runs.specs.Letters.{formBytes, usesGiven, formGiven, runAnswer};
+ghost use Rattle.cabinet.specs.Kept.{cabinetAs};
+ghost use Rattle.cabinet_runs.specs.Handed.{cabinetRanAs};
+ghost use Rattle.replay_runs.specs.Letters.{formBytes, usesGiven, formGiven, runAnswer, slotRunAnswer};
+use cabinet::Cabinet;
+use cabinet_runs::CabinetRan;
 use cli_printing::print;
 use files::Checked;
 use gate::Ledger;
@@ -94,6 +99,63 @@ pub fn run_call(
     print(b" ");
     cli_printing::print_hex(answers);
     cli_outcomes::print_ledger(ledger)
+}
+
+// The answer to a letter of a run in a slot: plain, or on a prepared ACL.
+fn slot_answer(
+    cabinet: Cabinet,
+    letter: u8,
+    slot: usize,
+    form: &[u8],
+    km0: &[u8],
+    acl: &[u8],
+    row: &[u8],
+    requests: &[u8],
+    answers: &mut [u8],
+) -> CabinetRan
+    requires { ⌜ length (now form) ≡ formBytes ⌝ }
+    ensures { λ r. ⌜ cabinetRanAs r (now (answers .exit)) ≡ slotRunAnswer (cabinetAs cabinet) letter slot (now (form .entry)) (now (km0 .entry)) (now (acl .entry)) (now (row .entry)) (now (requests .entry)) (now (answers .entry)) ⌝ }
+{
+    if letter == b'b' {
+        return replay_rows::cabinet_run(cabinet, slot, km0, acl, row, requests, answers);
+    }
+    replay_rows::cabinet_prepared_run(
+        cabinet,
+        slot,
+        km0,
+        acl,
+        row,
+        form_of(form),
+        requests,
+        answers,
+    )
+}
+
+// A run in a slot: its reply, the whole buffer after it, the slot and the shared counters of the cabinet handed back.
+pub fn slot_run_call(
+    k: u64,
+    before: Cabinet,
+    letter: u8,
+    first: u64,
+    form: &[u8],
+    km0: &[u8],
+    acl: &[u8],
+    row: &[u8],
+    requests: &[u8],
+    answers: &mut [u8],
+) -> Cabinet
+    requires { ⌜ length (now form) ≡ formBytes ⌝ }
+    ensures { λ r. ⌜ (cabinetAs r ≡ slotRunAnswer (cabinetAs before) letter first (now (form .entry)) (now (km0 .entry)) (now (acl .entry)) (now (row .entry)) (now (requests .entry)) (now (answers .entry)) .cabinet) × (now (answers .exit) ≡ slotRunAnswer (cabinetAs before) letter first (now (form .entry)) (now (km0 .entry)) (now (acl .entry)) (now (row .entry)) (now (requests .entry)) (now (answers .entry)) .buffer) ⌝ }
+{
+    let slot = first as usize;
+    let o = slot_answer(before, letter, slot, form, km0, acl, row, requests, answers);
+    let reply = o.reply;
+    let cabinet = o.cabinet;
+    cli_printing::print_line(k);
+    print_ran(reply);
+    print(b" ");
+    cli_printing::print_hex(answers);
+    cli_outcomes::print_cabinet(cabinet, slot)
 }
 
 // The sets of a form, sixteen lower-case digits for each.

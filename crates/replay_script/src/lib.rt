@@ -66,7 +66,7 @@ pub fn prefix(s: &[u8], n: u64) -> &[u8]
 // How many numbers a call takes.
 fn numbers_of(letter: u8) -> u64 {
     match letter {
-        b'L' | b'C' | b'c' | b'r' | b'n' | b'x' => 1,
+        b'L' | b'C' | b'c' | b'r' | b'n' | b'x' | b'b' | b'q' => 1,
         b'S' | b'l' => 2,
         _ => 0,
     }
@@ -79,7 +79,7 @@ fn runs_of(letter: u8) -> u64 {
         b'D' | b'S' | b'W' | b'T' => 2,
         b'R' | b'r' => 3,
         b'X' | b'x' | b'M' => 4,
-        b'N' | b'n' | b'B' | b'Q' => 5,
+        b'N' | b'n' | b'B' | b'Q' | b'b' | b'q' => 5,
         _ => 0,
     }
 }
@@ -91,9 +91,16 @@ pub fn is_run(letter: u8) -> bool
     (letter == b'B') | (letter == b'Q')
 }
 
+// Whether a call is a run in a slot of the cabinet.
+pub fn is_slot_run(letter: u8) -> bool
+    ensures { λ r. ⌜ r ≡ (eqb letter 98 || eqb letter 113) ⌝ }
+{
+    (letter == b'b') | (letter == b'q')
+}
+
 // Whether the third run of bytes of a call can have a length: that of many requests is a row of certificates, 22 bytes each.
 fn can_be_third(letter: u8, n: u64) -> bool {
-    !is_run(letter) | (n % 22 == 0)
+    !(is_run(letter) | is_slot_run(letter)) | (n % 22 == 0)
 }
 
 // Reads a number, if the call takes one: 8 bytes, big-endian.
@@ -213,7 +220,7 @@ fn read_arguments(
     let Argument::Is(second) = read_number(1 < n) else {
         return Next::Stop;
     };
-    if !read_form(letter == b'Q', form) {
+    if !read_form((letter == b'Q') | (letter == b'q'), form) {
         return Next::Stop;
     }
     read_runs(letter, first, second, a, b, c, d, e)
