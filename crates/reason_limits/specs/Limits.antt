@@ -2,7 +2,7 @@
 use Prim.Native.Nat.{ℕ, suc}
 use mathlib.Core.List.{List, [], _∷_}
 use mathlib.Core.Option.{Option, none, some}
-use mathlib.Core.Bool.{Bool, not}
+use mathlib.Core.Bool.{Bool}
 use Rattle.rules.specs.Basics.{if_then_else_}
 use Rattle.rules.specs.Acl.{Limit}
 use Rattle.rules.specs.Grant.{limitLeft}
