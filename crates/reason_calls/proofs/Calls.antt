@@ -1,7 +1,7 @@
 -- What the place of a call says: its refusal is the one of the call, with the group that it names; a limit that is named is spent, and every limit
 -- before it is not; where none is, the group's own count is full.
 use Prim.Native.Nat.{ℕ}
-use mathlib.Core.Path.{_≡_, refl, sym, _∙_, ap}
+use mathlib.Core.Path.{_≡_, refl, ap}
 use mathlib.Core.List.{List}
 use mathlib.Core.Option.{Option, none, some}
 use mathlib.Core.Bool.{Bool, true, false, _&&_}
@@ -9,25 +9,23 @@ use lib.Dec.{ltb}
 use Rattle.rules.specs.Sizes.{fullCount}
 use Rattle.rules.specs.Numbers.{notNarrower}
 use Rattle.rules.specs.Basics.{if_then_else_, Bytes}
-use Rattle.rules.specs.Acl.{Limit, Group, aclOf}
+use Rattle.rules.specs.Acl.{Limit, aclOf}
 use Rattle.rules.specs.Request.{Request, requestOf, hintsOf}
 use Rattle.rules.specs.Ledger.{Ledger, charge}
 use Rattle.rules.specs.Grant.{limitLeft, unspentWith}
 use Rattle.rules.specs.Gate.{Answer, done, permit, refuse, Outcome, Judgement, granted, denied, judge, outcomeUnless, settle, permitted, narrowed, expanded, request, narrow, expand, requestFiles, narrowFiles, expandFiles}
-use Rattle.rules.specs.Narrow.{narrows}
 use Rattle.rules.proofs.Laws.{never}
 use Rattle.reason_files.specs.Places.{Place, sound, atLength, atRecord, atEnd, placeRefusal}
 use Rattle.reason_inputs.specs.Inputs.{InputPlace, isFault, inputsPlace, requestInputs, narrowInputs, expandInputs}
 use Rattle.reason_inputs.proofs.Inputs.{request-refusal, narrow-refusal, expand-refusal}
 use Rattle.reason_limits.specs.Limits.{firstFailing, spentLimit, spentWith}
-use Rattle.reason_limits.specs.declared.SpentBy.{SpentBy}
 use Rattle.reason_limits.specs.declared.SpentBy.the-variants as by
 use Rattle.reason_limits.proofs.First.{FirstFailing, failing-is-first, none-failing}
 use Rattle.reason_narrowing.specs.Breaches.{narrowingOf}
 use Rattle.reason_narrowing.specs.declared.Narrowing.{Narrowing}
 use Rattle.reason_narrowing.specs.declared.Narrowing.the-variants.{Shown, Broken}
 use Rattle.reason_narrowing.proofs.Shown.{shown-narrows, broken-narrows-not}
-use Rattle.reason_calls.specs.Calls.{CallPlace, badInput, denial, notShown, spentIn, judgedPlace, inputOr, narrowingPlace, locateRequest, locateNarrow, locateExpand}
+use Rattle.reason_calls.specs.Calls.{CallPlace, badInput, denial, notShown, judgedPlace, inputOr, narrowingPlace, locateRequest, locateNarrow, locateExpand}
 use Rattle.reason_calls.specs.Calls as calls
 
 -- a refusal with the group that it names

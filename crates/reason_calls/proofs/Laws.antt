@@ -15,7 +15,7 @@ use Rattle.rules.proofs.Laws.{never}
 use Rattle.acl_groups.specs.Parts.{firstLimits}
 use Rattle.refusals.specs.Refusals.{denialNumber, denialGroup}
 use Rattle.refusals.specs.declared.Denial as code
-use Rattle.refusals.specs.declared.Denial.the-variants.{ClockBack, NotAdmitted, NotCertified, Spent}
+use Rattle.refusals.specs.declared.Denial.the-variants.{Spent}
 use Rattle.gate_decision.specs.Standings.{judgedFor}
 use Rattle.gate_decision.specs.declared.Judged.{Judged}
 use Rattle.gate_decision.specs.declared.Judged.the-variants.{Granted, Denied}

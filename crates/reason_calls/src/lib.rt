@@ -133,7 +133,16 @@ pub fn locate_request<'a>(
     if reason_inputs::is_fault(place) {
         return CallPlace::BadInput(input, place);
     }
-    locate_judged(counts, counters, loaded, last, km0, acl, req, CallPlace::Permitted)
+    locate_judged(
+        counts,
+        counters,
+        loaded,
+        last,
+        km0,
+        acl,
+        req,
+        CallPlace::Permitted,
+    )
 }
 
 // Where the first fault of a narrowing is.
@@ -179,5 +188,14 @@ pub fn locate_expand<'a>(
     if reason_inputs::is_fault(place) {
         return CallPlace::BadInput(input, place);
     }
-    locate_judged(counts, counters, loaded, last, km0, acl, req, CallPlace::Permitted)
+    locate_judged(
+        counts,
+        counters,
+        loaded,
+        last,
+        km0,
+        acl,
+        req,
+        CallPlace::Permitted,
+    )
 }

@@ -24,10 +24,10 @@ use Rattle.text_rules.specs.OtherWords.{recordLine}
 use Rattle.text_rules.specs.OtherDecoding.{recordOf}
 use Rattle.text_rules.specs.Kinds.{FileKind, requestDue, aclKind, requestKind, requestsKind, bundleKind, hintsKind}
 use Rattle.text_states.specs.States as states
-use Rattle.text_states.specs.States.{AnyState, ofRequest, ofRequests, ofBundle, ofHints, stateFault, stateAfter, stateEnd, stateMost, kindFrom, stepOf}
+use Rattle.text_states.specs.States.{AnyState, ofRequest, ofRequests, ofBundle, ofHints, stateFault, stateAfter, stateEnd, kindFrom, stepOf}
 use Rattle.text_files.specs.declared.Kind.{Kind}
 use Rattle.text_files.specs.declared.Kind.the-variants.{Acl, Request, Requests, Bundle, Hints}
-use Rattle.reason_files.specs.Places.{Place, sound, atLength, atRecord, atEnd, recordFaults, reached, recordOr, firstRecord, endPlace, recordsPlace, filePlace, placeIn}
+use Rattle.reason_files.specs.Places.{Place, sound, atLength, atEnd, recordFaults, reached, recordOr, firstRecord, endPlace, recordsPlace, filePlace, placeIn}
 
 -- The turns of a loop over records. `at` is the byte at which the record of index i begins.
 module _ {S : Type 0} (k : FileKind S) (file : Bytes) (at : ℕ) (s : S) (i : ℕ) (x : Place) (inv : recordsPlace k s i (recordsFrom file at) ≡ x) where

@@ -1,11 +1,11 @@
 -- What the place of a file's first fault says: its number is the one that the reader of such a file gives; every record before it is without fault; it is
 -- the first; and none is named exactly where the file has none.
-use Prim.Native.Nat.{ℕ, zero, suc, _+_, _<_, _≤_}
+use Prim.Native.Nat.{ℕ, zero, suc, _+_, _<_}
 use native.Mathlib.Omega.{arith}
 use mathlib.Core.Path.{_≡_, refl, sym, _∙_, ap}
 use mathlib.Core.List.{List, [], _∷_}
 use mathlib.Core.Option.{Option, none, some}
-use mathlib.Core.Bool.{Bool, true, false, false≢true}
+use mathlib.Core.Bool.{Bool, true, false}
 use lib.ListN.{length, getElem?}
 use Rattle.rules.specs.Sizes.{requestRecords, bundleRecords, dayRecords}
 use Rattle.rules.specs.Numbers.{badLength}

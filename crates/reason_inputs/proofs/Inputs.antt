@@ -138,9 +138,10 @@ sized-use p req = record { short = λ e. rw e (file-short requestKind req Reques
         × (placeRefusal (if fits requestRecords req && asksOther p (records req) then atRecord malformed 0 else filePlace requestKind req) ≡ requestFault (useOf p) (records req))
     pick e true d = rw (e, d) (refl, other-fault p (records req) d)
     pick e false d =
-        rw (e, d)
-        (file-long requestKind req Request (requestFault requestLaidOut) (request-reader req) e,
-        file-refusal requestKind req Request (requestFault requestLaidOut) (request-reader req) e ∙ same-fault p (records req) d)
+        rw (e, d) (
+          file-long requestKind req Request (requestFault requestLaidOut) (request-reader req) e,
+          file-refusal requestKind req Request (requestFault requestLaidOut) (request-reader req) e ∙ same-fault p (records req) d,
+        )
 
 -- the refusal of the first
 refusal-of : (p : InputPlace) (b : Bool) (o : Option ℕ) → Sized p b o → placeRefusal (p .place) ≡ orNext (unless b badLength) o

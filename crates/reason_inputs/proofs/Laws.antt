@@ -2,9 +2,8 @@
 use Prim.Native.Nat.{ℕ, _≤_, _<_}
 use mathlib.Core.Path.{_≡_, refl, sym, _∙_, ap}
 use mathlib.Core.List.{List, [], _∷_}
-use mathlib.Core.Bool.{Bool, true, false, not, _&&_, false≢true}
+use mathlib.Core.Bool.{Bool, true, false, not, _&&_}
 use lib.ListN.{length, take}
-use lib.Dec.{eqb}
 use borrow.Author.Tests.{eq-eqb, ne-eqb}
 use Rattle.rules.specs.Sizes.{hashBytes, requestRecords}
 use Rattle.rules.specs.Numbers.{malformed}
@@ -116,7 +115,7 @@ module _ (km0 acl req new hints : Bytes) (r rest : InputPlace) (er : r ≡ earli
   narrow-is a u n l pa pn pl d da dpa du dn dpn dl dpl =
       let el : l ≡ inputsPlace (inputAt Hints (filePlace hintsKind hints) ∷ []) = dl ∙ ap (λ (z : Place). earlierOf (inputAt Hints z) noInput) dpl ∙ before _ noInput [] (sym inputs-none) in
       let eu : u ≡ inputsPlace (inputAt NewAcl (filePlace aclKind new) ∷ inputAt Hints (filePlace hintsKind hints) ∷ []) =
-          du ∙ ap (λ (z : InputPlace). earlierOf z l) (dn ∙ ap (inputAt NewAcl) dpn) ∙ before _ l _ el in
+      du ∙ ap (λ (z : InputPlace). earlierOf z l) (dn ∙ ap (inputAt NewAcl) dpn) ∙ before _ l _ el in
       held-before _ (d ∙ ap (λ (z : InputPlace). earlierOf z u) (da ∙ ap (inputAt Request) dpa) ∙ before _ u _ eu)
 
   pub expand-is : (a l : InputPlace) (pa pl : Place) → rest ≡ earlierOf a l → a ≡ inputAt Request pa → pa ≡ usePlace expandAcl req → l ≡ earlierOf (inputAt NewAcl pl) noInput → pl ≡ placeIn kind.Acl new

@@ -61,10 +61,7 @@ pub fn is_fault(place: FilePlace) -> bool
 fn input_at(input: Input, place: FilePlace) -> InputPlace
     ensures { λ r. ⌜ inputPlaceAs r ≡ inputAt input (placeAs place) ⌝ }
 {
-    InputPlace {
-        input,
-        place,
-    }
+    InputPlace { input, place }
 }
 
 // Of two inputs, the one at fault: a bad length before any other fault, else the first.
@@ -148,17 +145,14 @@ pub fn request_inputs(km0: &[u8], acl: &[u8], req: &[u8]) -> InputPlace
 }
 
 // The input of a narrowing that is at fault.
-pub fn narrow_inputs(
-    km0: &[u8],
-    acl: &[u8],
-    req: &[u8],
-    new: &[u8],
-    hints: &[u8],
-) -> InputPlace
+pub fn narrow_inputs(km0: &[u8], acl: &[u8], req: &[u8], new: &[u8], hints: &[u8]) -> InputPlace
     ensures { λ r. ⌜ inputPlaceAs r ≡ inputsPlace (narrowInputs (now (km0 .entry)) (now (acl .entry)) (now (req .entry)) (now (new .entry)) (now (hints .entry))) ⌝ }
 {
     let last = last_input(Input::Hints, reason_files::locate(Kind::Hints, hints));
-    let rest = earlier(input_at(Input::NewAcl, reason_files::locate(Kind::Acl, new)), last);
+    let rest = earlier(
+        input_at(Input::NewAcl, reason_files::locate(Kind::Acl, new)),
+        last,
+    );
     let asked = input_at(Input::Request, use_place(REDUCE_ACL, req));
     held_inputs(km0, acl, earlier(asked, rest))
 }

@@ -3,9 +3,9 @@ use Prim.Native.Nat.{ℕ, zero, suc, _+_, _<_}
 use native.Mathlib.Omega.{arith}
 use mathlib.Core.Path.{_≡_, refl, sym, _∙_, ap}
 use mathlib.Core.List.{List, [], _∷_}
-use mathlib.Core.Option.{Option, none, some}
+use mathlib.Core.Option.{none, some}
 use mathlib.Core.Bool.{Bool, true, false, _&&_}
-use lib.ListN.{length, getElem?}
+use lib.ListN.{getElem?}
 use Rattle.rules.specs.Basics.{if_then_else_, all}
 use Rattle.rules.proofs.Laws.{never}
 use Rattle.reason_limits.specs.Limits.{firstFailing}
@@ -49,14 +49,5 @@ module _ {A : Type 0} (test : A → Bool) where
   none-failing i (x ∷ xs) e = pick (test x) e (none-failing (suc i) xs)
     where
       pick : (b : Bool) → (if b then firstFailing test (suc i) xs else some i) ≡ none → (firstFailing test (suc i) xs ≡ none → all test xs ≡ true) → (b && all test xs) ≡ true
-      pick true g f = f g
-      pick false g f = absurd (never (cc))
-
-  pub all-passing : (i : ℕ) (xs : List A) → all test xs ≡ true → firstFailing test i xs ≡ none
-  unfolding firstFailing all
-  all-passing i [] e = refl
-  all-passing i (x ∷ xs) e = pick (test x) e (all-passing (suc i) xs)
-    where
-      pick : (b : Bool) → (b && all test xs) ≡ true → (all test xs ≡ true → firstFailing test (suc i) xs ≡ none) → (if b then firstFailing test (suc i) xs else some i) ≡ none
       pick true g f = f g
       pick false g f = absurd (never (cc))

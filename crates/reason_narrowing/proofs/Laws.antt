@@ -9,7 +9,7 @@ use mathlib.Core.Bool.{Bool, true, false, not, false≢true}
 use lib.ListN.{length, take, drop, getD, getElem?, length-drop, drop-of-length-le}
 use lib.Seq.{drop-cons, take-all}
 use borrow.Author.Tests.{not-true, not-false}
-use Rattle.rules.specs.Basics.{if_then_else_, Bytes, allZero, present, records, recordsFrom}
+use Rattle.rules.specs.Basics.{Bytes, allZero, present, records, recordsFrom}
 use Rattle.rules.specs.Acl.{Action, actionsOf, limitsOf}
 use Rattle.rules.specs.Narrow.{isAnswered, noWiderThan}
 use Rattle.acl_groups.specs.Parts.{actionFrom, actionsFrom, NextAction}

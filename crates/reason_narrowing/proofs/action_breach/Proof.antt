@@ -25,7 +25,7 @@ sub-loop : tie.Need-sub-loop Inv-loop μ-loop
 sub-loop c = search needs
 
 returns : tie.Need-returns Inv-loop μ-loop
-returns c = 
+returns c =
     let l = c .before in
     wider-short-here _ _ _ _ _ _ (l .before .loop .inv .1 .1) (l .loop-test .taken) (c .if1 .taken)
 
@@ -45,7 +45,7 @@ hinted-no-wider-requires : tie.Need-hinted-no-wider-requires Inv-loop μ-loop
 hinted-no-wider-requires c κs = search needs
 
 returns-2 : tie.Need-returns-2 Inv-loop μ-loop
-returns-2 c = 
+returns-2 c =
     let f = c .before .before .before .before .before in
     let l = f .before in
     wider-found _ _ _ _ _ _ (l .before .loop .inv .1 .1) (l .loop-test .taken) _ _ _ (f .if1 .left) (c .before .before .before .widened .ensures .0) (c .before .before .action-at .ensures) (c .before .hinted-no-wider .ensures .0) (c .if2 .taken)
@@ -63,7 +63,7 @@ loop-less : tie.Need-loop-less Inv-loop μ-loop
 loop-less c = let e = c .next-action2 .ensures .later in search needs
 
 loop-again : tie.Need-loop-again Inv-loop μ-loop
-loop-again c = 
+loop-again c =
     let g = c .before in
     let f = g .before .before .before .before .before in
     let l = f .before in

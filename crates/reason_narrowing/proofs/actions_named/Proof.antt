@@ -28,7 +28,7 @@ sub-loop : tie.Need-sub-loop Inv-loop μ-loop
 sub-loop c = search needs
 
 returns : tie.Need-returns Inv-loop μ-loop
-returns c = 
+returns c =
     let l = c .before in
     named-short-here _ _ _ _ _ _ (l .before .loop .inv .1 .1 .1) (l .loop-test .taken) (c .if1 .taken)
 
@@ -42,7 +42,7 @@ cast-if2 : tie.Need-cast-if2 Inv-loop μ-loop
 cast-if2 c = search needs
 
 returns-2 : tie.Need-returns-2 Inv-loop μ-loop
-returns-2 c = 
+returns-2 c =
     let w = c .before in
     let f = w .before .before in
     let l = f .before in
@@ -61,7 +61,7 @@ loop-less : tie.Need-loop-less Inv-loop μ-loop
 loop-less c = let e = c .next-action2 .ensures .later in search needs
 
 loop-again : tie.Need-loop-again Inv-loop μ-loop
-loop-again c = 
+loop-again c =
     let g = c .before in
     let w = g .before in
     let f = w .before .before in
@@ -82,7 +82,7 @@ all-zero-requires : tie.Need-all-zero-requires Inv-loop μ-loop
 all-zero-requires c κs = search needs
 
 returns-3 : tie.Need-returns-3 Inv-loop μ-loop
-returns-3 c = 
+returns-3 c =
     let l = c .before .before in
     named-end _ _ _ _ _ _ (l .before .loop .inv .1 .1 .1) (l .loop-test .left) _ (c .all-zero .ensures)
 

@@ -28,7 +28,7 @@ shared-slice-read-if1 : tie.Need-shared-slice-read-if1 Inv-loop μ-loop
 shared-slice-read-if1 c = search needs
 
 returns : tie.Need-returns Inv-loop μ-loop
-returns c = 
+returns c =
     let l = c .before .before in
     limit-none _ (failing-stop _ _ _ _ _ (l .before .loop .inv .1 .1) (l .loop-test .taken) (c .if1 .taken))
 
@@ -48,7 +48,7 @@ limit-answered-requires : tie.Need-limit-answered-requires Inv-loop μ-loop
 limit-answered-requires c κs = search needs
 
 returns-2 : tie.Need-returns-2 Inv-loop μ-loop
-returns-2 c = 
+returns-2 c =
     let e = c .before .before .before in
     let l = e .before .before in
     limit-some _ _ (failing-here _ _ _ _ _ (l .before .loop .inv .1 .1) _ (l .loop-test .taken) (e .if1 .left) (c .before .limit-answered .ensures) (c .if2 .taken))
@@ -63,7 +63,7 @@ loop-less : tie.Need-loop-less Inv-loop μ-loop
 loop-less c = search needs
 
 loop-again : tie.Need-loop-again Inv-loop μ-loop
-loop-again c = 
+loop-again c =
     let e = c .before .before .before in
     let l = e .before .before in
     (search needs, (search needs, failing-next _ _ _ _ _ (l .before .loop .inv .1 .1) _ (l .loop-test .taken) (e .if1 .left) (c .before .limit-answered .ensures) (c .if2 .left)))

@@ -13,7 +13,7 @@ use Rattle.reason_narrowing.proofs.locate_breach.Statement.{statement}
 use Rattle.reason_narrowing.proofs.locate_breach.Tie as tie
 
 abbrev Inv-loop : tie.InvT-loop
-Inv-loop old new hints low₀ i₀ h₀ at₀ low i h at = 
+Inv-loop old new hints low₀ i₀ h₀ at₀ low i h at =
     (at ≤ length new)
     × ((h ≤ length hints)
     × ((i ≤ at)
@@ -28,7 +28,7 @@ group-at-requires c κs = search needs
 
 loop-holds : tie.Need-loop-holds Inv-loop μ-loop
 unfolding recordsFrom
-loop-holds c = 
+loop-holds c =
     let a = c .before .before .before .before .args in
     let e = c .group-at .ensures in
     let n = ap (narrowingFrom (aclOf (a .old .now)) 0 0 (aclOf (a .new .now))) (hints-start (a .hints .now)) in
@@ -41,7 +41,7 @@ sub-if1 : tie.Need-sub-if1 Inv-loop μ-loop
 sub-if1 c = search needs
 
 returns : tie.Need-returns Inv-loop μ-loop
-returns c = 
+returns c =
     let l = c .before in
     let v = l .before .loop .inv .1 .1 .1 in
     let t = l .loop-test .taken in
@@ -66,7 +66,7 @@ widened-requires : tie.Need-widened-requires Inv-loop μ-loop
 widened-requires c κs = search needs
 
 returns-2 : tie.Need-returns-2 Inv-loop μ-loop
-returns-2 c = 
+returns-2 c =
     let w = c .before in
     let g = w .before .before .before in
     let l = g .before in
@@ -129,7 +129,7 @@ is-breach-requires : tie.Need-is-breach-requires Inv-loop μ-loop
 is-breach-requires c κs = search needs
 
 returns-3 : tie.Need-returns-3 Inv-loop μ-loop
-returns-3 c = 
+returns-3 c =
     let b = c .before in
     let s = b .before in
     let p = s .before .before .before .before .before in
@@ -161,7 +161,7 @@ loop-less : tie.Need-loop-less Inv-loop μ-loop
 loop-less c = let e = group-later _ _ _ _ (c .group-at3 .ensures) (search needs) in search needs
 
 loop-again : tie.Need-loop-again Inv-loop μ-loop
-loop-again c = 
+loop-again c =
     let j = c .before in
     let b = j .before in
     let s = b .before in
@@ -183,12 +183,12 @@ sub-if4 : tie.Need-sub-if4 Inv-loop μ-loop
 sub-if4 c = search needs
 
 returns-4 : tie.Need-returns-4 Inv-loop μ-loop
-returns-4 c = 
+returns-4 c =
     let l = c .before in
     hints-left _ _ _ _ _ _ _ _ (l .before .loop .inv .1 .1 .1 .1) (l .loop-test .left) (c .if4 .taken)
 
 returns-5 : tie.Need-returns-5 Inv-loop μ-loop
-returns-5 c = 
+returns-5 c =
     let l = c .before in
     hints-done _ _ _ _ _ _ _ _ (l .before .loop .inv .1 .1 .1 .1) (l .loop-test .left) (c .if4 .left)
 
