@@ -23,7 +23,7 @@ fn resumed(low: usize, h: usize, n: usize) -> usize
 
 // The offset of action h of a group, in the records after the group's first one; the end if it has fewer. The actions from the byte `from` on
 // are those from action `low` on: hints mostly rise, and then the search goes on where the one before it ended.
-fn action_at(body: &[u8], low: usize, from: usize, h: usize) -> usize
+pub fn action_at(body: &[u8], low: usize, from: usize, h: usize) -> usize
     requires { ⌜ (from ≤ length (now body)) × (actionsOf (records (drop from (now body))) ≡ drop low (actionsOf (records (now body)))) ⌝ }
     ensures { λ r. ⌜ ActionAt (now (body .entry)) h r ⌝ }
 {
@@ -40,7 +40,7 @@ fn action_at(body: &[u8], low: usize, from: usize, h: usize) -> usize
 }
 
 // Whether the new action at offset `at` is no wider than the old one at offset `place`, which its hint names; false if no record begins there.
-fn hinted_no_wider(new: &[u8], at: usize, old: &[u8], place: usize) -> bool
+pub fn hinted_no_wider(new: &[u8], at: usize, old: &[u8], place: usize) -> bool
     requires { ⌜ (recordBytes ≤ length (now new) - at) × (place ≤ length (now old)) ⌝ }
     ensures { λ r. ⌜
         (r ≡ noWiderThan (actionFrom (now (new .entry)) at) (actionIn (now (old .entry)) place)) ×
@@ -94,7 +94,7 @@ fn limit_answers(old: &[u8], new: &[u8]) -> bool
 }
 
 // Whether one of the new limits answers an old one.
-fn limit_answered(new: &[u8], old: &[u8]) -> bool
+pub fn limit_answered(new: &[u8], old: &[u8]) -> bool
     requires { ⌜ length (now old) ≡ recordBytes ⌝ }
     ensures { λ r. ⌜ r ≡ isAnswered (limitsOf (records (now (new .entry)))) (limitOf (now (old .entry))) ⌝ }
 {

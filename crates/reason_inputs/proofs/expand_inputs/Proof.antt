@@ -1,0 +1,37 @@
+use Rattle.reason_inputs.proofs.Laws.{expand-is}
+use borrow.Author.Needs.{needs}
+use Rattle.reason_inputs.proofs.expand_inputs.Statement.{statement}
+use Rattle.reason_inputs.proofs.expand_inputs.Tie as tie
+
+locate-requires : tie.Need-locate-requires
+locate-requires c κs = search needs
+
+last-input-requires : tie.Need-last-input-requires
+last-input-requires c κs = search needs
+
+use-place-requires : tie.Need-use-place-requires
+use-place-requires c κs = search needs
+
+input-at-requires : tie.Need-input-at-requires
+input-at-requires c κs = search needs
+
+earlier-requires : tie.Need-earlier-requires
+earlier-requires c κs = search needs
+
+held-inputs-requires : tie.Need-held-inputs-requires
+held-inputs-requires c κs = search needs
+
+returns : tie.Need-returns
+returns c = search (needs, expand-is)
+
+pub expand-inputs-spec : {M : Type 1} → statement M
+expand-inputs-spec =
+    tie.close
+    (tie.spec
+    locate-requires
+    last-input-requires
+    use-place-requires
+    input-at-requires
+    earlier-requires
+    held-inputs-requires
+    returns)
