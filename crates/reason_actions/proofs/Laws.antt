@@ -10,7 +10,7 @@ use lib.ListN.{length, drop, getD}
 use lib.Dec.{eqb, ltb}
 use Rattle.rules.specs.Sizes.{hashBytes}
 use Rattle.rules.specs.Basics.{if_then_else_, Bytes, kind, flag, part, number, optional, present, bothSame, orNext, records, recordsFrom}
-use Rattle.rules.specs.Acl.{blobRuleOf, BlobfileRule, blobfileRuleNext, Action, makeBlob, actionOf, actionsOf, Group, groupOf, groupsOf}
+use Rattle.rules.specs.Acl.{blobRuleOf, BlobfileRule, blobfileRuleNext, Action, makeBlob, actionOf, actionsOf, groupOf, groupsOf}
 use Rattle.rules.specs.Bundle.{Policy}
 use Rattle.rules.specs.Desk.{Step, failureUnder, actionProtection}
 use Rattle.rules.proofs.Rows.{rows-at, rows-lent, rows-end, lentRecord, lent-record, kind-at}

@@ -11,7 +11,7 @@ ghost use Rattle.rules.specs.Bundle as rules;
 ghost use Rattle.bundle_facts.specs.Found.{policyAs};
 ghost use Rattle.desk_evidence.specs.Given.{given};
 ghost use Rattle.desk_steps.specs.Steps.{failureAs};
-ghost use Rattle.reason_actions.specs.Spots.{allOnes, unadmittedFrom, permissionOf, belowLowest, atFault, skipped, inGroups, spotOf};
+ghost use Rattle.reason_actions.specs.Spots.{unadmittedFrom, permissionOf, belowLowest, atFault, skipped, inGroups, spotOf};
 use bundle_facts::Policy;
 use desk_steps::Failure;
 

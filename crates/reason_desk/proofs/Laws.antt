@@ -2,15 +2,15 @@
 use Prim.Native.Nat.{ℕ, _+_, _-_, _*_, _%_, _≤_, _<_}
 use native.Mathlib.Omega.{arith}
 use mathlib.Core.Path.{_≡_, refl, sym, _∙_, ap}
-use mathlib.Core.List.{List, [], _∷_}
-use mathlib.Core.Option.{Option, none, some}
+use mathlib.Core.List.{List}
+use mathlib.Core.Option.{Option, none}
 use mathlib.Core.Bool.{Bool, true, false, not, _&&_, _||_}
 use borrow.Author.Tests.{eq-eqb, ne-eqb, leb-true, lt-ltb, le-ltb, not-true, not-false}
 use lib.ListN.{length, getD}
 use lib.Dec.{eqb, ltb, leb, lit<}
 use Rattle.rules.specs.Sizes.{aclRecords, bundleRecords, recordBytes}
 use Rattle.rules.specs.Numbers.{badLength, unknownSuite}
-use Rattle.rules.specs.Basics.{if_then_else_, Bytes, kind, unless, orNext, firstFault, records, recordsFrom, fits}
+use Rattle.rules.specs.Basics.{if_then_else_, Bytes, unless, orNext, firstFault, records, recordsFrom, fits}
 use Rattle.rules.specs.Acl.{Group, aclOf, aclFault}
 use Rattle.rules.specs.Suites.{isSuite}
 use Rattle.rules.specs.Bundle.{bundleFault, field, Policy, policyRecord, policyOf}

@@ -1,6 +1,6 @@
 -- What the place of a verdict says: refusal and step are the desk's; an acceptance names nothing; a step of the bundle names a flaw that is there; a step of
 -- the ACL names the first action that fails, and KV3 the first that protects too little.
-use Prim.Native.Nat.{ℕ, _≤_, _<_}
+use Prim.Native.Nat.{ℕ, _≤_}
 use native.Mathlib.Omega.{arith}
 use mathlib.Core.Path.{_≡_, refl, sym, _∙_, ap}
 use mathlib.Core.List.{List, [], _∷_, map}
@@ -10,12 +10,12 @@ use borrow.Author.Tests.{eqb-true, ne-eqb, leb-true, leb-false}
 use lib.Dec.{eqb, leb, ltb}
 use Rattle.rules.specs.Sizes.{bundleRecords, aclRecords}
 use Rattle.rules.specs.Numbers.{badLength, malformed, notKept}
-use Rattle.rules.specs.Basics.{if_then_else_, Bytes, Every, bit, allBelow, byte, kind, present, bothSame, implies, within, bits, blank, unless, orNext, firstFault, recordFault, scan, records, fits}
+use Rattle.rules.specs.Basics.{if_then_else_, Bytes, bit, allBelow, byte, kind, present, bothSame, implies, within, bits, blank, unless, orNext, firstFault, recordFault, scan, records, fits}
 use Rattle.rules.specs.Layout.{header, between, policyLaidOut}
 use Rattle.rules.specs.Acl.{Action, permissions, makeBlob, makeArchive, Group, aclOf}
 use Rattle.rules.specs.Bundle.{BundleState, bundleRecordLaidOut, inOrder, orderOf, bundleInPlace, bundleRecordFault, afterBundleRecord, bundleEnd, bundleStart, bundleFault, firstRecord, field, policyRecord, policyIn, policyOf}
 use Rattle.rules.specs.Suites.{suiteMechanism}
-use Rattle.rules.specs.Desk.{Step, WV1, MSCV1, MSCV2, MSCV3, MSCV4, MSCV5, WBCV1, WBCV2, WBCV3, KGCV1, KGCV2, ACLV3, WB1, WB2, WB3, WB6, RB1, RB2, RB3, KV3, CSRL1, Acceptance, approach1, approach2, gradeOf, Verdict, accepted, failed, faulty, moduleKey, recoveryKey, classOf, policyAdmits, isMechanism, failureUnder, actionFailure, officersGroup, groupFailure, aclFailure, keyProtection, csrLinked, beforeAcl, afterAcl, fullFailure, basicFailure, acceptedUnless, verdictUnless, attested, deskFault, desk}
+use Rattle.rules.specs.Desk.{Step, WV1, MSCV1, MSCV2, MSCV3, MSCV4, MSCV5, WBCV1, WBCV2, WBCV3, KGCV1, KGCV2, ACLV3, WB1, WB2, WB3, WB6, RB1, RB2, RB3, KV3, CSRL1, Acceptance, approach1, approach2, gradeOf, Verdict, accepted, failed, faulty, moduleKey, recoveryKey, classOf, policyAdmits, isMechanism, failureUnder, actionFailure, officersGroup, groupFailure, aclFailure, keyProtection, csrLinked, afterAcl, fullFailure, basicFailure, acceptedUnless, verdictUnless, attested, deskFault, desk}
 use Rattle.rules.proofs.Laws.{never, and-left, and-right}
 use Rattle.desk_steps.specs.Steps.{stepNumber}
 use Rattle.reason_steps.specs.Defects.{Flaw, named, stepTests, stepFlaw}

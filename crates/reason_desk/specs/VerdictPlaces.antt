@@ -12,9 +12,7 @@ use Rattle.rules.specs.Desk.{Step, ACLV3, KV3, CSRL1, moduleKey, recoveryKey, V
 use Rattle.text_files.specs.declared.Kind.the-variants.{Acl, Bundle}
 use Rattle.desk_steps.specs.Steps.{stepNumber}
 use Rattle.reason_files.specs.Places.{Place, sound, atLength, atRecord, atEnd, placeIn}
-use Rattle.reason_steps.specs.declared.Defect.{Defect}
 use Rattle.reason_steps.specs.Defects.{named, stepFlaw}
-use Rattle.reason_actions.specs.declared.Spot.{Spot}
 use Rattle.reason_actions.specs.Spots.{allOnes, atFault, skipped, Located, inGroups, spotOf}
 use Rattle.reason_desk.specs.declared.Site.{Site}
 use Rattle.reason_desk.specs.declared.VerdictPlace.{VerdictPlace}

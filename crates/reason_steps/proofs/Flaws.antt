@@ -1,11 +1,10 @@
 -- What is named of a failing step: the flaw is there, and every failing step of the bundle has one. Two wrong products that this rules out: one that names
 -- a field that is present and equal, and one that names nothing.
-use Prim.Native.Nat.{ℕ, zero, suc}
-use mathlib.Core.Path.{_≡_, refl, sym, _∙_, ap}
-use mathlib.Core.List.{List, [], _∷_, map}
+use Prim.Native.Nat.{ℕ}
+use mathlib.Core.Path.{_≡_, refl, sym, _∙_}
+use mathlib.Core.List.{List, [], _∷_}
 use mathlib.Core.Option.{Option, none, some}
-use mathlib.Core.Bool.{Bool, true, false, not, _&&_, _||_}
-use native.Mathlib.Omega.{arith}
+use mathlib.Core.Bool.{Bool, true, false, _&&_}
 use borrow.Author.Tests.{eq-eqb, ne-eqb, eqb-true, eqb-false}
 use lib.Dec.{eqb}
 use Rattle.rules.specs.Basics.{Bytes, Every, same, implies, present, bothSame, unless, orNext, firstFault}
@@ -13,7 +12,7 @@ use Rattle.rules.specs.Bundle.{field, hasField, signatureOutcome, reported, isG
 use Rattle.rules.specs.Desk.{Step, WV1, MSCV1, MSCV2, MSCV3, MSCV4, MSCV5, WBCV1, WBCV2, WBCV3, KGCV1, KGCV2, ACLV3, WB1, WB2, WB3, WB6, RB1, RB2, RB3, KV3, CSRL1, kmVouched, kmFipsVouched, kreVouched, isListed, csrLinked, beforeAcl, basicFailure}
 use Rattle.rules.proofs.Laws.{never}
 use Rattle.reason_steps.specs.Defects.{Flaw, signatureAbsent, signatureBad, fieldAbsent, fieldDiffers, signatureTest, fieldTest, equalTest, listedTest, stepTests, stepFlaw}
-use Rattle.reason_steps.specs.Flawed.{counterpart, isEqual, Flawed}
+use Rattle.reason_steps.specs.Flawed.{isEqual, Flawed}
 
 -- What holds of every fault that a test can give holds of the first.
 pub first-is : {F : Type 0} (P : F → Type 0) (ts : List (Option F)) → Every (λ t. (f : F) → t ≡ some f → P f) ts → (f : F) → firstFault ts ≡ some f → P f

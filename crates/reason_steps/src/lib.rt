@@ -8,7 +8,7 @@ ghost use Rattle.rules.specs.Basics.{firstFault, records};
 ghost use Rattle.rules.specs.Desk as rules;
 ghost use Rattle.bundle_facts.specs.Places.{Found};
 ghost use Rattle.desk_steps.specs.Steps.{stepAs};
-ghost use Rattle.reason_steps.specs.Defects.{named, firstNamed, signatureTest, fieldTest, equalTest, listedTest, stepTests, stepFlaw};
+ghost use Rattle.reason_steps.specs.Defects.{named, firstNamed, signatureTest, fieldTest, equalTest, listedTest, stepFlaw};
 use desk_steps::Step;
 
 // What is wrong with a signature or a field, and its number; both zero where nothing is named.

@@ -4,10 +4,10 @@ Every decision is that of the proved shared library. A refusal is a value, and `
 alone; exceptions are for misuse (TypeError, ValueError) and for a missing or wrong library (LibraryError).
 """
 from ._library import ABI, LibraryError
-from .answers import Converted, Reply, Run, Subject, Trimmed, Verdict
+from .answers import Converted, Reply, Run, Subject, Trimmed, Verdict, VerdictPlace
 from .builders import Certificate, Delegation, Facts, Hints, Policy, Request, Token, read_bundle
 from .checking import fault
-from .desk import attest, subject, trim
+from .desk import attest, locate_verdict, subject, trim
 from .gate import Cabinet, Form, Ledger, Slot, prepare
 from .text import Text, Unsupported
 from .words import explain
@@ -16,6 +16,6 @@ __version__ = '1.0'
 
 __all__ = [
     'ABI', 'Cabinet', 'Certificate', 'Converted', 'Delegation', 'Facts', 'Form', 'Hints', 'Ledger', 'LibraryError', 'Policy',
-    'Reply', 'Request', 'Run', 'Slot', 'Subject', 'Text', 'Token', 'Trimmed', 'Unsupported', 'Verdict', 'attest', 'explain',
-    'fault', 'prepare', 'read_bundle', 'subject', 'trim',
+    'Reply', 'Request', 'Run', 'Slot', 'Subject', 'Text', 'Token', 'Trimmed', 'Unsupported', 'Verdict', 'VerdictPlace',
+    'attest', 'explain', 'fault', 'locate_verdict', 'prepare', 'read_bundle', 'subject', 'trim',
 ]

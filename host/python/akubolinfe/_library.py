@@ -80,6 +80,13 @@ class VerdictStruct(Structure):
     ]
 
 
+class VerdictPlaceStruct(Structure):
+    _fields_ = [
+        (name, c_uint32)
+        for name in ('refusal', 'step', 'input', 'part', 'record', 'what', 'number', 'group', 'action', 'permission')
+    ]
+
+
 class SubjectReplyStruct(Structure):
     _fields_ = [('refusal', c_uint32), ('length', c_uint64)]
 
@@ -145,6 +152,7 @@ def _functions() -> Iterator[Tuple[str, type, list]]:
         yield f'cabinet_{name}_in_place', RunReplyStruct, [cabinet, c_size_t] + taken
     yield 'prepare', PreparationStruct, _LENT
     yield 'desk', VerdictStruct, 2 * _LENT
+    yield 'locate_verdict', VerdictPlaceStruct, 2 * _LENT
     yield 'trim', TrimReplyStruct, 2 * _LENT + 2 * _BUFFER
     yield 'subject', SubjectReplyStruct, [c_uint64, c_uint64] + _LENT + _BUFFER
     yield 'write_listing', TextReplyStruct, _LENT + _BUFFER

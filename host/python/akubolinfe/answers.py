@@ -87,6 +87,28 @@ class Verdict(NamedTuple):
         return '' if self.step is None else explain(self.step)
 
 
+class VerdictPlace(NamedTuple):
+    """Where a verdict that is no acceptance comes from; on acceptance nothing is named.
+
+    A refusal names the `input` (2 the ACL, 6 the bundle), the `part` (1 its length, 2 a record, 3 its end) and the index of
+    the `record`, or the number of records at the end. A step of the bundle names `what` is wrong (1 a signature is absent,
+    2 it is not good, 3 a field is absent, 4 it is not equal to what it must equal) and the `number` of the signature or
+    field. A step of the ACL, and KV3, names the first `group` and `action` that fail it and, for ACLV3, the lowest
+    `permission` that is not admitted. Indices are from 0; what is not named is None.
+    """
+
+    refusal: int
+    step: Optional[str] = None
+    input: Optional[int] = None
+    part: Optional[int] = None
+    record: Optional[int] = None
+    what: Optional[int] = None
+    number: Optional[int] = None
+    group: Optional[int] = None
+    action: Optional[int] = None
+    permission: Optional[int] = None
+
+
 class Trimmed(NamedTuple):
     """What the trimming tool leaves of an ACL, and the hints by which it narrows the old one.
 

@@ -4,9 +4,9 @@ from __future__ import annotations
 from ctypes import create_string_buffer
 from typing import Optional
 
-from ._library import ACL_BYTES, HINT_BYTES, SUBJECT_BYTES, library
+from ._library import ACL_BYTES, HINT_BYTES, NO_GROUP, SUBJECT_BYTES, library
 from ._values import Bytes, lent, number
-from .answers import Subject, Trimmed, Verdict
+from .answers import Subject, Trimmed, Verdict, VerdictPlace
 from .words import STEPS
 
 
@@ -22,6 +22,15 @@ def attest(bundle: Bytes, acl: Bytes) -> Verdict:
     bundle, acl = lent(bundle, 'bundle'), lent(acl, 'acl')
     v = library().desk(bundle, len(bundle), acl, len(acl))
     return Verdict(v.refusal, _step(v.step), v.approach, v.protection, v.recoverable)
+
+
+def locate_verdict(bundle: Bytes, acl: Bytes) -> VerdictPlace:
+    """Where the verdict of `attest` on the same bytes comes from."""
+    bundle, acl = lent(bundle, 'bundle'), lent(acl, 'acl')
+    p = library().locate_verdict(bundle, len(bundle), acl, len(acl))
+    numbers = [n or None for n in (p.input, p.part)]
+    indices = [None if n == NO_GROUP else n for n in (p.record, p.group, p.action, p.permission)]
+    return VerdictPlace(p.refusal, _step(p.step), *numbers, indices[0], p.what or None, p.number or None, *indices[1:])
 
 
 def trim(bundle: Bytes, acl: Bytes) -> Trimmed:

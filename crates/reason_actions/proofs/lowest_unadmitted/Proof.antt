@@ -1,4 +1,4 @@
-use Prim.Native.Nat.{_+_, _≤_}
+use Prim.Native.Nat.{_+_}
 use mathlib.Core.Path.{_≡_, refl}
 use Rattle.bundle_facts.specs.Found.{policyAs}
 use Rattle.reason_actions.specs.Spots.{unadmittedFrom}
