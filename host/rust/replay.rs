@@ -8,7 +8,7 @@ mod akubolinfe;
 
 use akubolinfe::{assess, write_subject, Ledger, Reply, Verdict};
 #[cfg(not(ordinary))]
-use akubolinfe::{by_number, by_value, in_place, prepare, read_listing, trim, write_listing, Cabinet, Certificate, Form, NotListed, NotTrimmed, Ran, Slot};
+use akubolinfe::{by_number, by_value, in_place, locate_verdict, prepare, read_listing, trim, write_listing, Cabinet, Certificate, Form, NotListed, NotTrimmed, Ran, Slot};
 use std::io::{Read, Write};
 
 // The rest of a script.
@@ -220,6 +220,14 @@ impl Run {
     }
 }
 
+// Where a verdict comes from: every number, `-` where nothing is named.
+#[cfg(not(ordinary))]
+fn place(s: &mut Script) -> Option<String> {
+    let p = locate_verdict(&s.run()?, &s.run()?);
+    let numbers = [p.refusal, p.step, p.input, p.part, p.record, p.what, p.number, p.group, p.action, p.permission];
+    Some(numbers.iter().fold("place".to_string(), |words, &n| words + " " + &if n == u32::MAX { "-".to_string() } else { n.to_string() }))
+}
+
 #[cfg(not(ordinary))]
 fn batch(s: &mut Script, ledger: &mut Ledger, form: Option<Form>) -> Option<String> {
     let (km0, acl, row, requests, mut buffer) = (s.run()?, s.run()?, row(&s.run()?)?, s.run()?, s.run()?);
@@ -355,6 +363,8 @@ fn answer(letter: u8, s: &mut Script, state: &mut State) -> Option<String> {
         b'L' | b'C' | b'R' | b'N' | b'X' => asked(letter, s, &mut state.ledger)?,
         b'D' => return Some(verdict(assess(&s.run()?, &s.run()?))),
         b'S' => return subject(s),
+        #[cfg(not(ordinary))]
+        b'J' => return place(s),
         #[cfg(not(ordinary))]
         b'W' => return listing(s, write_listing),
         #[cfg(not(ordinary))]
