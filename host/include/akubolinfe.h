@@ -136,6 +136,24 @@ AKUBOLINFE_MUST_USE uint32_t akubolinfe_abi(void);
 /* No group is named. */
 #define AKUBOLINFE_NO_GROUP UINT32_MAX
 
+/* No record, group, action or permission is named. */
+#define AKUBOLINFE_NOT_NAMED UINT32_MAX
+
+/* Inputs, by their numbers, of which the desk has two. */
+#define AKUBOLINFE_IN_ACL 2
+#define AKUBOLINFE_IN_BUNDLE 6
+
+/* Parts of an input. */
+#define AKUBOLINFE_PART_LENGTH 1 /* its length */
+#define AKUBOLINFE_PART_RECORD 2 /* a record */
+#define AKUBOLINFE_PART_END 3    /* its end: a record is missing */
+
+/* What fails a step of the bundle. */
+#define AKUBOLINFE_SIGNATURE_ABSENT 1 /* a signature is absent */
+#define AKUBOLINFE_SIGNATURE_BAD 2    /* a signature is not good */
+#define AKUBOLINFE_FIELD_ABSENT 3     /* a field is absent */
+#define AKUBOLINFE_FIELD_DIFFERS 4    /* a field is not equal to what it must equal; hkm is not listed */
+
 /* What was used of one key: a count for each group, the named counters, the load time and the last time, in seconds. Keep it from one
  * call to the next, and store it if it has to outlive the program. A ledger that was kept with 16 counts and 96 counters (464 bytes) is
  * carried over into a fresh one: its counts and its counters, each to the front of theirs, and both times. */
@@ -229,6 +247,26 @@ typedef struct {
     uint32_t protection;
     bool recoverable;
 } akubolinfe_verdict;
+
+/* Where a verdict that is no acceptance comes from. `refusal` and `step` are the verdict's; on acceptance nothing is named. A refusal names
+ * the input (AKUBOLINFE_IN_BUNDLE or AKUBOLINFE_IN_ACL) and in it the part (AKUBOLINFE_PART_..): for a record its index, for the end the
+ * number of records; 11 names the policy. A step of the bundle names what is wrong (AKUBOLINFE_SIGNATURE_ABSENT to
+ * AKUBOLINFE_FIELD_DIFFERS) and the number of the signature or field. A step of the ACL, and KV3, names the first action that fails it: its
+ * group, its index among the group's actions (a record of kind 15 does not count) and, for ACLV3, the lowest permission that is not
+ * admitted. All indices are from 0. What is not named is 0 (input, part, what, number) or AKUBOLINFE_NOT_NAMED (record, group, action,
+ * permission). */
+typedef struct {
+    uint32_t refusal;
+    uint32_t step;
+    uint32_t input;
+    uint32_t part;
+    uint32_t record;
+    uint32_t what;
+    uint32_t number;
+    uint32_t group;
+    uint32_t action;
+    uint32_t permission;
+} akubolinfe_verdict_place;
 
 /* The answer of the subject writer: the length of the subject. */
 typedef struct {
@@ -434,6 +472,10 @@ AKUBOLINFE_MUST_USE akubolinfe_preparation akubolinfe_prepare(const uint8_t *acl
  * the ACL). */
 AKUBOLINFE_MUST_USE akubolinfe_verdict akubolinfe_desk(const uint8_t *bundle, size_t bundle_length, const uint8_t *acl,
                                                        size_t acl_length);
+
+/* Where the verdict of akubolinfe_desk on the same bytes comes from. */
+AKUBOLINFE_MUST_USE akubolinfe_verdict_place akubolinfe_locate_verdict(const uint8_t *bundle, size_t bundle_length, const uint8_t *acl,
+                                                                       size_t acl_length);
 
 /* Whether a verdict accepts. */
 static inline bool akubolinfe_accepted(akubolinfe_verdict verdict)

@@ -144,6 +144,26 @@ struct RawVerdict {
     recoverable: bool,
 }
 
+/// Where a verdict that is no acceptance comes from. `refusal` and `step` are the verdict's; on acceptance nothing is named. A refusal names the input (2
+/// the ACL, 6 the bundle), the part (1 its length, 2 a record, 3 its end) and the record. A step of the bundle names what is wrong (1 a signature is
+/// absent, 2 it is not good, 3 a field is absent, 4 it is not equal to what it must equal) and the number of the signature or field. A step of the ACL, and
+/// KV3, names the first action that fails it and, for ACLV3, the lowest permission that is not admitted. What is not named is 0 (input, part, what, number)
+/// or `u32::MAX` (record, group, action, permission).
+#[repr(C)]
+#[derive(Clone, Copy, Debug, PartialEq, Eq)]
+pub struct VerdictPlace {
+    pub refusal: u32,
+    pub step: u32,
+    pub input: u32,
+    pub part: u32,
+    pub record: u32,
+    pub what: u32,
+    pub number: u32,
+    pub group: u32,
+    pub action: u32,
+    pub permission: u32,
+}
+
 #[repr(C)]
 struct RawSubjectReply {
     refusal: u32,
@@ -291,6 +311,7 @@ extern "C" {
     ) -> RawRunReply;
     fn akubolinfe_prepare(a: *const u8, an: usize) -> RawPreparation;
     fn akubolinfe_desk(b: *const u8, bn: usize, a: *const u8, an: usize) -> RawVerdict;
+    fn akubolinfe_locate_verdict(b: *const u8, bn: usize, a: *const u8, an: usize) -> VerdictPlace;
     fn akubolinfe_trim(
         b: *const u8, bn: usize, a: *const u8, an: usize, n: *mut u8, nn: usize, h: *mut u8, hn: usize,
     ) -> RawTrimReply;
@@ -501,6 +522,11 @@ pub fn assess(bundle: &[u8], acl: &[u8]) -> Verdict {
         (0, step, _) => Verdict::Failed(STEPS[step as usize - 1]),
         (n, _, _) => Verdict::Refused(n),
     }
+}
+
+/// Where the verdict of `assess` on the same bytes comes from.
+pub fn locate_verdict(bundle: &[u8], acl: &[u8]) -> VerdictPlace {
+    unsafe { akubolinfe_locate_verdict(ptr(bundle), bundle.len(), ptr(acl), acl.len()) }
 }
 
 /// Removes from an ACL what fails at the desk: writes the new ACL to the front of `new` and the hints with which it narrows the old one to

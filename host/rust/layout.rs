@@ -23,6 +23,7 @@ fn main() {
     laid_out!("akubolinfe_run_outcome", RawRunOutcome: refusal count ledger);
     laid_out!("akubolinfe_cabinet_run_outcome", RawCabinetRunOutcome: refusal count cabinet);
     laid_out!("akubolinfe_verdict", RawVerdict: refusal step approach protection recoverable);
+    laid_out!("akubolinfe_verdict_place", VerdictPlace: refusal step input part record what number group action permission);
     laid_out!("akubolinfe_subject_reply", RawSubjectReply: refusal length);
     laid_out!("akubolinfe_text_reply", RawTextReply: refusal line length);
     laid_out!("akubolinfe_trim_reply", RawTrimReply: refusal step acl_length hints_length);

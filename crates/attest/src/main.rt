@@ -1,14 +1,32 @@
-// attest BUNDLE ACL: prints the desk's verdict on two files, one line. What a failing step or a refusal means is said on standard error. Where a file
-// cannot be read, or the arguments are not two, it says so in one line on standard error and prints nothing.
+// attest BUNDLE ACL: prints the desk's verdict on two files, one line. What a failing step or a refusal means, and where it comes from, is said on standard
+// error, in a line each. Where a file cannot be read, or the arguments are not two, it says so in one line on standard error and prints nothing.
 use cli_arguments::Input;
+use desk::Verdict;
 
-// The verdict's line, and its meaning.
+// Where the verdict comes from, if it is no acceptance.
+fn print_place(verdict: Verdict, bundle: &[u8], acl: &[u8]) {
+    match verdict {
+        Verdict::Accepted(_) => {}
+        Verdict::Failed(step) => {
+            cli_reasons::print_failure(step, reason_desk::locate_verdict(bundle, acl));
+        }
+        Verdict::Refused(why) => {
+            cli_reasons::print_refusal(
+                refusals::number(why),
+                reason_desk::locate_verdict(bundle, acl),
+            );
+        }
+    }
+}
+
+// The verdict's line, its meaning and its place.
 fn print_verdict(bundle: &[u8], acl: &[u8]) {
     let mut line = [0u8; desk_verdict::LINE];
     let verdict = desk::assess(bundle, acl);
     let n = desk_verdict::verdict_line(verdict, &mut line);
     cli_printing::print(cli_arguments::prefix(&line, n));
     cli_messages::explain(verdict, bundle);
+    print_place(verdict, bundle, acl);
 }
 
 // The bundle with the ACL that the second argument names. No file that fits its greatest length fills the buffer, so that a longer one is cut and
