@@ -1,5 +1,5 @@
 /* Akubolinfe for C and C++: a permission gate for keys kept in nShield modules (for one key, and for a cabinet of eight), the
- * attestation desk, the trimming tool, the subject writer, and files as text. x86-64 Linux.
+ * attestation desk, the trimming tool, the subject writer, files as text, and where a fault is. x86-64 Linux.
  *
  * Answers
  *   Every answer begins with `refusal`: 0 if the call did what it was asked, else the number of the refusal (AKUBOLINFE_MALFORMED and
@@ -290,6 +290,45 @@ typedef struct {
     uint64_t hints_length;
 } akubolinfe_trim_reply;
 
+/* Nothing is named: a record, a group or an item in the answers below. */
+#define AKUBOLINFE_UNNAMED UINT32_MAX
+
+/* Where the first fault of a file is. `refusal` is the one that the gate, the desk or a run gives for the file, 0 if it has no fault.
+ * `record` is the index of the record, from 0, or the number of records if the end is at fault. */
+#define AKUBOLINFE_PART_LENGTH 1 /* the length */
+#define AKUBOLINFE_PART_RECORD 2 /* a record */
+#define AKUBOLINFE_PART_END 3    /* the end: a record is missing */
+typedef struct {
+    uint32_t refusal;
+    uint32_t part;
+    uint32_t record;
+} akubolinfe_file_place;
+
+/* Where the first fault of a call is. `refusal` is the one of the call, 0 if it would be permitted. Refusals 1, 2, 3 and 12 name the
+ * input, with its part and record as in akubolinfe_file_place. 6 and 7 name the group as the call does, 7 also what is spent. 8 names
+ * the first new group that is not shown to be narrower, or the number of new groups if a hint is left over, and the reason. `item` is
+ * the index of a limit or an action, from 0. What is not named is 0, or AKUBOLINFE_UNNAMED for record, group and item. */
+#define AKUBOLINFE_INPUT_KM0 1     /* KM0 */
+#define AKUBOLINFE_INPUT_ACL 2     /* the ACL */
+#define AKUBOLINFE_INPUT_REQUEST 3 /* the request; record 0 if a replacement is asked for by another request */
+#define AKUBOLINFE_INPUT_NEW_ACL 4 /* the new ACL */
+#define AKUBOLINFE_INPUT_HINTS 5   /* the hints */
+#define AKUBOLINFE_REASON_HINT 1      /* 8: the group's hint is missing or left over, its source does not rise, or it names nothing */
+#define AKUBOLINFE_REASON_CERTIFIER 2 /* 8: the source's certifier or mechanism is not kept */
+#define AKUBOLINFE_REASON_LIMIT 3     /* 8: `item`, a limit of the source, is not answered */
+#define AKUBOLINFE_REASON_ACTION 4    /* 8: `item`, an action of the new group, is of another kind or wider */
+#define AKUBOLINFE_REASON_SPENT 5     /* 7: `item`, a limit of the group, is spent */
+#define AKUBOLINFE_REASON_FULL 6      /* 7: the group's own count is full */
+typedef struct {
+    uint32_t refusal;
+    uint32_t input;
+    uint32_t part;
+    uint32_t record;
+    uint32_t group;
+    uint32_t reason;
+    uint32_t item;
+} akubolinfe_call_place;
+
 /* A ledger from which nothing was used, all zero. Load it before the first request. */
 AKUBOLINFE_MUST_USE akubolinfe_ledger akubolinfe_fresh(void);
 
@@ -517,6 +556,25 @@ AKUBOLINFE_MUST_USE akubolinfe_text_reply akubolinfe_write_text(uint32_t kind, c
  * and the number of the first bad line, then with 9. */
 AKUBOLINFE_MUST_USE akubolinfe_text_reply akubolinfe_read_text(uint32_t kind, const uint8_t *text, size_t text_length,
                                                                uint8_t *buffer, size_t buffer_length);
+
+/* Says where the first fault of a file is. `kind` is AKUBOLINFE_TEXT_ACL or another of the five kinds; an unknown kind is refused with 10. */
+AKUBOLINFE_MUST_USE akubolinfe_file_place akubolinfe_locate_file(uint32_t kind, const uint8_t *file, size_t file_length);
+
+/* Say where the first fault of a call is: of akubolinfe_request_in_place, akubolinfe_narrow_in_place and akubolinfe_expand_in_place with
+ * the same arguments. Nothing is charged or changed. */
+AKUBOLINFE_MUST_USE akubolinfe_call_place akubolinfe_locate_request(akubolinfe_ledger ledger, const uint8_t *km0, size_t km0_length,
+                                                                    const uint8_t *acl, size_t acl_length, const uint8_t *request,
+                                                                    size_t request_length);
+
+AKUBOLINFE_MUST_USE akubolinfe_call_place akubolinfe_locate_narrow(akubolinfe_ledger ledger, const uint8_t *km0, size_t km0_length,
+                                                                   const uint8_t *acl, size_t acl_length, const uint8_t *request,
+                                                                   size_t request_length, const uint8_t *new_acl,
+                                                                   size_t new_acl_length, const uint8_t *hints, size_t hints_length);
+
+AKUBOLINFE_MUST_USE akubolinfe_call_place akubolinfe_locate_expand(akubolinfe_ledger ledger, const uint8_t *km0, size_t km0_length,
+                                                                   const uint8_t *acl, size_t acl_length, const uint8_t *request,
+                                                                   size_t request_length, const uint8_t *new_acl,
+                                                                   size_t new_acl_length);
 
 #ifdef __cplusplus
 }

@@ -86,6 +86,34 @@ pub enum NotListed {
     Refused(u32),
 }
 
+/// Nothing is named: a record, a group or an item in the answers of `locate`.
+pub const UNNAMED: u32 = u32::MAX;
+
+/// Where the first fault of a file is: part 1 is the length, 2 a record, 3 the end. `record` is the index of the record, from 0, or the
+/// number of records. Refusal 0: the file has no fault.
+#[must_use]
+#[repr(C)]
+#[derive(Clone, Copy, PartialEq, Eq, Debug)]
+pub struct FilePlace {
+    pub refusal: u32,
+    pub part: u32,
+    pub record: u32,
+}
+
+/// Where the first fault of a call is, by the numbers of the header. Refusal 0: the call would be permitted.
+#[must_use]
+#[repr(C)]
+#[derive(Clone, Copy, PartialEq, Eq, Debug)]
+pub struct CallPlace {
+    pub refusal: u32,
+    pub input: u32,
+    pub part: u32,
+    pub record: u32,
+    pub group: u32,
+    pub reason: u32,
+    pub item: u32,
+}
+
 /// Why nothing was trimmed: a step before the ACL failed, or a refusal with its number.
 #[derive(Clone, Copy, PartialEq, Eq, Debug)]
 pub enum NotTrimmed {
@@ -320,6 +348,17 @@ extern "C" {
     fn akubolinfe_read_listing(t: *const u8, tn: usize, b: *mut u8, bn: usize) -> RawTextReply;
     fn akubolinfe_write_text(kind: u32, s: *const u8, sn: usize, b: *mut u8, bn: usize) -> RawTextReply;
     fn akubolinfe_read_text(kind: u32, t: *const u8, tn: usize, b: *mut u8, bn: usize) -> RawTextReply;
+    fn akubolinfe_locate_file(kind: u32, s: *const u8, sn: usize) -> FilePlace;
+    fn akubolinfe_locate_request(
+        l: Ledger, k: *const u8, kn: usize, a: *const u8, an: usize, r: *const u8, rn: usize,
+    ) -> CallPlace;
+    fn akubolinfe_locate_narrow(
+        l: Ledger, k: *const u8, kn: usize, a: *const u8, an: usize, r: *const u8, rn: usize, n: *const u8, nn: usize,
+        h: *const u8, hn: usize,
+    ) -> CallPlace;
+    fn akubolinfe_locate_expand(
+        l: Ledger, k: *const u8, kn: usize, a: *const u8, an: usize, r: *const u8, rn: usize, n: *const u8, nn: usize,
+    ) -> CallPlace;
 }
 
 // The pointer of a slice; NULL where it is empty, as C programs pass it.
@@ -605,7 +644,41 @@ pub fn read_text(kind: Kind, text: &[u8], buffer: &mut [u8]) -> Result<u64, NotL
     by_number::read_text(kind as u32, text, buffer)
 }
 
-/// The functions for texts with the number of a kind, as in the header. An unknown kind is refused with 10 before anything else is checked.
+/// Where a fault is. Nothing is charged or changed.
+pub mod locate {
+    use super::*;
+
+    /// Where the first fault of a file is.
+    pub fn file(kind: Kind, file: &[u8]) -> FilePlace {
+        by_number::locate_file(kind as u32, file)
+    }
+
+    /// Where the first fault of a request is.
+    pub fn request(ledger: &Ledger, km0: &[u8], acl: &[u8], req: &[u8]) -> CallPlace {
+        unsafe { akubolinfe_locate_request(ledger.clone(), ptr(km0), km0.len(), ptr(acl), acl.len(), ptr(req), req.len()) }
+    }
+
+    /// Where the first fault of a narrowing is.
+    pub fn narrow(ledger: &Ledger, km0: &[u8], acl: &[u8], req: &[u8], new: &[u8], hints: &[u8]) -> CallPlace {
+        unsafe {
+            akubolinfe_locate_narrow(
+                ledger.clone(), ptr(km0), km0.len(), ptr(acl), acl.len(), ptr(req), req.len(), ptr(new), new.len(), ptr(hints),
+                hints.len(),
+            )
+        }
+    }
+
+    /// Where the first fault of an expansion is.
+    pub fn expand(ledger: &Ledger, km0: &[u8], acl: &[u8], req: &[u8], new: &[u8]) -> CallPlace {
+        unsafe {
+            akubolinfe_locate_expand(
+                ledger.clone(), ptr(km0), km0.len(), ptr(acl), acl.len(), ptr(req), req.len(), ptr(new), new.len(),
+            )
+        }
+    }
+}
+
+/// The functions for files with the number of a kind, as in the header. An unknown kind is refused with 10 before anything else is checked.
 pub mod by_number {
     use super::*;
 
@@ -615,6 +688,10 @@ pub mod by_number {
 
     pub fn read_text(kind: u32, text: &[u8], buffer: &mut [u8]) -> Result<u64, NotListed> {
         listed(unsafe { akubolinfe_read_text(kind, ptr(text), text.len(), ptr_mut(buffer), buffer.len()) })
+    }
+
+    pub fn locate_file(kind: u32, file: &[u8]) -> FilePlace {
+        unsafe { akubolinfe_locate_file(kind, ptr(file), file.len()) }
     }
 }
 

@@ -27,4 +27,6 @@ fn main() {
     laid_out!("akubolinfe_subject_reply", RawSubjectReply: refusal length);
     laid_out!("akubolinfe_text_reply", RawTextReply: refusal line length);
     laid_out!("akubolinfe_trim_reply", RawTrimReply: refusal step acl_length hints_length);
+    laid_out!("akubolinfe_file_place", FilePlace: refusal part record);
+    laid_out!("akubolinfe_call_place", CallPlace: refusal input part record group reason item);
 }
