@@ -7,15 +7,11 @@ ghost use Rattle.rules.specs.Trim.{trimReply, trimAclBuffer, trimHintBuffer};
 ghost use Rattle.text_rules.specs.Listing.{writeListing, readListingInto};
 ghost use Rattle.desk.specs.Replies as replies;
 ghost use Rattle.c_answers.specs.Surface.{hostVerdictAs, hostVerdictFor, hostSubjectAs, hostSubjectFor, hostTextAs, hostTextFor, hostTrimAs, hostTrimFor};
-ghost use Rattle.text_acl.specs.Answers.{IsListed};
-ghost use Rattle.c_desk.specs.TextKinds.{textKind, kindAs, writtenFor, readFor};
+ghost use Rattle.text_kinds.specs.Kinds.{textKind, writtenFor, readFor};
 use c_answers::HostSubject;
 use c_answers::HostText;
 use c_answers::HostTrim;
 use c_answers::HostVerdict;
-use refusals::Refusal;
-use text_acl::Reply;
-use text_files::Kind;
 
 // The number of the binary interface, AKUBOLINFE_ABI of the header.
 #[no_mangle]
@@ -80,53 +76,13 @@ pub extern "C" fn akubolinfe_read_listing(text: &[u8], buffer: &mut [u8]) -> Hos
     c_answers::host_text(text_acl::read_listing(text, buffer))
 }
 
-// The kind of file that a number names, if it names one.
-pub enum KindOf {
-    Known(Kind),
-    Unknown,
-}
-
-// The kind of file of a number in the header.
-fn kind_of(number: u32) -> KindOf
-    ensures { λ r. ⌜ kindAs r ≡ textKind number ⌝ }
-{
-    match number {
-        0 => KindOf::Known(Kind::Acl),
-        1 => KindOf::Known(Kind::Request),
-        2 => KindOf::Known(Kind::Requests),
-        3 => KindOf::Known(Kind::Bundle),
-        4 => KindOf::Known(Kind::Hints),
-        _ => KindOf::Unknown,
-    }
-}
-
-// A file's text, at the front of the buffer, if its kind is known.
-fn write_known(kind: KindOf, file: &[u8], buffer: &mut [u8]) -> Reply
-    ensures { λ r. ⌜ IsListed (writtenFor (kindAs kind) (now (file .entry)) (now (buffer .entry))) r (now (buffer .exit)) ⌝ }
-{
-    match kind {
-        KindOf::Known(k) => text_files::write(k, file, buffer),
-        KindOf::Unknown => Reply::Refused(Refusal::OutOfRange),
-    }
-}
-
-// A text's file, at the front of the buffer, if its kind is known.
-fn read_known(kind: KindOf, text: &[u8], buffer: &mut [u8]) -> Reply
-    ensures { λ r. ⌜ IsListed (readFor (kindAs kind) (now (text .entry)) (now (buffer .entry))) r (now (buffer .exit)) ⌝ }
-{
-    match kind {
-        KindOf::Known(k) => text_files::read(k, text, buffer),
-        KindOf::Unknown => Reply::Refused(Refusal::OutOfRange),
-    }
-}
-
 // The text of a file of any kind, at the front of the buffer.
 #[no_mangle]
 pub extern "C" fn akubolinfe_write_text(kind: u32, file: &[u8], buffer: &mut [u8]) -> HostText
     ensures reply { λ r. ⌜ hostTextAs r ≡ hostTextFor (writtenFor (textKind kind) (now (file .entry)) (now (buffer .entry)) .reply) ⌝ }
     ensures bytes { λ _. ⌜ now (buffer .exit) ≡ writtenFor (textKind kind) (now (file .entry)) (now (buffer .entry)) .buffer ⌝ }
 {
-    c_answers::host_text(write_known(kind_of(kind), file, buffer))
+    c_answers::host_text(text_kinds::write(kind as u64, file, buffer))
 }
 
 // The file of a text of any kind, at the front of the buffer.
@@ -135,5 +91,5 @@ pub extern "C" fn akubolinfe_read_text(kind: u32, text: &[u8], buffer: &mut [u8]
     ensures reply { λ r. ⌜ hostTextAs r ≡ hostTextFor (readFor (textKind kind) (now (text .entry)) (now (buffer .entry)) .reply) ⌝ }
     ensures bytes { λ _. ⌜ now (buffer .exit) ≡ readFor (textKind kind) (now (text .entry)) (now (buffer .entry)) .buffer ⌝ }
 {
-    c_answers::host_text(read_known(kind_of(kind), text, buffer))
+    c_answers::host_text(text_kinds::read(kind as u64, text, buffer))
 }

@@ -1,4 +1,4 @@
-// list [KIND] FILE: prints the text of a file (docs/LISTING.md). A file that is not valid gives `FILE: refuse N: WORDS` on standard error, and prints
+// list [KIND] FILE: prints the text of a file (docs/TEXT.md). A file that is not valid gives `FILE: refuse N: WORDS` on standard error, and prints
 // nothing.
 use cli_arguments::Input;
 use cli_kinds::Given;

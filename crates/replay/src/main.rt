@@ -159,7 +159,7 @@ fn answered(
     let n = replay_script::within(c, call.c);
     let o = replay_script::within(d, call.d);
     let p = replay_script::within(e, call.e);
-    if (letter == b'S') | (letter == b'W') | (letter == b'T') {
+    if replay_files::is_buffers(letter) {
         replay_files::buffer_call(k, letter, call.first, call.second, given, &mut b[0..m]);
         return s;
     }

@@ -1,4 +1,4 @@
-// The calls of a replay script (docs/REPLAY.md) that know of no ledger: the desk, the subject writer, the listings and the trimming tool. Each makes the
+// The calls of a replay script (docs/REPLAY.md) that know of no ledger: the desk, the subject writer, the texts and the trimming tool. Each makes the
 // call and prints its line; what writes into lent buffers leaves them as the definition has it. No contract can say what is printed.
 ghost use mathlib.Core.Path.{_≡_};
 ghost use Rattle.rules.specs.Trim.{trimAclBuffer, trimHintBuffer};
@@ -39,7 +39,12 @@ fn print_listed(reply: text_acl::Reply) {
     }
 }
 
-// The answer to a letter: a subject, or a listing written or read.
+// Whether the call of a letter writes into one lent buffer.
+pub fn is_buffers(letter: u8) -> bool {
+    (letter == b'S') | (letter == b'W') | (letter == b'T') | (letter == b'V') | (letter == b'U')
+}
+
+// The answer to a letter: a subject, a listing or a text, written or read.
 fn answer(letter: u8, first: u64, second: u64, given: &[u8], buffer: &mut [u8])
     ensures { λ _. ⌜ now (buffer .exit) ≡ bufferAfter letter first second (now (given .entry)) (now (buffer .entry)) ⌝ }
 {
@@ -51,7 +56,15 @@ fn answer(letter: u8, first: u64, second: u64, given: &[u8], buffer: &mut [u8])
         print_listed(text_acl::write_listing(given, buffer));
         return;
     }
-    print_listed(text_acl::read_listing(given, buffer));
+    if letter == b'T' {
+        print_listed(text_acl::read_listing(given, buffer));
+        return;
+    }
+    if letter == b'V' {
+        print_listed(text_kinds::write(first, given, buffer));
+        return;
+    }
+    print_listed(text_kinds::read(first, given, buffer));
 }
 
 // A call that writes into a lent buffer, and the whole buffer after it.

@@ -66,7 +66,7 @@ pub fn prefix(s: &[u8], n: u64) -> &[u8]
 // How many numbers a call takes.
 fn numbers_of(letter: u8) -> u64 {
     match letter {
-        b'L' | b'C' | b'c' | b'r' | b'n' | b'x' | b'b' | b'q' => 1,
+        b'L' | b'C' | b'V' | b'U' | b'c' | b'r' | b'n' | b'x' | b'b' | b'q' => 1,
         b'S' | b'l' => 2,
         _ => 0,
     }
@@ -76,7 +76,7 @@ fn numbers_of(letter: u8) -> u64 {
 fn runs_of(letter: u8) -> u64 {
     match letter {
         b'P' => 1,
-        b'D' | b'S' | b'W' | b'T' => 2,
+        b'D' | b'S' | b'W' | b'T' | b'V' | b'U' => 2,
         b'R' | b'r' => 3,
         b'X' | b'x' | b'M' => 4,
         b'N' | b'n' | b'B' | b'Q' | b'b' | b'q' => 5,

@@ -16,9 +16,12 @@ use acl_reader::State;
 use files::Checked;
 use refusals::Refusal;
 
-// Bytes of the longest listing: of each group its line, four limits and eight actions, each with a blob file (`listingMax`, crates/text_rules/specs/Words.antt).
+// Bytes of the longest line of an ACL, which is a MakeBlob action's (`lineMax`, crates/text_rules/specs/Words.antt).
+const LONGEST_LINE: usize = 217;
+
+// Bytes of the longest listing: of each group its line, four limits and eight actions, each with a blob file (`listingMax`, in the same file).
 pub const LONGEST: usize = record_sizes::GROUPS
-    * (73 + record_sizes::LIMITS * 34 + record_sizes::ACTIONS * (217 + 78));
+    * (73 + record_sizes::LIMITS * 34 + record_sizes::ACTIONS * (LONGEST_LINE + 78));
 
 // What the entry points answer: the result's length, a refusal, or the number of the first bad line of a listing, from 1.
 pub enum Reply {
@@ -135,8 +138,8 @@ fn is_good(found: Checked, rec: [u8; record_sizes::RECORD], line: &[u8]) -> bool
     }
 }
 
-// The first pass: each line is decoded once, and its record read where the one before it left off. Where the text ends and a blob file record is due, the
-// next line is the bad one.
+// The first pass: each line is decoded once, and its record read in the state after the one before it. A line that does not end among the bytes of the
+// longest line is bad, whatever follows. Where the text ends and a blob file record is missing, the next line is the bad one.
 fn judge_lines(text: &[u8]) -> Lines
     ensures { λ r. ⌜ r ≡ linesFound aclKind (now (text .entry)) ⌝ }
 {
@@ -144,7 +147,10 @@ fn judge_lines(text: &[u8]) -> Lines
     let mut at = 0;
     let mut line = 1;
     while at < text.len() {
-        let end = text_lexer::line_end(text, at);
+        let end = text_lexer::line_within(LONGEST_LINE, text, at);
+        if text[end - 1] != 10 {
+            return Lines::Bad(line);
+        }
         let rec = decoded_record(&text[at..end]);
         let read = place.read(&rec);
         let found = read.found;

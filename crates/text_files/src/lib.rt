@@ -31,6 +31,9 @@ pub enum Kind {
     Hints,
 }
 
+// Bytes of the longest line, which is a delegation's (`delegationLineMax`, crates/text_rules/specs/OtherWords.antt).
+const LONGEST_LINE: usize = 276;
+
 // The length of a record's line.
 fn line_length(rec: &[u8]) -> usize
     requires { ⌜ length (now rec) ≡ recordBytes ⌝ }
@@ -184,8 +187,8 @@ fn is_good(found: Checked, rec: [u8; record_sizes::RECORD], line: &[u8]) -> bool
     }
 }
 
-// The first pass: each line is decoded once, and its record read in the state after the one before it. Where the text ends and a record is missing, the
-// next line is the bad one.
+// The first pass: each line is decoded once, and its record read in the state after the one before it. A line that does not end among the bytes of the
+// longest line is bad, whatever follows. Where the text ends and a record is missing, the next line is the bad one.
 fn judge_lines(start: State, text: &[u8]) -> Lines
     ensures { λ r. ⌜ r ≡ linesFound (kindFrom (stateAs start)) (now (text .entry)) ⌝ }
 {
@@ -193,7 +196,10 @@ fn judge_lines(start: State, text: &[u8]) -> Lines
     let mut at = 0;
     let mut line = 1;
     while at < text.len() {
-        let end = text_lexer::line_end(text, at);
+        let end = text_lexer::line_within(LONGEST_LINE, text, at);
+        if text[end - 1] != 10 {
+            return Lines::Bad(line);
+        }
         let rec = record_of(&text[at..end]);
         let read = text_states::next(state, &rec);
         let found = read.found;

@@ -4,14 +4,14 @@ use native.Mathlib.Omega.{arith}
 use native.Mathlib.Nat.{add-zero, pow-suc, div-add-mod, add-mod, mod-add-mod, mod-mod, add-mul-mod-self-left}
 use mathlib.Core.Path.{_≡_, refl, sym, _∙_, ap}
 use mathlib.Core.List.{[], _∷_, _++_}
-use mathlib.Core.Bool.{Bool, true, false, _&&_}
+use mathlib.Core.Bool.{Bool, true, false, not, _&&_, _||_, false≢true}
 use lib.ListN.{length, take, drop, getD, set, length-take, length-drop, drop-of-length-le}
-use lib.Seq.{length-take-le, drop-drop, getD-take, getD-drop}
+use lib.Seq.{take-all, length-take-le, drop-drop, getD-take, getD-drop}
 use lib.Pow.{pow-add}
 use lib.Dec.{eqb, leb}
-use borrow.Author.Tests.{eq-eqb, ne-eqb, le-leb, lt-leb}
+use borrow.Author.Tests.{eqb-false, eq-eqb, ne-eqb, le-leb, lt-leb, not-true, not-false}
 use Rattle.rules.specs.Sizes.{hashBytes}
-use Rattle.rules.specs.Basics.{Bytes}
+use Rattle.rules.specs.Basics.{Bytes, same}
 use Rattle.rules.specs.Layout.{between}
 use Rattle.rules.proofs.Rows.{lent-rest}
 use Rattle.text_rules.specs.Words.{newline}
@@ -24,7 +24,7 @@ use Rattle.text_bytes.specs.Putting.{Put}
 use Rattle.text_bytes.specs.Names.{wordsOf, NameEnds}
 use Rattle.text_bytes.proofs.Laws.{put-byte, Filled, filled-none, filled-room, filled-piece, filled-all, left, left-next, left-none, GoesOn, goes-next, piece-ends}
 use Rattle.text_lexer.specs.declared.Cursor.{Cursor}
-use Rattle.text_lexer.specs.Telling.{LineEnds, NumberAt, NameFound, oneHere, pastOne, placeIn, pastName}
+use Rattle.text_lexer.specs.Telling.{newlineIn4, newlineIn16, Skipped, LineEnds, LineWithin, NumberAt, NameFound, oneHere, pastOne, placeIn, pastName}
 use Rattle.text_lexer.specs.Taking.{Advanced, Field}
 
 pub rest-inside : (t : Bytes) (n : ℕ) → take (length t - n) (drop n t) ≡ drop n t
@@ -34,10 +34,10 @@ pub rest-past : (t : Bytes) (n : ℕ) → length t < n → take (length t - leng
 rest-past t n h = lent-rest t (length t) ∙ drop-of-length-le t {i = length t} (omega arith) ∙ sym (drop-of-length-le t {i = n} (omega arith))
 
 -- A line's end: from `at` to i no byte is the newline.
-line-ends : (t : Bytes) (at end : ℕ) → at < length t → at < end → end ≤ length t → end ≡ at + lineLength (left t at) → LineEnds t at end
+pub line-ends : (t : Bytes) (at end : ℕ) → at < length t → at < end → end ≤ length t → end ≡ at + lineLength (left t at) → LineEnds t at end
 unfolding left
 line-ends t at end h p l e =
-    record { past = p; inside = l; lines = piece-ends linesOf lineLength t at end (lines-next (drop at t) (omega (arith, length-drop at t))) e }
+    record { past = p; inside = l; first = e; lines = piece-ends linesOf lineLength t at end (lines-next (drop at t) (omega (arith, length-drop at t))) e }
 
 module _ (t : Bytes) (at i : ℕ) (l : at ≤ i) (p : GoesOn lineLength t at i) where
   pub line-next : i < length t → (getD t i 0 ≡ 10 → ⊥) → GoesOn lineLength t at (i + 1)
@@ -58,34 +58,106 @@ module _ (t : Bytes) (at i : ℕ) (l : at ≤ i) (p : GoesOn lineLength t at i) 
       let q = p .rest in
       line-ends t at i h (omega arith) k (omega arith)
 
--- A word: its first i bytes stand there.
-pub record Matched (w t : Bytes) (i : ℕ) : Type 0 where
-  pub rest : stands (left w i) (left t i) ≡ stands w t
+-- blocks without a newline
+or-false : (a b : Bool) → (a || b) ≡ false → (a ≡ false) × (b ≡ false)
+or-false true b e = absurd (false≢true (sym e))
+or-false false b e = (refl, e)
 
-pub matched-start : (w t : Bytes) → Matched w t 0
-unfolding left
-matched-start w t = record { rest = refl }
+pub sixteen-are : (t : Bytes) (i : ℕ) (a b c d : Bool) → a ≡ newlineIn4 t i → b ≡ newlineIn4 t (i + 4) → c ≡ newlineIn4 t (i + 8) → d ≡ newlineIn4 t (i + 12) → (((a || b) || c) || d) ≡ newlineIn16 t i
+unfolding newlineIn16
+sixteen-are t i a b c d ea eb ec ed = rw (ea, eb, ec, ed)
 
-module _ (w t : Bytes) (i : ℕ) (p : Matched w t i) where
-  both : i < length w → i < length t → stands w t ≡ (eqb (getD w i 0) (getD t i 0) && stands (left w (i + 1)) (left t (i + 1)))
-  unfolding stands
-  both h k = sym (p .rest) ∙ rw (left-next w i h, left-next t i k)
+module _ (t : Bytes) (at : ℕ) where
+  byte-passed : (i j : ℕ) → at ≤ i → j < length t → j ≡ i → eqb (getD t j 0) newline ≡ false → GoesOn lineLength t at i → GoesOn lineLength t at (j + 1)
+  byte-passed i j l h e d p = rw e (line-next t at i l p (omega arith) (eqb-false (getD t i 0) newline (rw e at d)))
 
-  pub matched-next : i < length w → i < length t → getD w i 0 ≡ getD t i 0 → Matched w t (i + 1)
-  matched-next h k e = record { rest = sym (both h k ∙ rw (eq-eqb (getD w i 0) (getD t i 0) e)) }
+  four-passed : (i j : ℕ) → at ≤ i → j + 4 ≤ length t → j ≡ i → newlineIn4 t j ≡ false → GoesOn lineLength t at i → GoesOn lineLength t at (j + 4)
+  unfolding newlineIn4
+  four-passed i j l h e d p =
+      let x = or-false _ _ d in
+      let y = or-false _ _ (x .0) in
+      let z = or-false _ _ (y .0) in
+      let a = byte-passed i j l (omega arith) e (z .0) p in
+      let b = byte-passed (j + 1) (j + 1) (omega arith) (omega arith) refl (z .1) a in
+      let c = byte-passed (j + 1 + 1) (j + 2) (omega arith) (omega arith) (omega arith) (y .1) b in
+      let f = byte-passed (j + 2 + 1) (j + 3) (omega arith) (omega arith) (omega arith) (x .1) c in
+      let g : j + 3 + 1 ≡ j + 4 = omega arith in
+      rw g at f
 
-  pub matched-differs : i < length w → i < length t → (getD w i 0 ≡ getD t i 0 → ⊥) → false ≡ stands w t
-  matched-differs h k n = sym (both h k ∙ rw (ne-eqb (getD w i 0) (getD t i 0) n))
+  block-passed : (i : ℕ) → at ≤ i → i + 16 ≤ length t → newlineIn16 t i ≡ false → GoesOn lineLength t at i → GoesOn lineLength t at (i + 16)
+  unfolding newlineIn16
+  block-passed i l h d p =
+      let x = or-false _ _ d in
+      let y = or-false _ _ (x .0) in
+      let z = or-false _ _ (y .0) in
+      let a = four-passed i i l (omega arith) refl (z .0) p in
+      let b = four-passed (i + 4) (i + 4) (omega arith) (omega arith) refl (z .1) a in
+      let c = four-passed (i + 4 + 4) (i + 8) (omega arith) (omega arith) (omega arith) (y .1) b in
+      let f = four-passed (i + 8 + 4) (i + 12) (omega arith) (omega arith) (omega arith) (x .1) c in
+      let g : i + 12 + 4 ≡ i + 16 = omega arith in
+      rw g at f
 
-  pub matched-short : i < length w → length t ≤ i → false ≡ stands w t
-  unfolding stands
-  matched-short h k = sym (sym (p .rest) ∙ rw (left-next w i h, left-none t i k))
+  pub skipped-none : at ≤ length t → Skipped t at at
+  skipped-none h = record { past = omega arith; inside = h; rest = refl }
 
-  pub matched-ends : (b : ℕ) → length w ≤ i → b ≡ getD t i 0 → leb b 32 ≡ stands w t
-  unfolding stands left
-  matched-ends b h e =
-      ap (λ (x : ℕ). leb x 32) (e ∙ sym (getD-drop i t 0 0 ∙ ap (λ (k : ℕ). getD t k 0) (add-zero i)))
-      ∙ sym (sym (p .rest) ∙ ap (λ (x : Bytes). stands x (drop i t)) (left-none w i h))
+  pub skipped-goes : (i : ℕ) → Skipped t at i → GoesOn lineLength t at i
+  unfolding left
+  skipped-goes i p = record { rest = p .rest }
+
+  pub skipped-block : (i : ℕ) (b : Bool) → 16 ≤ length t - i → b ≡ newlineIn16 t i → b ≡ false → Skipped t at i → Skipped t at (i + 16)
+  unfolding left
+  skipped-block i b h e n p =
+      let l = p .past in
+      let g = block-passed i l (omega arith) (sym e ∙ n) (skipped-goes i p) in
+      record { past = omega arith; inside = omega arith; rest = g .rest }
+
+-- a line, as far as its first bytes show
+pub within-whole : (most : ℕ) (t : Bytes) (at end : ℕ) → length t - at ≤ most → LineEnds t at end → LineWithin most t at end
+within-whole most t at end h p =
+    let e : take most (drop at t) ≡ drop at t = take-all most (drop at t) (omega (arith, length-drop at t)) in
+    record { past = p .past; inside = p .inside; first = rw e (p .first) }
+
+pub within-part : (most : ℕ) (t : Bytes) (at end : ℕ) → most < length t - at → LineEnds (take (at + most - at) (drop at t)) 0 end → LineWithin most t at (at + end)
+within-part most t at end h p =
+    let m : at + most - at ≡ most = omega arith in
+    let q = rw m at p in
+    let f = q .first in
+    let k = q .past in
+    let i = q .inside in
+    record { past = omega arith; inside = omega (arith, length-take most (drop at t), length-drop at t); first = omega arith }
+
+-- A word stands at the beginning of a text if its bytes do, and the byte after them ends it.
+pub stands-short : (w t : Bytes) → length t < length w → false ≡ stands w t
+unfolding stands
+stands-short [] t h = absurd (omega arith)
+stands-short (x ∷ w) [] h = refl
+stands-short (x ∷ w) (y ∷ t) h = pick (eqb x y) (stands-short w t (omega arith))
+  where
+    pick : (b : Bool) → false ≡ stands w t → false ≡ (b && stands w t)
+    pick true e = e
+    pick false e = refl
+
+stands-is : (w t : Bytes) → length w ≤ length t → stands w t ≡ (same w (take (length w) t) && leb (getD t (length w) 0) 32)
+unfolding stands same
+stands-is [] t h = refl
+stands-is (x ∷ w) [] h = absurd (omega arith)
+stands-is (x ∷ w) (y ∷ t) h = pick (eqb x y) (stands-is w t (omega arith))
+  where
+    pick : (b : Bool) → stands w t ≡ (same w (take (length w) t) && leb (getD t (length w) 0) 32) → (b && stands w t) ≡ ((b && same w (take (length w) t)) && leb (getD t (length w) 0) 32)
+    pick true e = e
+    pick false e = refl
+
+module _ (w t : Bytes) (b : Bool) (h : length w ≤ length t) (e : b ≡ same w (take (length w - 0) (drop 0 t))) where
+  word-same : b ≡ same w (take (length w) t)
+  word-same =
+      let z : length w - 0 ≡ length w = omega arith in
+      rw z at e
+
+  pub stands-differs : not b ≡ true → false ≡ stands w t
+  stands-differs n = sym (stands-is w t h ∙ rw (← word-same, not-true b n))
+
+  pub stands-ends : (c : ℕ) → not b ≡ false → c ≡ getD t (length w) 0 → leb c 32 ≡ stands w t
+  stands-ends c n d = sym (stands-is w t h ∙ rw (← word-same, not-false b n, ← d))
 
 -- Digits: none, or one and those after it.
 digits-none : (l : Bytes) → between 48 57 (getD l 0 0) ≡ false → digitsOf l ≡ []

@@ -2,17 +2,42 @@
 use Prim.Native.Nat.{ℕ, suc, _+_, _-_, _*_, _%_, _^_, _≤_, _<_}
 use mathlib.Core.Path.{_≡_}
 use mathlib.Core.List.{List, [], _∷_}
-use lib.ListN.{length, take, drop, replicate}
+use mathlib.Core.Bool.{Bool, _||_}
+use lib.ListN.{length, take, drop, replicate, getD}
+use lib.Dec.{eqb}
 use Rattle.rules.specs.Sizes.{hashBytes}
 use Rattle.rules.specs.Basics.{if_then_else_, Bytes}
 use Rattle.text_rules.specs.Decoding.{stands, unhex, digitsMax, digitsOf, decimalFrom}
-use Rattle.text_rules.specs.Listing.{linesOf}
+use Rattle.text_rules.specs.Words.{newline}
+use Rattle.text_rules.specs.Listing.{linesOf, lineLength}
+
+-- a byte 10 among the four bytes from an offset on
+unfoldable pub newlineIn4 : Bytes → ℕ → Bool
+newlineIn4 t i =
+    ((eqb (getD t i 0) newline || eqb (getD t (i + 1) 0) newline) || eqb (getD t (i + 2) 0) newline) || eqb (getD t (i + 3) 0) newline
+
+-- a byte 10 among sixteen
+unfoldable pub newlineIn16 : Bytes → ℕ → Bool
+newlineIn16 t i = ((newlineIn4 t i || newlineIn4 t (i + 4)) || newlineIn4 t (i + 8)) || newlineIn4 t (i + 12)
+
+-- from an offset to another no byte is 10: the line goes on there
+pub record Skipped (text : Bytes) (at i : ℕ) : Type 0 where
+  pub past : at ≤ i
+  pub inside : i ≤ length text
+  pub rest : i + lineLength (drop i text) ≡ at + lineLength (drop at text)
 
 -- the line that begins at a place ends at another
 pub record LineEnds (text : Bytes) (at end : ℕ) : Type 0 where
   pub past : at < end
   pub inside : end ≤ length text
+  pub first : end ≡ at + lineLength (drop at text)
   pub lines : linesOf (drop at text) ≡ take (end - at) (drop at text) ∷ linesOf (drop end text)
+
+-- the line that begins at an offset ends at another, as far as its first bytes show
+pub record LineWithin (most : ℕ) (text : Bytes) (at end : ℕ) : Type 0 where
+  pub past : at < end
+  pub inside : end ≤ length text
+  pub first : end ≡ at + lineLength (take most (drop at text))
 
 -- the number that a text begins with, at most so many digits of it: its value modulo 2^64, and how many digits it has
 pub record NumberAt (most : ℕ) (t : Bytes) (value digits : ℕ) : Type 0 where

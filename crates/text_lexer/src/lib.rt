@@ -7,7 +7,7 @@ ghost use Rattle.text_rules.specs.Decoding.{stands, hexValue, unhex, bytesOf};
 ghost use Rattle.text_rules.specs.OtherDecoding.{hashHere, pastHere, bytesHere, timeAfter};
 ghost use Rattle.text_bytes.specs.Putting.{Put};
 ghost use Rattle.text_bytes.specs.Names.{wordsOf};
-ghost use Rattle.text_lexer.specs.Telling.{LineEnds, NumberAt, NameFound, pastWord, pastHash, pastDigits, digitsIn, pastNumber, hashIn, numberIn, pastOne, oneHere, placeIn, pastName};
+ghost use Rattle.text_lexer.specs.Telling.{newlineIn4, newlineIn16, Skipped, LineEnds, LineWithin, NumberAt, NameFound, pastWord, pastHash, pastDigits, digitsIn, pastNumber, hashIn, numberIn, pastOne, oneHere, placeIn, pastName};
 ghost use Rattle.text_lexer.specs.Taking.{one, Advanced, Field};
 
 // A number's value modulo 2^64, and how many digits it has.
@@ -29,12 +29,46 @@ pub struct Cursor {
     pub flags: u32,
 }
 
-// Where the line that begins at a place of a text ends: after its byte 10, or with the text.
+// Whether one of four bytes is a newline. These tests and the next are joined without a jump, so that sixteen bytes cost a few instructions.
+fn newline_in_4(text: &[u8], i: usize) -> bool
+    requires { ⌜ i + 4 ≤ length (now text) ⌝ }
+    ensures { λ r. ⌜ r ≡ newlineIn4 (now (text .entry)) i ⌝ }
+{
+    (text[i] == 10) | (text[i + 1] == 10) | (text[i + 2] == 10) | (text[i + 3] == 10)
+}
+
+// The same of sixteen.
+fn newline_in_16(text: &[u8], i: usize) -> bool
+    requires { ⌜ i + 16 ≤ length (now text) ⌝ }
+    ensures { λ r. ⌜ r ≡ newlineIn16 (now (text .entry)) i ⌝ }
+{
+    newline_in_4(text, i)
+        | newline_in_4(text, i + 4)
+        | newline_in_4(text, i + 8)
+        | newline_in_4(text, i + 12)
+}
+
+// Skips blocks of sixteen bytes without a newline.
+fn skip_blocks(text: &[u8], at: usize) -> usize
+    requires { ⌜ at ≤ length (now text) ⌝ }
+    ensures { λ r. ⌜ Skipped (now (text .entry)) at r ⌝ }
+{
+    let mut i = at;
+    while 16 <= text.len() - i {
+        if newline_in_16(text, i) {
+            return i;
+        }
+        i += 16;
+    }
+    i
+}
+
+// Where the line that begins at an offset ends: after its byte 10, or with the text.
 pub fn line_end(text: &[u8], at: usize) -> usize
     requires { ⌜ at < length (now text) ⌝ }
     ensures { λ r. ⌜ LineEnds (now (text .entry)) at r ⌝ }
 {
-    let mut i = at;
+    let mut i = skip_blocks(text, at);
     while i < text.len() {
         if text[i] == 10 {
             return i + 1;
@@ -42,6 +76,17 @@ pub fn line_end(text: &[u8], at: usize) -> usize
         i += 1;
     }
     i
+}
+
+// The same, as far as the first `most` bytes of the line show: those past them are not read.
+pub fn line_within(most: usize, text: &[u8], at: usize) -> usize
+    requires { ⌜ (0 < most) × (at < length (now text)) ⌝ }
+    ensures { λ r. ⌜ LineWithin most (now (text .entry)) at r ⌝ }
+{
+    if text.len() - at <= most {
+        return line_end(text, at);
+    }
+    at + line_end(&text[at..at + most], 0)
 }
 
 // What is left of a text after n bytes.
@@ -59,17 +104,14 @@ pub fn past(text: &[u8], n: usize) -> &[u8]
 pub fn word_stands(word: &[u8], text: &[u8]) -> bool
     ensures { λ r. ⌜ r ≡ stands (now (word .entry)) (now (text .entry)) ⌝ }
 {
-    let mut i = 0;
-    while i < word.len() {
-        if text.len() <= i {
-            return false;
-        }
-        if word[i] != text[i] {
-            return false;
-        }
-        i += 1;
+    let n = word.len();
+    if text.len() < n {
+        return false;
     }
-    text_bytes::byte_at(text, i) <= 32
+    if !record_fields::same_bytes(word, &text[0..n]) {
+        return false;
+    }
+    text_bytes::byte_at(text, n) <= 32
 }
 
 // A number with one digit more, modulo 2^64: ten times the number is eight times and twice.
@@ -168,7 +210,7 @@ fn hex_value(c: u8) -> u8
     0
 }
 
-// The byte that two digits write.
+// The byte that two digits write; a digit past the end of the text counts as zero.
 fn hex_pair(text: &[u8], i: usize) -> u8
     requires { ⌜ i < 1000 ⌝ }
     ensures { λ r. ⌜ r ≡ hexValue (getD (now (text .entry)) i 0) * 16 + hexValue (getD (now (text .entry)) (i + 1) 0) ⌝ }
@@ -176,8 +218,31 @@ fn hex_pair(text: &[u8], i: usize) -> u8
     hex_value(text_bytes::byte_at(text, i)) * 16 + hex_value(text_bytes::byte_at(text, i + 1))
 }
 
-// The bytes of a hash from its digits, into a record from a place on; answers where they end. All else stays.
-fn put_hash(text: &[u8], at: usize, rec: &mut [u8]) -> usize
+// The same of two digits inside the text.
+fn hex_inside(text: &[u8], i: usize) -> u8
+    requires { ⌜ i + 2 ≤ length (now text) ⌝ }
+    ensures { λ r. ⌜ r ≡ hexValue (getD (now (text .entry)) i 0) * 16 + hexValue (getD (now (text .entry)) (i + 1) 0) ⌝ }
+{
+    hex_value(text[i]) * 16 + hex_value(text[i + 1])
+}
+
+// The bytes of a hash whose forty digits are inside the text, into a record. No turn depends on a test, so that the compiler joins sixteen turns.
+fn put_inside(text: &[u8], at: usize, rec: &mut [u8]) -> usize
+    requires { ⌜ (2 * hashBytes ≤ length (now text)) × (at + hashBytes ≤ length (now rec)) ⌝ }
+    ensures { λ r. ⌜ Put (unhex hashBytes (now (text .entry))) at (now (rec .entry)) (now (rec .exit)) r ⌝ }
+{
+    let mut k = 0;
+    let mut end = at;
+    while k < record_sizes::HASH {
+        rec[end] = hex_inside(text, 2 * k);
+        end += 1;
+        k += 1;
+    }
+    end
+}
+
+// The same of a text that may end before the fortieth digit.
+fn put_short(text: &[u8], at: usize, rec: &mut [u8]) -> usize
     requires { ⌜ at + hashBytes ≤ length (now rec) ⌝ }
     ensures { λ r. ⌜ Put (unhex hashBytes (now (text .entry))) at (now (rec .entry)) (now (rec .exit)) r ⌝ }
 {
@@ -189,6 +254,17 @@ fn put_hash(text: &[u8], at: usize, rec: &mut [u8]) -> usize
         k += 1;
     }
     end
+}
+
+// The bytes of a hash from its digits, into a record from an offset on; answers where they end. The rest is unchanged.
+fn put_hash(text: &[u8], at: usize, rec: &mut [u8]) -> usize
+    requires { ⌜ at + hashBytes ≤ length (now rec) ⌝ }
+    ensures { λ r. ⌜ Put (unhex hashBytes (now (text .entry))) at (now (rec .entry)) (now (rec .exit)) r ⌝ }
+{
+    if 2 * record_sizes::HASH <= text.len() {
+        return put_inside(text, at, rec);
+    }
+    put_short(text, at, rec)
 }
 
 // A word: where it stands, reading goes on past it, and its flag is set.

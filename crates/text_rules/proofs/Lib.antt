@@ -15,6 +15,7 @@ pub mod Readers
 pub mod Bounds
 pub mod OtherLengths
 pub mod Texts
+pub mod Longest
 pub mod Entries
 pub mod Examples
 pub mod TextGuards

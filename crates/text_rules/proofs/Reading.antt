@@ -107,7 +107,7 @@ module _ {S : Type 0} (k : FileKind S) where
       (eqb-true (length file % recordBytes) 0 (and-left (eqb (length file % recordBytes) 0) (leb (length file) (k .most * recordBytes)) f), h .1 .0)
 
   -- A good line is the written form of the record that it tells, which has no fault there.
-  good-line : (s : S) (line : Bytes) → goodIn k s line ≡ true → (k .line (k .told line) ≡ line) × (k .fault s (k .told line) ≡ none)
+  pub good-line : (s : S) (line : Bytes) → goodIn k s line ≡ true → (k .line (k .told line) ≡ line) × (k .fault s (k .told line) ≡ none)
   unfolding goodIn asWritten
   good-line s line e =
       let valid = not (present (k .fault s (k .told line))) in

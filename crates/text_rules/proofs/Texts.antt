@@ -215,7 +215,7 @@ pub hints-text : TextForm hintsKind hintsFileFault
 hints-text = text-form hintsKind hints-lawful _ hints-reader
 
 -- The longest texts. Of a request file:
-request-line : (s : RequestState) (r : Bytes) → IsRecord r → requestStateFault s r ≡ none → length (recordLine r) ≤ requestWeight requestLineMax blobfileLineMax certificateLineMax delegationLineMax r
+pub request-line : (s : RequestState) (r : Bytes) → IsRecord r → requestStateFault s r ≡ none → length (recordLine r) ≤ requestWeight requestLineMax blobfileLineMax certificateLineMax delegationLineMax r
 unfolding requestWeight blobfileRequestRecord
 request-line requestDue r h e =
     let p = unless-passed (requestLaidOut r) malformed e in
@@ -258,7 +258,7 @@ each-bound good most m long file o e =
     let y : total (λ r. m) (records file) ≤ most * m = rw z at w in
     omega arith
 
-alone-length : (r : Bytes) → IsRecord r → standsAlone r ≡ true → length (recordLine r) ≤ aloneLineMax
+pub alone-length : (r : Bytes) → IsRecord r → standsAlone r ≡ true → length (recordLine r) ≤ aloneLineMax
 unfolding standsAlone
 alone-length r h e =
     let l = request-length r h (and-left (requestLaidOut r) (not (announcesBlobfile r)) e) in
@@ -266,7 +266,7 @@ alone-length r h e =
     let g : filed r ≡ 0 = rw f in
     omega arith
 
-hinted-length : (r : Bytes) → IsRecord r → hintRecord r ≡ true → length (recordLine r) ≤ hintLineMax
+pub hinted-length : (r : Bytes) → IsRecord r → hintRecord r ≡ true → length (recordLine r) ≤ hintLineMax
 unfolding hintRecord
 hinted-length r h e = hint-length r h (eqb-true (kind r) 13 (and-left (eqb (kind r) 13) (hintLaidOut r) e))
 
@@ -277,13 +277,13 @@ pub hints-bound : (file : Bytes) → Every Octet file → kindFault hintsKind fi
 hints-bound = each-bound hintRecord hintRecords hintLineMax hinted-length
 
 -- the bound of a bundle: the longest line of each field
-abbrev orderLength : ℕ → ℕ
+abbrev pub orderLength : ℕ → ℕ
 orderLength o =
     if ltb o 2816 then 46 + length (spaced (nameAt (o - 2561) fieldNames))
     else if ltb o 3072 then 15 + length (spaced (nameAt (o - 2817) signatureNames))
     else 64
 
-bundle-line : (s : BundleState) (r : Bytes) → IsRecord r → bundleRecordFault s r ≡ none → length (recordLine r) ≤ orderLength (orderOf r)
+pub bundle-line : (s : BundleState) (r : Bytes) → IsRecord r → bundleRecordFault s r ≡ none → length (recordLine r) ≤ orderLength (orderOf r)
 unfolding orderOf factLaidOut signatureLaidOut
 bundle-line s r h e = by-kind r h (length (recordLine r) ≤ orderLength (orderOf r)) aFact aSignature aPolicy (bundled r h s e)
   where

@@ -1,5 +1,5 @@
 -- The lines of the records that stand in requests, bundles and hints: the kinds 6 to 14. They are written as those of an ACL are (Words): one line per
--- record, words in a fixed order. The words are those of docs/LISTING.md.
+-- record, words in a fixed order. The words are those of docs/TEXT.md.
 use Prim.Native.Nat.{ℕ, zero, suc, _+_, _-_, _*_}
 use Prim.Native.String.{String}
 use mathlib.Core.List.{List, [], _∷_, _++_}
@@ -120,7 +120,7 @@ recordLine r =
     else if eqb (kind r) 14 then ascii "delegation" ++ wordsText (delegationWords r)
     else lineOf r
 
--- The longest lines of a request record, of one that stands alone, of a certificate, a delegation and a hint, in bytes.
+-- The longest lines of a request record, of one that stands alone, of a certificate, a delegation, a hint and a policy, in bytes.
 abbrev pub requestLineMax : ℕ
 requestLineMax = 188
 
@@ -135,6 +135,9 @@ delegationLineMax = 276
 
 abbrev pub hintLineMax : ℕ
 hintLineMax = 55
+
+abbrev pub policyLineMax : ℕ
+policyLineMax = 64
 
 -- The longest texts of a request file, of requests that stand alone, of a bundle and of hints.
 abbrev pub requestTextMax : ℕ

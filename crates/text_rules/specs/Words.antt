@@ -1,5 +1,5 @@
 -- The line of a record: document 02, requests b and i, "one line per record, each ended by one byte 10, fields in a fixed order, numbers in decimal,
--- permissions by name and hashes as 40 lower-case digits". The words and their order are those of docs/LISTING.md.
+-- permissions by name and hashes as 40 lower-case digits". The words and their order are those of docs/TEXT.md.
 use Prim.Native.Nat.{ℕ, _+_, _*_, _/_, _%_}
 use Prim.Native.String.{String}
 use mathlib.Core.List.{List, [], _∷_, _++_, map, flatten}

@@ -1,6 +1,6 @@
 // trim BUNDLE ACL NEW HINTS, four file names: writes the ACL without what fails at the desk to NEW, and to HINTS the hints by which it narrows the old
 // one. For each record of the old ACL of which something is removed it prints a line `group G action A fails STEP, removed: LINE`, by its old indices;
-// LINE is the listing's line (docs/LISTING.md) of a blob action, of the blobfile that goes with it, or of the permissions that are gone. Then comes
+// LINE is the listing's line (docs/TEXT.md) of a blob action, of the blobfile that goes with it, or of the permissions that are gone. Then comes
 // `trimmed: ACL M bytes, hints N bytes`. Where a file is refused, or a step before the ACL fails, the desk's line is printed alone, standard error says what
 // it means, and no file is written. Unless both files are written whole, those that exist are unchanged.
 ghost use mathlib.Core.Path.{_≡_};

@@ -1,13 +1,11 @@
-use Rattle.c_desk.proofs.Laws.{read-named}
+use mathlib.Core.Path.{_∙_, ap}
+use Rattle.c_answers.specs.Surface.{hostTextFor}
 use borrow.Author.Needs.{needs}
 use Rattle.c_desk.proofs.akubolinfe_read_text.Statement.{statement}
 use Rattle.c_desk.proofs.akubolinfe_read_text.Tie as tie
 
-kind-of-requires : tie.Need-kind-of-requires
-kind-of-requires c κs = search needs
-
-read-known-requires : tie.Need-read-known-requires
-read-known-requires c κs = search needs
+read-requires : tie.Need-read-requires
+read-requires c κs = search needs
 
 host-text-requires : tie.Need-host-text-requires
 host-text-requires c κs = search needs
@@ -16,9 +14,7 @@ same-length : tie.Need-same-length
 same-length c = search needs
 
 returns : tie.Need-returns
-returns c = read-named _ _ _ _ _ _ _ (search needs) (c .before .before .before .read-known .ensures) (c .host-text .ensures)
+returns c = let w = c .before .before .before .read in (c .host-text .ensures ∙ ap hostTextFor (w .ensures .reply), w .ensures .buffer)
 
 pub akubolinfe-read-text-spec : {M : Type 1} → statement M
-akubolinfe-read-text-spec =
-    tie.close
-    (tie.spec kind-of-requires read-known-requires host-text-requires same-length returns)
+akubolinfe-read-text-spec = tie.close (tie.spec read-requires host-text-requires same-length returns)

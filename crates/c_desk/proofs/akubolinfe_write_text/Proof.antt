@@ -1,13 +1,11 @@
-use Rattle.c_desk.proofs.Laws.{written-named}
+use mathlib.Core.Path.{_∙_, ap}
+use Rattle.c_answers.specs.Surface.{hostTextFor}
 use borrow.Author.Needs.{needs}
 use Rattle.c_desk.proofs.akubolinfe_write_text.Statement.{statement}
 use Rattle.c_desk.proofs.akubolinfe_write_text.Tie as tie
 
-kind-of-requires : tie.Need-kind-of-requires
-kind-of-requires c κs = search needs
-
-write-known-requires : tie.Need-write-known-requires
-write-known-requires c κs = search needs
+write-requires : tie.Need-write-requires
+write-requires c κs = search needs
 
 host-text-requires : tie.Need-host-text-requires
 host-text-requires c κs = search needs
@@ -16,9 +14,7 @@ same-length : tie.Need-same-length
 same-length c = search needs
 
 returns : tie.Need-returns
-returns c = written-named _ _ _ _ _ _ _ (search needs) (c .before .before .before .write-known .ensures) (c .host-text .ensures)
+returns c = let w = c .before .before .before .write in (c .host-text .ensures ∙ ap hostTextFor (w .ensures .reply), w .ensures .buffer)
 
 pub akubolinfe-write-text-spec : {M : Type 1} → statement M
-akubolinfe-write-text-spec =
-    tie.close
-    (tie.spec kind-of-requires write-known-requires host-text-requires same-length returns)
+akubolinfe-write-text-spec = tie.close (tie.spec write-requires host-text-requires same-length returns)

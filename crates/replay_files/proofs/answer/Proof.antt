@@ -43,6 +43,32 @@ returns-3 : tie.Need-returns-3
 unfolding bufferAfter
 returns-3 c = search (needs, picks)
 
+write-requires : tie.Need-write-requires
+write-requires c κs = search needs
+
+print-listed-requires-3 : tie.Need-print-listed-requires-3
+print-listed-requires-3 c κs = search needs
+
+same-length-4 : tie.Need-same-length-4
+same-length-4 c = search needs
+
+returns-4 : tie.Need-returns-4
+unfolding bufferAfter
+returns-4 c = search (needs, picks)
+
+read-requires : tie.Need-read-requires
+read-requires c κs = search needs
+
+print-listed-requires-4 : tie.Need-print-listed-requires-4
+print-listed-requires-4 c κs = search needs
+
+same-length-5 : tie.Need-same-length-5
+same-length-5 c = search needs
+
+returns-5 : tie.Need-returns-5
+unfolding bufferAfter
+returns-5 c = search (needs, picks)
+
 pub answer-spec : {M : Type 1} → statement M
 answer-spec =
     tie.close
@@ -58,4 +84,12 @@ answer-spec =
     read-listing-requires
     print-listed-requires-2
     same-length-3
-    returns-3)
+    returns-3
+    write-requires
+    print-listed-requires-3
+    same-length-4
+    returns-4
+    read-requires
+    print-listed-requires-4
+    same-length-5
+    returns-5)

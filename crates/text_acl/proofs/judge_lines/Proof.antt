@@ -3,6 +3,7 @@ use lib.ListN.{length}
 use Rattle.rules.specs.Sizes.{limitsMax}
 use Rattle.text_rules.specs.Kinds.{aclKind}
 use Rattle.acl_reader.specs.Places.{aclStateAs}
+use Rattle.text_acl.proofs.Within.{within-ends, acl-unended}
 use Rattle.text_acl.proofs.Reading.{good-is, good-place, LinesJudged, judged-none, judged-bad, judged-line, judged-missing, judged-all, end-due, end-sound}
 use borrow.Author.Needs.{needs}
 use Rattle.text_acl.proofs.judge_lines.Statement.{statement}
@@ -20,8 +21,17 @@ start-requires c κs = search needs
 loop-holds : tie.Need-loop-holds Inv-loop μ-loop
 loop-holds c = (search needs, search needs, search needs, search needs, search (needs, judged-none))
 
-line-end-requires : tie.Need-line-end-requires Inv-loop μ-loop
-line-end-requires c κs = search needs
+line-within-requires : tie.Need-line-within-requires Inv-loop μ-loop
+line-within-requires c κs = search needs
+
+sub-if1 : tie.Need-sub-if1 Inv-loop μ-loop
+sub-if1 c = search needs
+
+shared-slice-read-if1 : tie.Need-shared-slice-read-if1 Inv-loop μ-loop
+shared-slice-read-if1 c = search needs
+
+returns : tie.Need-returns Inv-loop μ-loop
+returns c = search (needs, acl-unended)
 
 sub-decoded-record : tie.Need-sub-decoded-record Inv-loop μ-loop
 sub-decoded-record c = search needs
@@ -53,14 +63,15 @@ part-is-good-end c = search needs
 is-good-requires : tie.Need-is-good-requires Inv-loop μ-loop
 is-good-requires c κs = search needs
 
-returns : tie.Need-returns Inv-loop μ-loop
-returns c =
+returns-2 : tie.Need-returns-2 Inv-loop μ-loop
+returns-2 c =
     let r = c .before .before .before in
     let d = r .before .before in
-    let n = d .before .before in
+    let n = d .before .before .before .before in
     let l = n .before .before in
+    let e = within-ends _ _ _ _ (n .line-within .ensures) (d .before .before .if1 .left) in
     let g = good-is _ (aclStateAs (r .read .result .place)) (r .read .result .found) _ _ _ (d .decoded-record .ensures) (search needs) (r .read .ensures .0) (c .before .is-good .ensures) in
-    judged-bad aclKind (l .before .before .before .args .text .now) (aclStateAs (l .loop .place)) (l .loop .at) (l .loop .line) (n .line-end .result) _ (n .line-end .ensures) g (l .loop .inv .4) (c .if1 .taken)
+    judged-bad aclKind (l .before .before .before .args .text .now) (aclStateAs (l .loop .place)) (l .loop .at) (l .loop .line) (n .line-within .result) _ e g (l .loop .inv .4) (c .if2 .taken)
 
 add-line : tie.Need-add-line Inv-loop μ-loop
 add-line c = search needs
@@ -73,20 +84,21 @@ loop-again c =
     let i = c .before in
     let r = i .before .before .before in
     let d = r .before .before in
-    let n = d .before .before in
+    let n = d .before .before .before .before in
     let l = n .before .before in
+    let e = within-ends _ _ _ _ (n .line-within .ensures) (d .before .before .if1 .left) in
     let g = good-is _ (aclStateAs (r .read .result .place)) (r .read .result .found) _ _ _ (d .decoded-record .ensures) (search needs) (r .read .ensures .0) (i .before .is-good .ensures) in
-    let p = good-place _ (aclStateAs (r .read .result .place)) (r .read .result .found) _ _ _ (d .decoded-record .ensures) (search needs) (r .read .ensures .0) (i .before .is-good .ensures) (i .if1 .left) in
-    (search needs, search needs, search needs, search needs, judged-line aclKind (l .before .before .before .args .text .now) (aclStateAs (l .loop .place)) (l .loop .at) (l .loop .line) (n .line-end .result) _ (n .line-end .ensures) g (l .loop .inv .4) _ _ (i .if1 .left) (d .decoded-record .ensures) p)
-
-returns-2 : tie.Need-returns-2 Inv-loop μ-loop
-returns-2 c = search (needs, judged-missing, end-due)
-
-sub-t22 : tie.Need-sub-t22 Inv-loop μ-loop
-sub-t22 c = search needs
+    let p = good-place _ (aclStateAs (r .read .result .place)) (r .read .result .found) _ _ _ (d .decoded-record .ensures) (search needs) (r .read .ensures .0) (i .before .is-good .ensures) (i .if2 .left) in
+    (search needs, search needs, search needs, search needs, judged-line aclKind (l .before .before .before .args .text .now) (aclStateAs (l .loop .place)) (l .loop .at) (l .loop .line) (n .line-within .result) _ e g (l .loop .inv .4) _ _ (i .if2 .left) (d .decoded-record .ensures) p)
 
 returns-3 : tie.Need-returns-3 Inv-loop μ-loop
-returns-3 c = search (needs, judged-all, end-sound)
+returns-3 c = search (needs, judged-missing, end-due)
+
+sub-t24 : tie.Need-sub-t24 Inv-loop μ-loop
+sub-t24 c = search needs
+
+returns-4 : tie.Need-returns-4 Inv-loop μ-loop
+returns-4 c = search (needs, judged-all, end-sound)
 
 pub judge-lines-spec : {M : Type 1} → statement M
 judge-lines-spec =
@@ -96,7 +108,10 @@ judge-lines-spec =
     μ-loop
     start-requires
     loop-holds
-    line-end-requires
+    line-within-requires
+    sub-if1
+    shared-slice-read-if1
+    returns
     sub-decoded-record
     part-decoded-record-start
     part-decoded-record-end
@@ -107,10 +122,10 @@ judge-lines-spec =
     part-is-good-start
     part-is-good-end
     is-good-requires
-    returns
+    returns-2
     add-line
     loop-less
     loop-again
-    returns-2
-    sub-t22
-    returns-3)
+    returns-3
+    sub-t24
+    returns-4)

@@ -1,8 +1,10 @@
 use Prim.Native.Nat.{_+_, _-_, _≤_}
 use lib.ListN.{length}
 use Rattle.text_acl.proofs.Reading.{LinesJudged, judged-bad, judged-line}
+use Rattle.text_acl.proofs.Within.{within-ends}
 use Rattle.text_states.specs.States.{stateAs, kindFrom}
 use Rattle.text_files.proofs.Laws.{good-is, good-state, judged-start, missing-line, none-missing}
+use Rattle.text_files.proofs.Unended.{any-unended}
 use borrow.Author.Needs.{needs}
 use Rattle.text_files.proofs.judge_lines.Statement.{statement}
 use Rattle.text_files.proofs.judge_lines.Tie as tie
@@ -16,8 +18,17 @@ abbrev μ-loop : tie.MeasureT-loop
 loop-holds : tie.Need-loop-holds Inv-loop μ-loop
 loop-holds c = (search needs, search needs, search needs, search (needs, judged-start))
 
-line-end-requires : tie.Need-line-end-requires Inv-loop μ-loop
-line-end-requires c κs = search needs
+line-within-requires : tie.Need-line-within-requires Inv-loop μ-loop
+line-within-requires c κs = search needs
+
+sub-if1 : tie.Need-sub-if1 Inv-loop μ-loop
+sub-if1 c = search needs
+
+shared-slice-read-if1 : tie.Need-shared-slice-read-if1 Inv-loop μ-loop
+shared-slice-read-if1 c = search needs
+
+returns : tie.Need-returns Inv-loop μ-loop
+returns c = search (needs, any-unended)
 
 sub-record-of : tie.Need-sub-record-of Inv-loop μ-loop
 sub-record-of c = search needs
@@ -49,13 +60,14 @@ part-is-good-end c = search needs
 is-good-requires : tie.Need-is-good-requires Inv-loop μ-loop
 is-good-requires c κs = search needs
 
-returns : tie.Need-returns Inv-loop μ-loop
-returns c =
+returns-2 : tie.Need-returns-2 Inv-loop μ-loop
+returns-2 c =
     let r = c .before .before .before in
     let d = r .before .before in
-    let n = d .before .before in
+    let n = d .before .before .before .before in
     let l = n .before .before in
-    judged-bad _ _ _ _ _ _ _ (n .line-end .ensures) (good-is _ _ (stateAs (r .next .result .state)) (r .next .result .found) _ _ _ (d .record-of .ensures) (r .next .ensures) (c .before .is-good .ensures)) (l .loop .inv .3) (c .if1 .taken)
+    let e = within-ends _ _ _ _ (n .line-within .ensures) (d .before .before .if1 .left) in
+    judged-bad _ _ _ _ _ _ _ e (good-is _ _ (stateAs (r .next .result .state)) (r .next .result .found) _ _ _ (d .record-of .ensures) (r .next .ensures) (c .before .is-good .ensures)) (l .loop .inv .3) (c .if2 .taken)
 
 add-line : tie.Need-add-line Inv-loop μ-loop
 add-line c = search needs
@@ -67,22 +79,23 @@ loop-again : tie.Need-loop-again Inv-loop μ-loop
 loop-again c =
     let r = c .before .before .before in
     let d = r .before .before in
-    let n = d .before .before in
+    let n = d .before .before .before .before in
     let l = n .before .before in
-    let p = good-state (stateAs (r .next .result .state)) _ (stateAs (r .next .result .state)) (r .next .result .found) _ _ _ (d .record-of .ensures) (r .next .ensures) (c .before .is-good .ensures) (c .if1 .left) in
-    (search needs, search needs, search needs, judged-line _ _ _ _ _ _ _ (n .line-end .ensures) (good-is _ _ (stateAs (r .next .result .state)) (r .next .result .found) _ _ _ (d .record-of .ensures) (r .next .ensures) (c .before .is-good .ensures)) (l .loop .inv .3) _ _ (c .if1 .left) (d .record-of .ensures) p)
+    let e = within-ends _ _ _ _ (n .line-within .ensures) (d .before .before .if1 .left) in
+    let p = good-state (stateAs (r .next .result .state)) _ (stateAs (r .next .result .state)) (r .next .result .found) _ _ _ (d .record-of .ensures) (r .next .ensures) (c .before .is-good .ensures) (c .if2 .left) in
+    (search needs, search needs, search needs, judged-line _ _ _ _ _ _ _ e (good-is _ _ (stateAs (r .next .result .state)) (r .next .result .found) _ _ _ (d .record-of .ensures) (r .next .ensures) (c .before .is-good .ensures)) (l .loop .inv .3) _ _ (c .if2 .left) (d .record-of .ensures) p)
 
 missing-requires : tie.Need-missing-requires Inv-loop μ-loop
 missing-requires c κs = search needs
 
-returns-2 : tie.Need-returns-2 Inv-loop μ-loop
-returns-2 c = search (needs, missing-line)
-
-sub-t23 : tie.Need-sub-t23 Inv-loop μ-loop
-sub-t23 c = search needs
-
 returns-3 : tie.Need-returns-3 Inv-loop μ-loop
-returns-3 c = search (needs, none-missing)
+returns-3 c = search (needs, missing-line)
+
+sub-t25 : tie.Need-sub-t25 Inv-loop μ-loop
+sub-t25 c = search needs
+
+returns-4 : tie.Need-returns-4 Inv-loop μ-loop
+returns-4 c = search (needs, none-missing)
 
 pub judge-lines-spec : {M : Type 1} → statement M
 judge-lines-spec =
@@ -91,7 +104,10 @@ judge-lines-spec =
     Inv-loop
     μ-loop
     loop-holds
-    line-end-requires
+    line-within-requires
+    sub-if1
+    shared-slice-read-if1
+    returns
     sub-record-of
     part-record-of-start
     part-record-of-end
@@ -102,11 +118,11 @@ judge-lines-spec =
     part-is-good-start
     part-is-good-end
     is-good-requires
-    returns
+    returns-2
     add-line
     loop-less
     loop-again
     missing-requires
-    returns-2
-    sub-t23
-    returns-3)
+    returns-3
+    sub-t25
+    returns-4)

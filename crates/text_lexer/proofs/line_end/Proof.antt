@@ -1,8 +1,8 @@
 use Prim.Native.Nat.{_≤_, _-_}
 use lib.ListN.{length}
 use Rattle.text_rules.specs.Listing.{lineLength}
-use Rattle.text_bytes.proofs.Laws.{GoesOn, goes-start}
-use Rattle.text_lexer.proofs.Laws.{line-next, line-end, line-all}
+use Rattle.text_bytes.proofs.Laws.{GoesOn}
+use Rattle.text_lexer.proofs.Laws.{skipped-goes, line-next, line-end, line-all}
 use borrow.Author.Needs.{needs}
 use Rattle.text_lexer.proofs.line_end.Statement.{statement}
 use Rattle.text_lexer.proofs.line_end.Tie as tie
@@ -13,8 +13,11 @@ Inv-loop text at i₀ i = (at ≤ i) × (i ≤ length text) × GoesOn lineLength
 abbrev μ-loop : tie.MeasureT-loop
 μ-loop text at i₀ i = length text - i
 
+skip-blocks-requires : tie.Need-skip-blocks-requires Inv-loop μ-loop
+skip-blocks-requires c κs = search needs
+
 loop-holds : tie.Need-loop-holds Inv-loop μ-loop
-loop-holds c = search (needs, goes-start)
+loop-holds c = (search needs, search needs, search (needs, skipped-goes))
 
 shared-slice-read-if1 : tie.Need-shared-slice-read-if1 Inv-loop μ-loop
 shared-slice-read-if1 c = search needs
@@ -43,6 +46,7 @@ line-end-spec =
     (tie.spec
     Inv-loop
     μ-loop
+    skip-blocks-requires
     loop-holds
     shared-slice-read-if1
     add-result

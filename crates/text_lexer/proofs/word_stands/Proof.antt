@@ -1,59 +1,41 @@
-use Prim.Native.Nat.{_≤_, _-_}
-use lib.ListN.{length}
-use Rattle.text_lexer.proofs.Laws.{Matched, matched-start, matched-next, matched-differs, matched-short, matched-ends}
+use Rattle.text_lexer.proofs.Laws.{stands-short, stands-differs, stands-ends}
 use borrow.Author.Needs.{needs}
 use Rattle.text_lexer.proofs.word_stands.Statement.{statement}
 use Rattle.text_lexer.proofs.word_stands.Tie as tie
 
-abbrev Inv-loop : tie.InvT-loop
-Inv-loop word text i₀ i = (i ≤ length word) × Matched word text i
+returns : tie.Need-returns
+returns c = search (needs, stands-short)
 
-abbrev μ-loop : tie.MeasureT-loop
-μ-loop word text i₀ i = length word - i
+sub-same-bytes : tie.Need-sub-same-bytes
+sub-same-bytes c = search needs
 
-loop-holds : tie.Need-loop-holds Inv-loop μ-loop
-loop-holds c = search (needs, matched-start)
+part-same-bytes-start : tie.Need-part-same-bytes-start
+part-same-bytes-start c = search needs
 
-returns : tie.Need-returns Inv-loop μ-loop
-returns c = search (needs, matched-short)
+part-same-bytes-end : tie.Need-part-same-bytes-end
+part-same-bytes-end c = search needs
 
-shared-slice-read-if2 : tie.Need-shared-slice-read-if2 Inv-loop μ-loop
-shared-slice-read-if2 c = search needs
+same-bytes-requires : tie.Need-same-bytes-requires
+same-bytes-requires c κs = search needs
 
-shared-slice-read-if2-2 : tie.Need-shared-slice-read-if2-2 Inv-loop μ-loop
-shared-slice-read-if2-2 c = search needs
+returns-2 : tie.Need-returns-2
+returns-2 c = search (needs, stands-differs)
 
-returns-2 : tie.Need-returns-2 Inv-loop μ-loop
-returns-2 c = search (needs, matched-differs)
-
-add-i : tie.Need-add-i Inv-loop μ-loop
-add-i c = search needs
-
-loop-less : tie.Need-loop-less Inv-loop μ-loop
-loop-less c = search needs
-
-loop-again : tie.Need-loop-again Inv-loop μ-loop
-loop-again c = search (needs, matched-next)
-
-byte-at-requires : tie.Need-byte-at-requires Inv-loop μ-loop
+byte-at-requires : tie.Need-byte-at-requires
 byte-at-requires c κs = search needs
 
-returns-3 : tie.Need-returns-3 Inv-loop μ-loop
-returns-3 c = search (needs, matched-ends)
+returns-3 : tie.Need-returns-3
+returns-3 c = search (needs, stands-ends)
 
 pub word-stands-spec : {M : Type 1} → statement M
 word-stands-spec =
     tie.close
     (tie.spec
-    Inv-loop
-    μ-loop
-    loop-holds
     returns
-    shared-slice-read-if2
-    shared-slice-read-if2-2
+    sub-same-bytes
+    part-same-bytes-start
+    part-same-bytes-end
+    same-bytes-requires
     returns-2
-    add-i
-    loop-less
-    loop-again
     byte-at-requires
     returns-3)

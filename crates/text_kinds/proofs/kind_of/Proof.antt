@@ -1,7 +1,7 @@
-use Rattle.c_desk.proofs.Laws.{kind-acl, kind-request, kind-requests, kind-bundle, kind-hints, no-kind}
+use Rattle.text_kinds.proofs.Laws.{kind-acl, kind-request, kind-requests, kind-bundle, kind-hints, no-kind}
 use borrow.Author.Needs.{needs}
-use Rattle.c_desk.proofs.kind_of.Statement.{statement}
-use Rattle.c_desk.proofs.kind_of.Tie as tie
+use Rattle.text_kinds.proofs.kind_of.Statement.{statement}
+use Rattle.text_kinds.proofs.kind_of.Tie as tie
 
 returns : tie.Need-returns
 returns c = search (needs, kind-acl)

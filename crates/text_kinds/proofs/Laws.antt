@@ -1,21 +1,20 @@
 -- What the entry points for texts answer, by the kind of file that the number names.
 use Prim.Native.Nat.{ℕ}
-use mathlib.Core.Path.{_≡_, refl, sym, _∙_, ap}
+use mathlib.Core.Path.{_≡_, refl, sym, ap}
 use mathlib.Core.Option.{Option, none, some}
 use borrow.Author.Tests.{ne-eqb}
 use Rattle.rules.specs.Basics.{Bytes}
 use Rattle.refusals.specs.declared.Refusal.the-variants.{OutOfRange}
 use Rattle.text_rules.specs.Listing.{Listed}
-use Rattle.text_acl.specs.Answers.{IsListed, listingReplyAs}
+use Rattle.text_acl.specs.Answers.{IsListed}
 use Rattle.text_acl.specs.declared.Reply.{Reply}
 use Rattle.text_acl.specs.declared.Reply.the-variants.{Refused}
 use Rattle.text_files.specs.Entries.{writtenAs, readAs}
 use Rattle.text_files.specs.declared.Kind.{Kind}
 use Rattle.text_files.specs.declared.Kind.the-variants.{Acl, Request, Requests, Bundle, Hints}
-use Rattle.c_answers.specs.Surface.{TextInNumbers, hostTextFor}
-use Rattle.c_desk.specs.TextKinds.{textKind, kindAs, unknownKind, writtenFor, readFor}
-use Rattle.c_desk.specs.declared.KindOf.{KindOf}
-use Rattle.c_desk.specs.declared.KindOf.the-variants.{Known, Unknown}
+use Rattle.text_kinds.specs.Kinds.{textKind, kindAs, unknownKind, writtenFor, readFor}
+use Rattle.text_kinds.specs.declared.KindOf.{KindOf}
+use Rattle.text_kinds.specs.declared.KindOf.the-variants.{Known, Unknown}
 
 -- the arms of the match
 module _ (n : ℕ) where
@@ -47,17 +46,13 @@ no-kind n a b c d e = rw (ne-eqb n 0 a, ne-eqb n 1 b, ne-eqb n 2 c, ne-eqb n 3 d
 listed-by : (is same : Listed) (r : Reply) (after : Bytes) → is ≡ same → IsListed is r after → IsListed same r after
 listed-by is same r after e p = rw e at p
 
--- what the host gets, for the kind that the code found
-module _ (found named : Option Kind) (given buffer : Bytes) (r : Reply) (after : Bytes) (t : TextInNumbers) (e : found ≡ named) where
-  pub written-named : IsListed (writtenFor found given buffer) r after → t ≡ hostTextFor (listingReplyAs r) → (t ≡ hostTextFor (writtenFor named given buffer .reply)) × (after ≡ writtenFor named given buffer .buffer)
-  written-named p h =
-      let l = listed-by _ _ r after (ap (λ (x : Option Kind). writtenFor x given buffer) e) p in
-      (h ∙ ap hostTextFor (l .reply), l .buffer)
+-- the kind that the code found is that of the number
+module _ (found named : Option Kind) (given buffer : Bytes) (r : Reply) (after : Bytes) (e : found ≡ named) where
+  pub written-named : IsListed (writtenFor found given buffer) r after → IsListed (writtenFor named given buffer) r after
+  written-named = listed-by _ _ r after (ap (λ (x : Option Kind). writtenFor x given buffer) e)
 
-  pub read-named : IsListed (readFor found given buffer) r after → t ≡ hostTextFor (listingReplyAs r) → (t ≡ hostTextFor (readFor named given buffer .reply)) × (after ≡ readFor named given buffer .buffer)
-  read-named p h =
-      let l = listed-by _ _ r after (ap (λ (x : Option Kind). readFor x given buffer) e) p in
-      (h ∙ ap hostTextFor (l .reply), l .buffer)
+  pub read-named : IsListed (readFor found given buffer) r after → IsListed (readFor named given buffer) r after
+  read-named = listed-by _ _ r after (ap (λ (x : Option Kind). readFor x given buffer) e)
 
 -- a known kind
 module _ (found : KindOf) (k : Kind) (given buffer : Bytes) (r : Reply) (after : Bytes) (e : found ≡ Known k) where

@@ -5,8 +5,8 @@ use Rattle.text_rules.specs.Decoding.{unhex}
 use Rattle.text_bytes.proofs.Laws.{Filled}
 use Rattle.text_lexer.proofs.Laws.{hashLeft, hash-none, hash-byte, hash-all}
 use borrow.Author.Needs.{needs}
-use Rattle.text_lexer.proofs.put_hash.Statement.{statement}
-use Rattle.text_lexer.proofs.put_hash.Tie as tie
+use Rattle.text_lexer.proofs.put_short.Statement.{statement}
+use Rattle.text_lexer.proofs.put_short.Tie as tie
 
 abbrev Inv-loop : tie.InvT-loop
 Inv-loop text at rec₀ k₀ end₀ rec k end = (k ≤ 20) × (end ≡ at + k) × (length rec ≡ length rec₀) × Filled (unhex 20 text) (hashLeft text k) at rec₀ rec end
@@ -44,8 +44,8 @@ same-length c = search needs
 returns : tie.Need-returns Inv-loop μ-loop
 returns c = search (needs, hash-all)
 
-pub put-hash-spec : {M : Type 1} → statement M
-put-hash-spec =
+pub put-short-spec : {M : Type 1} → statement M
+put-short-spec =
     tie.close
     (tie.spec
     Inv-loop

@@ -1,7 +1,7 @@
-use Rattle.c_desk.proofs.Laws.{read-known, read-unknown}
+use Rattle.text_kinds.proofs.Laws.{read-known, read-unknown}
 use borrow.Author.Needs.{needs}
-use Rattle.c_desk.proofs.read_known.Statement.{statement}
-use Rattle.c_desk.proofs.read_known.Tie as tie
+use Rattle.text_kinds.proofs.read_known.Statement.{statement}
+use Rattle.text_kinds.proofs.read_known.Tie as tie
 
 enum-known-kind : tie.Need-enum-known-kind
 enum-known-kind c = search needs

@@ -1,4 +1,4 @@
--- The kinds of file by their numbers in the header, and what the entry points for texts answer for a number.
+-- The kinds of file by their numbers in the header and in replay scripts, and what the entry points for texts answer for a number.
 use Prim.Native.Nat.{ℕ}
 use mathlib.Core.Option.{Option, none, some}
 use lib.Dec.{eqb}
@@ -8,8 +8,8 @@ use Rattle.text_rules.specs.Listing.{Listed, refusedWith}
 use Rattle.text_files.specs.Entries.{writtenAs, readAs}
 use Rattle.text_files.specs.declared.Kind.{Kind}
 use Rattle.text_files.specs.declared.Kind.the-variants.{Acl, Request, Requests, Bundle, Hints}
-use Rattle.c_desk.specs.declared.KindOf.{KindOf}
-use Rattle.c_desk.specs.declared.KindOf.the-variants.{Known, Unknown}
+use Rattle.text_kinds.specs.declared.KindOf.{KindOf}
+use Rattle.text_kinds.specs.declared.KindOf.the-variants.{Known, Unknown}
 
 -- AKUBOLINFE_TEXT_ACL to AKUBOLINFE_TEXT_HINTS; no other number is a kind's
 unfoldable pub textKind : ℕ → Option Kind

@@ -1,7 +1,7 @@
-use Rattle.c_desk.proofs.Laws.{written-known, written-unknown}
+use Rattle.text_kinds.proofs.Laws.{written-known, written-unknown}
 use borrow.Author.Needs.{needs}
-use Rattle.c_desk.proofs.write_known.Statement.{statement}
-use Rattle.c_desk.proofs.write_known.Tie as tie
+use Rattle.text_kinds.proofs.write_known.Statement.{statement}
+use Rattle.text_kinds.proofs.write_known.Tie as tie
 
 enum-known-kind : tie.Need-enum-known-kind
 enum-known-kind c = search needs

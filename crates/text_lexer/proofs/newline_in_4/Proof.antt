@@ -1,0 +1,42 @@
+use Rattle.text_lexer.specs.Telling.{newlineIn4}
+use borrow.Author.Needs.{needs}
+use Rattle.text_lexer.proofs.newline_in_4.Statement.{statement}
+use Rattle.text_lexer.proofs.newline_in_4.Tie as tie
+
+shared-slice-read-result : tie.Need-shared-slice-read-result
+shared-slice-read-result c = search needs
+
+add-result : tie.Need-add-result
+add-result c = search needs
+
+shared-slice-read-result-2 : tie.Need-shared-slice-read-result-2
+shared-slice-read-result-2 c = search needs
+
+add-result-2 : tie.Need-add-result-2
+add-result-2 c = search needs
+
+shared-slice-read-result-3 : tie.Need-shared-slice-read-result-3
+shared-slice-read-result-3 c = search needs
+
+add-result-3 : tie.Need-add-result-3
+add-result-3 c = search needs
+
+shared-slice-read-result-4 : tie.Need-shared-slice-read-result-4
+shared-slice-read-result-4 c = search needs
+
+returns : tie.Need-returns
+unfolding newlineIn4
+returns c = search needs
+
+pub newline-in-4-spec : {M : Type 1} → statement M
+newline-in-4-spec =
+    tie.close
+    (tie.spec
+    shared-slice-read-result
+    add-result
+    shared-slice-read-result-2
+    add-result-2
+    shared-slice-read-result-3
+    add-result-3
+    shared-slice-read-result-4
+    returns)
