@@ -1,5 +1,5 @@
--- The action that is named is the first at fault, its step is the one that the desk answers, and the permission that is named is the lowest. Two wrong
--- products that this rules out: one that names a later action that fails too, and one that names the group before.
+-- The action that is named is the first at fault, its step is the step that the desk answers, and the permission that is named is the lowest. Two wrong
+-- products that this rules out: naming a later action that fails too, and naming the group before.
 use Prim.Native.Nat.{ℕ, zero, suc, _+_, _≤_, _<_, min}
 use native.Mathlib.Omega.{arith}
 use mathlib.Core.Path.{_≡_, refl, sym, _∙_, ap}

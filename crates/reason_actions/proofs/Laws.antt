@@ -58,7 +58,7 @@ module _ (policy : Policy) (r : Bytes) (file : Option BlobfileRule) (x : ℕ) wh
       pick true = q
       pick false = q
 
--- .. and whether it protects too little.
+-- Whether an action protects too little.
 module _ (lowest : ℕ) (r : Bytes) (file : Option BlobfileRule) where
   pub below-other : (kind r ≡ 4 → ⊥) → false ≡ belowLowest lowest (actionOf r file)
   unfolding belowLowest

@@ -16,7 +16,7 @@ use Rattle.reason_actions.specs.Spots.{Located}
 abbrev pub Passes : (Group → Bool) → (Action → Bool) → Group → Type 0
 Passes skips faulty g = skips g ≡ false → Every (λ a. faulty a ≡ false) (g .actions)
 
--- Of groups of which the first has index `from`: the action stands at its indices, it is in a group that is not skipped, it is at fault, and every action
+-- Of groups of which the first has index `from`: the action is at its indices, it is in a group that is not skipped, it is at fault, and every action
 -- before it passes.
 pub record First (skips : Group → Bool) (faulty : Action → Bool) (from : ℕ) (gs : List Group) (l : Located) : Type 0 where
   pub before : List Group

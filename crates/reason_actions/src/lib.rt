@@ -1,5 +1,5 @@
 // Which action of an ACL the desk's steps fail at: the first in record order, by the indices of its group and of itself among the group's actions. Each
-// function decodes whatever bytes stand in a record; the file may or may not have been tested.
+// function decodes whatever bytes a record has; the file may or may not have been tested.
 ghost use mathlib.Core.Path.{_≡_};
 ghost use mathlib.Core.Option.{Option, none};
 ghost use Prim.Native.Nat.{_<_};

@@ -61,7 +61,7 @@ inputs-refused l p files next o e d = rw (← e) (pick (p .place) refl)
     pick (atRecord n i) f = rw f
     pick (atEnd n i) f = rw f
 
--- a judgement, where a grant comes to the same on both sides
+-- a judgement, where a grant is the same on both sides
 judged-refused : (l : Ledger) (q : Request) (time : ℕ) (onPermit : ℕ → Ledger → Outcome) (place : CallPlace) (j : Judgement) → ((k : ℕ) (charged : Ledger) → answerRefused (onPermit k charged .answer) ≡ placeRefused place)
     → answerRefused (settle l time onPermit j .answer) ≡ placeRefused (judgedPlace l q place j)
 judged-refused l q time onPermit place (granted k g) f = f k (charge l k g time)

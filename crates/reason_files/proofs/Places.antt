@@ -1,4 +1,4 @@
--- What the place of a file's first fault says: its number is the one that the reader of such a file gives; every record before it is without fault; it is
+-- What the place of a file's first fault says: its number is that of the reader of such a file; every record before it is without fault; it is
 -- the first; and none is named exactly where the file has none.
 use Prim.Native.Nat.{ℕ, zero, suc, _+_, _<_}
 use native.Mathlib.Omega.{arith}
@@ -186,7 +186,7 @@ ownFault Requests file = fileFault dayRecords (eachFault requestRecordFault) fil
 ownFault Bundle file = fileFault bundleRecords bundleFault file
 ownFault Hints file = hintsFileFault file
 
--- The number is the one that gate, desk or day gives.
+-- The number is that of gate, desk or day.
 pub number-is-own : (kind : Kind) (file : Bytes) → placeRefusal (placeIn kind file) ≡ ownFault kind file
 unfolding placeIn
 number-is-own Acl file = place-refusal _ file ∙ acl-reader file

@@ -115,7 +115,7 @@ module _ (hints : Bytes) (old : List Action) where
   unfolding firstWider
   wider-over i = refl
 
--- an action against the one that its hint names
+-- an action against the action of its hint
 hinted : (a : Action) (old : Bytes) (n place : ℕ) (t : Bool) → ActionAt old n place → t ≡ noWiderThan a (actionIn old place) → t ≡ noWiderThan a (getElem? (actionsOf (records old)) n)
 hinted a old n place t f e = e ∙ ap (noWiderThan a) (f .found)
 

@@ -1,4 +1,4 @@
--- What breaks a narrowing: nothing exactly where the hints show one; else the new groups before the one that is named are shown to be narrower, and with
+-- What breaks a narrowing: nothing exactly where the hints show one; else the new groups before the named group are shown to be narrower, and with
 -- it they are not; a limit that is named is the first of the source's that no new limit answers.
 use Prim.Native.Nat.{ℕ, zero, suc, _+_}
 use native.Mathlib.Omega.{arith}
@@ -113,7 +113,7 @@ narrows-shown old new hints e = pick (narrowingOf old new hints) (narrowing-is o
 pub broken-narrows-not : (old new : List Group) (hints : List Hint) (i : ℕ) (b : Breach) → narrowingOf old new hints ≡ Broken i b → narrows old new hints ≡ false
 broken-narrows-not old new hints i b e = sym (narrowing-is old 0 0 new hints) ∙ ap isShown e
 
--- The new groups before the one that is named, with their hints, are a narrowing; with that group they are none.
+-- The new groups before the named group are, with their hints, a narrowing; with that group they are none.
 pub record IsFirstBroken (old new : List Group) (hints : List Hint) (i : ℕ) : Type 0 where
   pub before : narrows old (take i new) (take i hints) ≡ true
   pub here : narrows old (take (suc i) new) (take (suc i) hints) ≡ false

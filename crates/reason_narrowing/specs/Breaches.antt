@@ -21,7 +21,7 @@ actionsNamed [] hints old = allZero hints
 actionsNamed (a ∷ rest) [] old = false
 actionsNamed (a ∷ rest) (h ∷ hs) old = present (getElem? old h) && actionsNamed rest hs old
 
--- the first new action, of those numbered from i, that is of another kind or wider than the one that its hint names
+-- the first new action, of those numbered from i, that is of another kind or wider than the action of its hint
 unfoldable pub firstWider : ℕ → List Action → List ℕ → List Action → Option ℕ
 firstWider i [] hints old = none
 firstWider i (a ∷ rest) [] old = some i

@@ -99,7 +99,7 @@ fn limit_breach(new: &[u8], old: &[u8]) -> Breach
     Breach::Nothing
 }
 
-// The first new action that is wider than the one that its hint names.
+// The first new action that is wider than the action of its hint.
 fn action_breach(new: &[u8], hints: &[u8], old: &[u8]) -> Breach
     ensures { λ r. ⌜ r ≡ widerBreach (firstWider 0 (actionsOf (records (now (new .entry)))) (now (hints .entry)) (actionsOf (records (now (old .entry))))) ⌝ }
 {

@@ -131,7 +131,7 @@ fn slot_answer(
     )
 }
 
-// A run in a slot: its reply, the whole buffer after it, the slot and the shared counters of the cabinet handed back.
+// A run in a slot: its reply, the whole buffer after it, the slot and the shared counters of the cabinet that it returns.
 pub fn slot_run_call(
     k: u64,
     before: Cabinet,
