@@ -51,7 +51,7 @@ extern "C" {
 
 /* The version of the library. AKUBOLINFE_ABI grows whenever a program that was compiled with an older header has to be compiled
  * again; it is the number in the name of the shared library, libakubolinfe.so.1. */
-#define AKUBOLINFE_VERSION "1.0"
+#define AKUBOLINFE_VERSION "1.1"
 #define AKUBOLINFE_ABI 1
 
 /* The AKUBOLINFE_ABI of the library that is linked. A program that loads the library at run time compares it with its own. */

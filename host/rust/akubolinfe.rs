@@ -563,11 +563,6 @@ pub fn assess(bundle: &[u8], acl: &[u8]) -> Verdict {
     }
 }
 
-/// Where the verdict of `assess` on the same bytes comes from.
-pub fn locate_verdict(bundle: &[u8], acl: &[u8]) -> VerdictPlace {
-    unsafe { akubolinfe_locate_verdict(ptr(bundle), bundle.len(), ptr(acl), acl.len()) }
-}
-
 /// Removes from an ACL what fails at the desk: writes the new ACL to the front of `new` and the hints with which it narrows the old one to
 /// the front of `hints`, and returns both lengths.
 pub fn trim(bundle: &[u8], acl: &[u8], new: &mut [u8], hints: &mut [u8]) -> Result<(u64, u64), NotTrimmed> {
@@ -675,6 +670,11 @@ pub mod locate {
                 ledger.clone(), ptr(km0), km0.len(), ptr(acl), acl.len(), ptr(req), req.len(), ptr(new), new.len(),
             )
         }
+    }
+
+    /// Where the verdict of `assess` on the same bytes comes from.
+    pub fn verdict(bundle: &[u8], acl: &[u8]) -> VerdictPlace {
+        unsafe { akubolinfe_locate_verdict(ptr(bundle), bundle.len(), ptr(acl), acl.len()) }
     }
 }
 

@@ -8,7 +8,10 @@ mod akubolinfe;
 
 use akubolinfe::{assess, write_subject, Ledger, Reply, Verdict};
 #[cfg(not(ordinary))]
-use akubolinfe::{by_number, by_value, in_place, prepare, read_listing, trim, write_listing, Cabinet, Certificate, Form, NotListed, NotTrimmed, Ran, Slot};
+use akubolinfe::{
+    by_number, by_value, in_place, locate, prepare, read_listing, trim, write_listing, Cabinet, Certificate, Form, NotListed, NotTrimmed, Ran, Slot, UNNAMED,
+    STEPS,
+};
 use std::io::{Read, Write};
 
 // The rest of a script.
@@ -341,6 +344,56 @@ fn asked_in_slot(letter: u8, s: &mut Script, cabinet: &mut Cabinet, first: usize
     Some(reply)
 }
 
+// A place: all its numbers, `-` for what is not named.
+#[cfg(not(ordinary))]
+fn place_words(numbers: &[u32]) -> String {
+    let word = |&n: &u32| if n == UNNAMED { " -".to_string() } else { format!(" {n}") };
+    numbers.iter().map(word).fold("place".to_string(), |text, word| text + &word)
+}
+
+// Where a file is at fault; a number of more than 32 bits is no kind's, and passes as the greatest of 32 bits.
+#[cfg(not(ordinary))]
+fn file_place(s: &mut Script) -> Option<String> {
+    let kind = u32::try_from(s.number()?).unwrap_or(u32::MAX);
+    let at = by_number::locate_file(kind, &s.run()?);
+    Some(place_words(&[at.refusal, at.part, at.record]))
+}
+
+// What a request (G), a narrowing (H) or an expansion (I) would be refused for: the number has to be that of the call.
+#[cfg(not(ordinary))]
+fn call_place(letter: u8, s: &mut Script, ledger: &Ledger) -> Option<String> {
+    let asked = match letter {
+        b'G' => b'R',
+        b'H' => b'N',
+        _ => b'X',
+    };
+    let Lent { km0, acl, req, new, hints } = &lent(asked, s)?;
+    let (at, reply) = match letter {
+        b'G' => (locate::request(ledger, km0, acl, req), ledger.clone().request(km0, acl, req)),
+        b'H' => (locate::narrow(ledger, km0, acl, req, new, hints), ledger.clone().narrow(km0, acl, req, new, hints)),
+        _ => (locate::expand(ledger, km0, acl, req, new), ledger.clone().expand(km0, acl, req, new)),
+    };
+    let refusal = if let Reply::Refuse(n, _) = reply { n } else { 0 };
+    assert!(at.refusal == refusal, "the call gives {refusal}");
+    Some(place_words(&[at.refusal, at.input, at.part, at.record, at.group, at.reason, at.item]))
+}
+
+// What a verdict is about: refusal and step have to be those of the desk.
+#[cfg(not(ordinary))]
+fn verdict_place(s: &mut Script) -> Option<String> {
+    let (bundle, acl) = (s.run()?, s.run()?);
+    let at = locate::verdict(&bundle, &acl);
+    let step = at.step.checked_sub(1).map(|n| STEPS[n as usize]);
+    let same = match assess(&bundle, &acl) {
+        Verdict::Refused(n) => (at.refusal, step) == (n, None),
+        Verdict::Failed(name) => (at.refusal, step) == (0, Some(name)),
+        _ => (at.refusal, step) == (0, None),
+    };
+    assert!(same, "the desk's verdict is another one");
+    let about = [at.what, at.number, at.group, at.action, at.permission];
+    Some(place_words(&[&[at.refusal, at.step, at.input, at.part, at.record][..], &about].concat()))
+}
+
 // What is carried from call to call.
 struct State {
     ledger: Ledger,
@@ -405,6 +458,12 @@ fn answer(letter: u8, s: &mut Script, state: &mut State) -> Option<String> {
         #[cfg(not(ordinary))]
         b'b' | b'q' => return batch_in_slot(s, &mut state.cabinet, letter == b'q'),
         b'K' => restored(s, &mut state.ledger)?,
+        #[cfg(not(ordinary))]
+        b'A' => return file_place(s),
+        #[cfg(not(ordinary))]
+        b'G' | b'H' | b'I' => return call_place(letter, s, &state.ledger),
+        #[cfg(not(ordinary))]
+        b'J' => return verdict_place(s),
         #[cfg(not(ordinary))]
         b'f' | b'l' | b'c' | b'r' | b'n' | b'x' => return cabinet_answer(letter, s, &mut state.cabinet),
         _ => return None,

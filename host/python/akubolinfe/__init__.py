@@ -13,7 +13,7 @@ from .places import CallPlace, FilePlace, VerdictPlace, locate_expand, locate_fi
 from .text import Text
 from .words import explain
 
-__version__ = '1.0'
+__version__ = '1.1'
 
 __all__ = [
     'ABI', 'Cabinet', 'CallPlace', 'Certificate', 'Converted', 'Delegation', 'Facts', 'FilePlace', 'Form', 'Hints', 'Ledger',
