@@ -140,8 +140,8 @@ AKUBOLINFE_MUST_USE uint32_t akubolinfe_abi(void);
 #define AKUBOLINFE_NOT_NAMED UINT32_MAX
 
 /* Inputs, by their numbers, of which the desk has two. */
-#define AKUBOLINFE_IN_ACL 2
-#define AKUBOLINFE_IN_BUNDLE 6
+#define AKUBOLINFE_INPUT_ACL 2
+#define AKUBOLINFE_INPUT_BUNDLE 6
 
 /* Parts of an input. */
 #define AKUBOLINFE_PART_LENGTH 1 /* its length */
@@ -249,7 +249,7 @@ typedef struct {
 } akubolinfe_verdict;
 
 /* Where a verdict that is no acceptance comes from. `refusal` and `step` are the verdict's; on acceptance nothing is named. A refusal names
- * the input (AKUBOLINFE_IN_BUNDLE or AKUBOLINFE_IN_ACL) and in it the part (AKUBOLINFE_PART_..): for a record its index, for the end the
+ * the input (AKUBOLINFE_INPUT_BUNDLE or AKUBOLINFE_INPUT_ACL) and in it the part (AKUBOLINFE_PART_..): for a record its index, for the end the
  * number of records; 11 names the policy. A step of the bundle names what is wrong (AKUBOLINFE_SIGNATURE_ABSENT to
  * AKUBOLINFE_FIELD_DIFFERS) and the number of the signature or field. A step of the ACL, and KV3, names the first action that fails it: its
  * group, its index among the group's actions (a record of kind 15 does not count) and, for ACLV3, the lowest permission that is not

@@ -2,20 +2,28 @@
 // error, in a line each. Where a file cannot be read, or the arguments are not two, it says so in one line on standard error and prints nothing.
 use cli_arguments::Input;
 use desk::Verdict;
+use desk_steps::Step;
+use refusals::Refusal;
+
+// Where a failing step comes from.
+fn print_failure(step: Step, bundle: &[u8], acl: &[u8]) {
+    cli_reasons::print_failure(step, reason_desk::locate_verdict(bundle, acl));
+}
+
+// Where a refusal comes from.
+fn print_refusal(why: Refusal, bundle: &[u8], acl: &[u8]) {
+    cli_reasons::print_refusal(
+        refusals::number(why),
+        reason_desk::locate_verdict(bundle, acl),
+    );
+}
 
 // Where the verdict comes from, if it is no acceptance.
 fn print_place(verdict: Verdict, bundle: &[u8], acl: &[u8]) {
     match verdict {
         Verdict::Accepted(_) => {}
-        Verdict::Failed(step) => {
-            cli_reasons::print_failure(step, reason_desk::locate_verdict(bundle, acl));
-        }
-        Verdict::Refused(why) => {
-            cli_reasons::print_refusal(
-                refusals::number(why),
-                reason_desk::locate_verdict(bundle, acl),
-            );
-        }
+        Verdict::Failed(step) => print_failure(step, bundle, acl),
+        Verdict::Refused(why) => print_refusal(why, bundle, acl),
     }
 }
 
