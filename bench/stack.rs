@@ -1,7 +1,7 @@
 //! The stack of each function of the library on the longest files. The stack below is filled with one byte, the call is made, and the lowest byte that changed is looked for.
 
 use crate::inputs::{self, ALL, EXPAND_ACL, REDUCE_ACL, SIGN, TIME};
-use crate::proved::{self, by_number, by_value, in_place, Cabinet, Certificate, Form, Ledger};
+use crate::proved::{self, by_number, by_value, in_place, locate, Cabinet, Certificate, Form, Ledger};
 
 const FILL: u8 = 0xa5;
 const REACH: usize = 512 * 1024;
@@ -144,10 +144,20 @@ fn measure_others(f: &Files) {
     print("write_text", || by_number::write_text(0, &acl, &mut text));
 }
 
+fn measure_places(f: &Files) {
+    let (l, bundle, key) = (Ledger::loaded(TIME), inputs::full_bundle(), inputs::full_key(ALL));
+    print("locate_file", || by_number::locate_file(0, &f.longest));
+    print("locate_request", || locate::request(&l, &f.km0, &f.chained, &f.sign));
+    print("locate_narrow", || locate::narrow(&l, &f.km0, &f.longest, &f.reduce, &f.longest, &f.hints));
+    print("locate_expand", || locate::expand(&l, &f.km0, &f.wide, &f.expand, &f.full));
+    print("locate_verdict", || locate::verdict(&bundle, &key));
+}
+
 pub fn measure() {
     let files = Files::new();
     measure_ledger(&files);
     measure_cabinet(&files);
     measure_by_value(&files);
     measure_others(&files);
+    measure_places(&files);
 }

@@ -1,13 +1,9 @@
 // Answers a replay script (docs/REPLAY.md) through the C surface, so that the linked library can be compared with the second
 // program: `second/compare` takes it in the place of the replay program. Every call on a ledger or a cabinet is made in place and by
-// value, and a run on a ledger is made in a slot of a cabinet too; this program ends where two of them differ. With `--cfg ordinary` it
-// answers through the ordinary Rust program of bench/ordinary instead, which has neither cabinet nor texts nor trimming tool nor
-// runs.
-#[cfg_attr(ordinary, path = "../../bench/ordinary/mod.rs")]
+// value, and a run on a ledger is made in a slot of a cabinet too; this program ends where two of them differ.
 mod akubolinfe;
 
 use akubolinfe::{assess, write_subject, Ledger, Reply, Verdict};
-#[cfg(not(ordinary))]
 use akubolinfe::{
     by_number, by_value, in_place, locate, prepare, read_listing, trim, write_listing, Cabinet, Certificate, Form, NotListed, NotTrimmed, Ran, Slot, UNNAMED,
     STEPS,
@@ -87,7 +83,6 @@ fn subject(s: &mut Script) -> Option<String> {
     })
 }
 
-#[cfg(not(ordinary))]
 fn listing(s: &mut Script, made: impl Fn(&[u8], &mut [u8]) -> Result<u64, NotListed>) -> Option<String> {
     let (given, mut buffer) = (s.run()?, s.run()?);
     let l = made(&given, &mut buffer);
@@ -99,13 +94,11 @@ fn listing(s: &mut Script, made: impl Fn(&[u8], &mut [u8]) -> Result<u64, NotLis
 }
 
 // A text of a kind of file; a number of more than 32 bits is no kind's, and passes as the greatest of 32 bits.
-#[cfg(not(ordinary))]
 fn text(s: &mut Script, made: fn(u32, &[u8], &mut [u8]) -> Result<u64, NotListed>) -> Option<String> {
     let kind = u32::try_from(s.number()?).unwrap_or(u32::MAX);
     listing(s, |given, buffer| made(kind, given, buffer))
 }
 
-#[cfg(not(ordinary))]
 fn trimmed(s: &mut Script) -> Option<String> {
     let (bundle, acl, mut new, mut hints) = (s.run()?, s.run()?, s.run()?, s.run()?);
     let answer = match trim(&bundle, &acl, &mut new, &mut hints) {
@@ -116,7 +109,6 @@ fn trimmed(s: &mut Script) -> Option<String> {
     Some(format!("{answer} {} {}", hex(&new), hex(&hints)))
 }
 
-#[cfg(not(ordinary))]
 fn prepared(s: &mut Script) -> Option<String> {
     Some(match prepare(&s.run()?) {
         Ok(f) => {
@@ -128,7 +120,6 @@ fn prepared(s: &mut Script) -> Option<String> {
 }
 
 // A row of certificates; none where its length is no multiple of theirs.
-#[cfg(not(ordinary))]
 fn row(bytes: &[u8]) -> Option<Vec<Certificate>> {
     if bytes.len() % 22 != 0 {
         return None;
@@ -141,7 +132,6 @@ fn row(bytes: &[u8]) -> Option<Vec<Certificate>> {
 }
 
 // A form of eighteen sets; none where it is of another length.
-#[cfg(not(ordinary))]
 fn form(bytes: &[u8]) -> Option<Form> {
     let sets: Vec<u64> = bytes.chunks_exact(8).map(|n| u64::from_be_bytes(n.try_into().unwrap())).collect();
     if bytes.len() != 144 {
@@ -151,7 +141,6 @@ fn form(bytes: &[u8]) -> Option<Form> {
 }
 
 // A cabinet in which one slot has a ledger's counts and times, the others some of their own; the counters are the ledger's.
-#[cfg(not(ordinary))]
 fn cabinet_of(ledger: &Ledger, slot: usize) -> Cabinet {
     let mut cabinet = Cabinet::fresh();
     for (i, other) in cabinet.slots.iter_mut().enumerate() {
@@ -163,7 +152,6 @@ fn cabinet_of(ledger: &Ledger, slot: usize) -> Cabinet {
 }
 
 // A run, on a ledger and in a slot, in place and by value.
-#[cfg(not(ordinary))]
 struct Run {
     km0: Vec<u8>,
     acl: Vec<u8>,
@@ -172,7 +160,6 @@ struct Run {
     requests: Vec<u8>,
 }
 
-#[cfg(not(ordinary))]
 impl Run {
     fn on(&self, ledger: &mut Ledger, b: &mut [u8]) -> Ran {
         match self.form {
@@ -224,14 +211,12 @@ impl Run {
 }
 
 // A run, with the form that comes first if it has one, and the buffer that is lent to it.
-#[cfg(not(ordinary))]
 fn run(s: &mut Script, prepared: bool) -> Option<(Run, Vec<u8>)> {
     let form = if prepared { Some(form(&s.run()?)?) } else { None };
     let (km0, acl, row, requests) = (s.run()?, s.run()?, row(&s.run()?)?, s.run()?);
     Some((Run { km0, acl, row, form, requests }, s.run()?))
 }
 
-#[cfg(not(ordinary))]
 fn ran_words(reply: Ran, buffer: &[u8]) -> String {
     match reply {
         Ok(n) => format!("length {n} {}", hex(buffer)),
@@ -239,7 +224,6 @@ fn ran_words(reply: Ran, buffer: &[u8]) -> String {
     }
 }
 
-#[cfg(not(ordinary))]
 fn batch(s: &mut Script, ledger: &mut Ledger, prepared: bool) -> Option<String> {
     let (run, mut buffer) = run(s, prepared)?;
     let (before, lent) = (ledger.clone(), buffer.clone());
@@ -251,7 +235,6 @@ fn batch(s: &mut Script, ledger: &mut Ledger, prepared: bool) -> Option<String> 
 }
 
 // A run in a slot of the cabinet.
-#[cfg(not(ordinary))]
 fn batch_in_slot(s: &mut Script, cabinet: &mut Cabinet, prepared: bool) -> Option<String> {
     let slot = s.number()? as usize;
     let (run, lent) = run(s, prepared)?;
@@ -278,7 +261,6 @@ fn lent(letter: u8, s: &mut Script) -> Option<Lent> {
 }
 
 // The same call by C's functions over a lent ledger, and the ledger that it leaves.
-#[cfg(not(ordinary))]
 fn copied(letter: u8, mut ledger: Ledger, number: u64, [km0, acl, req, new, hints]: [&Vec<u8>; 5]) -> (Ledger, Reply) {
     let reply = match letter {
         b'L' => ledger.load(number),
@@ -292,11 +274,9 @@ fn copied(letter: u8, mut ledger: Ledger, number: u64, [km0, acl, req, new, hint
 
 // A call on a ledger, which is made in place; by value it has to reply the same and to return the same ledger.
 fn asked(letter: u8, s: &mut Script, ledger: &mut Ledger) -> Option<Reply> {
-    #[cfg(not(ordinary))]
     let before = ledger.clone();
     let number = if matches!(letter, b'L' | b'C') { s.number()? } else { 0 };
     let Lent { km0, acl, req, new, hints } = &if matches!(letter, b'L' | b'C') { Lent::default() } else { lent(letter, s)? };
-    #[cfg(not(ordinary))]
     let copied = copied(letter, before.clone(), number, [km0, acl, req, new, hints]);
     let reply = match letter {
         b'L' => ledger.load(number),
@@ -305,7 +285,6 @@ fn asked(letter: u8, s: &mut Script, ledger: &mut Ledger) -> Option<Reply> {
         b'N' => ledger.narrow(km0, acl, req, new, hints),
         _ => ledger.expand(km0, acl, req, new),
     };
-    #[cfg(not(ordinary))]
     let whole = match letter {
         b'L' => by_value::load(before, number),
         b'C' => by_value::clear(before, number as usize),
@@ -313,15 +292,12 @@ fn asked(letter: u8, s: &mut Script, ledger: &mut Ledger) -> Option<Reply> {
         b'N' => by_value::narrow(before, km0, acl, req, new, hints),
         _ => by_value::expand(before, km0, acl, req, new),
     };
-    #[cfg(not(ordinary))]
     assert!(whole == (ledger.clone(), reply), "by value");
-    #[cfg(not(ordinary))]
     assert!(copied == (ledger.clone(), reply), "in place");
     Some(reply)
 }
 
 // A call on a cabinet; `first` is the slot, or the counter of a clear.
-#[cfg(not(ordinary))]
 fn asked_in_slot(letter: u8, s: &mut Script, cabinet: &mut Cabinet, first: usize) -> Option<Reply> {
     let before = cabinet.clone();
     let number = if letter == b'l' { s.number()? } else { 0 };
@@ -345,14 +321,12 @@ fn asked_in_slot(letter: u8, s: &mut Script, cabinet: &mut Cabinet, first: usize
 }
 
 // A place: all its numbers, `-` for what is not named.
-#[cfg(not(ordinary))]
 fn place_words(numbers: &[u32]) -> String {
     let word = |&n: &u32| if n == UNNAMED { " -".to_string() } else { format!(" {n}") };
     numbers.iter().map(word).fold("place".to_string(), |text, word| text + &word)
 }
 
 // Where a file is at fault; a number of more than 32 bits is no kind's, and passes as the greatest of 32 bits.
-#[cfg(not(ordinary))]
 fn file_place(s: &mut Script) -> Option<String> {
     let kind = u32::try_from(s.number()?).unwrap_or(u32::MAX);
     let at = by_number::locate_file(kind, &s.run()?);
@@ -360,7 +334,6 @@ fn file_place(s: &mut Script) -> Option<String> {
 }
 
 // What a request (G), a narrowing (H) or an expansion (I) would be refused for: the number has to be that of the call.
-#[cfg(not(ordinary))]
 fn call_place(letter: u8, s: &mut Script, ledger: &Ledger) -> Option<String> {
     let asked = match letter {
         b'G' => b'R',
@@ -379,7 +352,6 @@ fn call_place(letter: u8, s: &mut Script, ledger: &Ledger) -> Option<String> {
 }
 
 // What a verdict is about: refusal and step have to be those of the desk.
-#[cfg(not(ordinary))]
 fn verdict_place(s: &mut Script) -> Option<String> {
     let (bundle, acl) = (s.run()?, s.run()?);
     let at = locate::verdict(&bundle, &acl);
@@ -397,12 +369,10 @@ fn verdict_place(s: &mut Script) -> Option<String> {
 // What is carried from call to call.
 struct State {
     ledger: Ledger,
-    #[cfg(not(ordinary))]
     cabinet: Cabinet,
 }
 
 // The cabinet's answer to one call, the slot called and the shared counters.
-#[cfg(not(ordinary))]
 fn cabinet_answer(letter: u8, s: &mut Script, cabinet: &mut Cabinet) -> Option<String> {
     let first = if letter == b'f' { 0 } else { s.number()? as usize };
     let reply = match letter {
@@ -417,7 +387,6 @@ fn cabinet_answer(letter: u8, s: &mut Script, cabinet: &mut Cabinet) -> Option<S
 }
 
 // The slot that was called; nothing where there is no such slot.
-#[cfg(not(ordinary))]
 fn slot_words(cabinet: &Cabinet, slot: usize) -> String {
     cabinet.slots.get(slot).map_or(String::new(), |s| {
         format!(" slot {slot} load {} last {}{}", s.loaded, s.last, table("counts", &s.counts))
@@ -441,30 +410,18 @@ fn answer(letter: u8, s: &mut Script, state: &mut State) -> Option<String> {
         b'L' | b'C' | b'R' | b'N' | b'X' => asked(letter, s, &mut state.ledger)?,
         b'D' => return Some(verdict(assess(&s.run()?, &s.run()?))),
         b'S' => return subject(s),
-        #[cfg(not(ordinary))]
         b'W' => return listing(s, write_listing),
-        #[cfg(not(ordinary))]
         b'T' => return listing(s, read_listing),
-        #[cfg(not(ordinary))]
         b'V' => return text(s, by_number::write_text),
-        #[cfg(not(ordinary))]
         b'U' => return text(s, by_number::read_text),
-        #[cfg(not(ordinary))]
         b'M' => return trimmed(s),
-        #[cfg(not(ordinary))]
         b'P' => return prepared(s),
-        #[cfg(not(ordinary))]
         b'B' | b'Q' => return batch(s, &mut state.ledger, letter == b'Q'),
-        #[cfg(not(ordinary))]
         b'b' | b'q' => return batch_in_slot(s, &mut state.cabinet, letter == b'q'),
         b'K' => restored(s, &mut state.ledger)?,
-        #[cfg(not(ordinary))]
         b'A' => return file_place(s),
-        #[cfg(not(ordinary))]
         b'G' | b'H' | b'I' => return call_place(letter, s, &state.ledger),
-        #[cfg(not(ordinary))]
         b'J' => return verdict_place(s),
-        #[cfg(not(ordinary))]
         b'f' | b'l' | b'c' | b'r' | b'n' | b'x' => return cabinet_answer(letter, s, &mut state.cabinet),
         _ => return None,
     };
@@ -476,7 +433,6 @@ pub fn replay(bytes: Vec<u8>, out: &mut impl Write) -> std::io::Result<()> {
     let mut s = Script { bytes, at: 0 };
     let mut state = State {
         ledger: Ledger::fresh(),
-        #[cfg(not(ordinary))]
         cabinet: Cabinet::fresh(),
     };
     let mut k = 0u64;
