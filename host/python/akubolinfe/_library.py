@@ -108,6 +108,14 @@ class PreparationStruct(Structure):
     _fields_ = [('refusal', c_uint32), ('form', FormStruct)]
 
 
+class FilePlaceStruct(Structure):
+    _fields_ = [(field, c_uint32) for field in ('refusal', 'part', 'record')]
+
+
+class CallPlaceStruct(Structure):
+    _fields_ = [(field, c_uint32) for field in ('refusal', 'input', 'part', 'record', 'group', 'reason', 'item')]
+
+
 # Bytes that are only read, and a buffer, each with its length. A row's length counts certificates.
 _LENT = [c_char_p, c_size_t]
 _BUFFER = [c_void_p, c_size_t]
@@ -155,6 +163,10 @@ def _functions() -> Iterator[Tuple[str, type, list]]:
 _OPTIONAL = {
     'write_text': (TextReplyStruct, [c_uint32] + _LENT + _BUFFER),
     'read_text': (TextReplyStruct, [c_uint32] + _LENT + _BUFFER),
+    'locate_file': (FilePlaceStruct, [c_uint32] + _LENT),
+    'locate_request': (CallPlaceStruct, [LedgerStruct] + _REQUEST),
+    'locate_narrow': (CallPlaceStruct, [LedgerStruct] + _NARROW),
+    'locate_expand': (CallPlaceStruct, [LedgerStruct] + _EXPAND),
 }
 
 
