@@ -136,17 +136,8 @@ AKUBOLINFE_MUST_USE uint32_t akubolinfe_abi(void);
 /* No group is named. */
 #define AKUBOLINFE_NO_GROUP UINT32_MAX
 
-/* No record, group, action or permission is named. */
-#define AKUBOLINFE_NOT_NAMED UINT32_MAX
-
-/* Inputs, by their numbers, of which the desk has two. */
-#define AKUBOLINFE_INPUT_ACL 2
-#define AKUBOLINFE_INPUT_BUNDLE 6
-
-/* Parts of an input. */
-#define AKUBOLINFE_PART_LENGTH 1 /* its length */
-#define AKUBOLINFE_PART_RECORD 2 /* a record */
-#define AKUBOLINFE_PART_END 3    /* its end: a record is missing */
+/* Nothing is named: a record, a group, an action, an item or a permission, in the answers of akubolinfe_locate_... */
+#define AKUBOLINFE_UNNAMED UINT32_MAX
 
 /* What fails a step of the bundle. */
 #define AKUBOLINFE_SIGNATURE_ABSENT 1 /* a signature is absent */
@@ -253,7 +244,7 @@ typedef struct {
  * number of records; 11 names the policy. A step of the bundle names what is wrong (AKUBOLINFE_SIGNATURE_ABSENT to
  * AKUBOLINFE_FIELD_DIFFERS) and the number of the signature or field. A step of the ACL, and KV3, names the first action that fails it: its
  * group, its index among the group's actions (a record of kind 15 does not count) and, for ACLV3, the lowest permission that is not
- * admitted. All indices are from 0. What is not named is 0 (input, part, what, number) or AKUBOLINFE_NOT_NAMED (record, group, action,
+ * admitted. All indices are from 0. What is not named is 0 (input, part, what, number) or AKUBOLINFE_UNNAMED (record, group, action,
  * permission). */
 typedef struct {
     uint32_t refusal;
@@ -290,9 +281,6 @@ typedef struct {
     uint64_t hints_length;
 } akubolinfe_trim_reply;
 
-/* Nothing is named: a record, a group or an item in the answers below. */
-#define AKUBOLINFE_UNNAMED UINT32_MAX
-
 /* Where the first fault of a file is. `refusal` is the one that the gate, the desk or a run gives for the file, 0 if it has no fault.
  * `record` is the index of the record, from 0, or the number of records if the end is at fault. */
 #define AKUBOLINFE_PART_LENGTH 1 /* the length */
@@ -313,6 +301,7 @@ typedef struct {
 #define AKUBOLINFE_INPUT_REQUEST 3 /* the request; record 0 if a replacement is asked for by another request */
 #define AKUBOLINFE_INPUT_NEW_ACL 4 /* the new ACL */
 #define AKUBOLINFE_INPUT_HINTS 5   /* the hints */
+#define AKUBOLINFE_INPUT_BUNDLE 6  /* the bundle */
 #define AKUBOLINFE_REASON_HINT 1      /* 8: the group's hint is missing or left over, its source does not rise, or it names nothing */
 #define AKUBOLINFE_REASON_CERTIFIER 2 /* 8: the source's certifier or mechanism is not kept */
 #define AKUBOLINFE_REASON_LIMIT 3     /* 8: `item`, a limit of the source, is not answered */
