@@ -83,7 +83,7 @@ class WordsTest(unittest.TestCase):
         text = HEADER.read_text()
         if 'AKUBOLINFE_ABI' not in text:
             self.skipTest('the header is that of an earlier ABI')
-        rows = re.findall(r'#define AKUBOLINFE_(?!TEXT_)(\w+) (\d+) +/\* (.*?) \*/', text, re.S)
+        rows = re.findall(r'#define AKUBOLINFE_(?!TEXT_|PART_|INPUT_|REASON_|SIGNATURE_|FIELD_)(\w+) (\d+) +/\* (.*?) \*/', text, re.S)
         found = {name: (int(number), ' '.join(words.split())) for name, number, words in rows}
         expected = {name: (number, words) for number, (name, words) in enumerate(REFUSALS, 1)}
         expected.update({name: (number, words) for number, (name, words) in enumerate(STEPS, 1)})
