@@ -27,8 +27,8 @@
  *
  * Sizes
  *   A ledger has 1,296 bytes and a cabinet 3,200. The stack that a call in place needs, measured on the longest files: 6 KB on a ledger,
- *   12 KB for a run on it, 12 KB in a slot of a cabinet, 32 KB for a run in a slot. By value it is at most 10 KB more. The other functions
- *   need less than 4 KB.
+ *   15 KB for a run on it, 12 KB in a slot of a cabinet, 34 KB for a run in a slot. By value it is at most 10 KB more. The other functions
+ *   need less than 5 KB.
  *
  * Link with `pkg-config --cflags --libs akubolinfe`. */
 #ifndef AKUBOLINFE_H
