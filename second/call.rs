@@ -285,7 +285,7 @@ impl Call {
         })
     }
 
-    /// Whether a script may hold its numbers: a count that there is, and a value of 32 bits.
+    /// Whether a script may hold its numbers: the index of a count, and a value of 32 bits.
     pub fn numbers_fit(&self) -> bool {
         match self {
             Call::SetCount { index, value } => {

@@ -51,7 +51,7 @@ impl Generator {
         [call_bytes(&call), b"FF".to_vec()].concat()
     }
 
-    /// A count that there is not, or a value of more than 32 bits.
+    /// No index of a count, or a value of more than 32 bits.
     fn no_such_count(&mut self) -> Bytes {
         let (index, value) = self.maker.random.pick(&[
             (TABLE_ENTRIES, 0),

@@ -33,7 +33,7 @@ impl Maker {
         call
     }
 
-    /// With that chance, a file without the record that is due at its end: the record of kind 15 of
+    /// With that chance, a file without the record that must come last: the record of kind 15 of
     /// its last action or of the request, the policy, or the request itself.
     pub fn lose_an_end(&mut self, call: &mut Call, percent: u64) {
         if !self.random.chance(percent) {

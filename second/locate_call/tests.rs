@@ -142,7 +142,7 @@ fn records_in_the_order_of_the_inputs() {
         |request: &[u8], new: &[u8]| numbers(locate_expand(&ledger, &KM0, &group, request, new));
     assert_eq!(place(&narrow, &bad), "2 3 2 0 - 0 -");
     assert_eq!(place(&expand, &bad), "2 4 2 0 - 0 -");
-    // 3 and 12, and an end where a record of kind 15 is due.
+    // 3 and 12, and an end where a record of kind 15 must come next.
     assert_eq!(place(&expand, &group.repeat(65)), "3 4 2 64 - 0 -");
     let mut open = [0; 64];
     (open[0], open[25]) = (5, 1);

@@ -122,7 +122,7 @@ fn faults_of_the_inputs() {
         of_acl(&good_bundle(), &[group(&[open])]),
         "12 0 2 2 1 0 0 - - -"
     );
-    // A suite that there is not, after every record: the policy's, which is the last one.
+    // An unknown suite, after every record: the policy's, which is the last one.
     let mut unknown = good_bundle();
     unknown.policy.suite = 6;
     assert_eq!(of_acl(&unknown, &[]), "11 0 6 2 20 0 0 - - -");

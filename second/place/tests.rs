@@ -63,7 +63,7 @@ fn the_first_bad_record() {
     row(0, &[group, with(1, 1, 1), with(1, 1, 1)], "2 2 1");
     row(0, &[group, record(3), with(2, 4, 1)], "2 2 2");
     row(0, &[group, record(6)], "2 2 1");
-    // Kind 15 is due, and another record stands there; kind 15 where it is not due.
+    // Another record where kind 15 must come next; kind 15 where it must not.
     row(0, &[group, stored_blob(), group], "2 2 2");
     row(0, &[group, record(15)], "2 2 1");
     // One too many: the ninth action, the sixty-fifth group; 2 comes before it.
