@@ -62,9 +62,11 @@ def spread(root):
 
 
 def narrowed(line, text):
-    """The line without what surrounds it, if that stands once in the text."""
-    short = line.strip()
-    return short if text.count(short) == 1 else None
+    """The line without the spaces round it, or with those before it, if that stands once in the text."""
+    for short in (line.strip(), line.rstrip()):
+        if text.count(short) == 1:
+            return short
+    return None
 
 
 def pair_up(old, new):
@@ -98,8 +100,9 @@ def collect(root, to):
             if short is None:
                 pairs = None
                 break
-            lines += [f"old: {short}", f"new: {new.strip()}"]
-            now = now.replace(short, new.strip(), 1)
+            to = new.strip() if short == old.strip() else new.rstrip()
+            lines += [f"old: {short}", f"new: {to}"]
+            now = now.replace(short, to, 1)
         if not pairs:
             print(f"by hand: {path}: " + ("nothing differs" if text == wrong else "no pairs"))
             failed += 1
