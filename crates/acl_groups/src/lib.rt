@@ -1,6 +1,8 @@
 // The walk over an ACL: a group by its index, its records, its limits, its actions in order. Each function is total: it decodes any bytes, whether or not
 // the file was tested. Which kinds are neither a group nor an action is known here alone: other crates walk by next_part and next_action, or ask
 // is_passed_over.
+#![tactic(auto)]
+
 ghost use Rattle.std.specs.Prelude.{◌≤◌, length, ◌≡◌};
 ghost use Rattle.acl_groups.specs.Parts.{passed_over, NextPart, NextAction, GroupAt, FromGroup, GroupBody, FilePart};
 

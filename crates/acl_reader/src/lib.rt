@@ -1,4 +1,6 @@
 // An ACL file: its first fault. Records are read one by one, with a state that says what may come next.
+#![tactic(auto)]
+
 ghost use Rattle.std.specs.Prelude.{◌≡◌, true, ◌≤◌, ◌<◌, length};
 ghost use Rattle.rules.specs.Sizes.{record_bytes, groups_max, limits_max, actions_max};
 ghost use Rattle.rules.specs.Basics.{records};
@@ -13,7 +15,7 @@ use refusals::Refusal;
 // The reader's state: groups begun; of the last group whether it is open (it has no certifier), the limits, the actions; whether a record of kind 15 must
 // come next; and the sort and counter of each limit, sixteen bits for each, the last limit's lowest: one number, which stays in a register, where a row would be
 // stored by two bytes and loaded again by eight. The fields leave no gap, for a gap's bytes would be carried along with them.
-#[derive(Drop)]
+#[derive(Clone, Copy)]
 pub struct State {
     pub groups: u16,
     pub limits: u16,
@@ -24,7 +26,7 @@ pub struct State {
 }
 
 // The result of reading records: the first fault, or none and the state after them.
-#[derive(Drop)]
+#[derive(Clone, Copy)]
 pub struct Read {
     pub place: State,
     pub found: Checked,

@@ -1,5 +1,7 @@
 // attest BUNDLE ACL: prints the desk's verdict on two files, one line. What a failing step or a refusal means, and where it comes from, is said on standard
 // error, in a line each. Where a file cannot be read, or the arguments are not two, it says so in one line on standard error and prints nothing.
+#![tactic(auto)]
+
 use cli_arguments::Input;
 use desk::Verdict;
 use desk_steps::Step;

@@ -1,5 +1,7 @@
 // What a bundle says: a field's content, a signature's outcome, the policy, whether a module key is listed. Each is total: it decodes any
 // bytes, whether or not the file was tested.
+#![tactic(auto)]
+
 ghost use Rattle.std.specs.Prelude.{◌≡◌, ◌<◌, length, replicate};
 ghost use Rattle.rules.specs.Sizes.{record_bytes};
 ghost use Rattle.rules.specs.Basics.{bit, records};
@@ -8,7 +10,7 @@ ghost use Rattle.bundle_facts.specs.Found.{or_empty, signature_as, policy_as};
 ghost use Rattle.bundle_facts.specs.Places.{entries, unasked, entry_of, entered, offsets_of, Found};
 
 // The outcome of a signature that a bundle reports.
-#[derive(Drop)]
+#[derive(Clone, Copy)]
 pub enum Signature {
     Absent,
     Bad,
@@ -16,7 +18,7 @@ pub enum Signature {
 }
 
 // A policy: suite, approach, what it admits, whether a CSR is in use, the lowest protection.
-#[derive(Drop)]
+#[derive(Clone, Copy)]
 pub struct Policy {
     pub suite: u8,
     pub approach: u8,

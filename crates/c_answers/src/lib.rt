@@ -1,5 +1,7 @@
 // The answers of the C surface: what the entry points answer, in plain structs of numbers. Each begins with the refusal, 0 where there is none; what an
 // answer does not carry is zero. The exported functions are in the other crates whose names begin with `c_`.
+#![tactic(auto)]
+
 ghost use Rattle.std.specs.Prelude.{◌≡◌};
 ghost use Rattle.refusals.specs.Refusals.{denial_group};
 ghost use Rattle.text_acl.specs.Answers as answers;
@@ -26,7 +28,7 @@ const NO_GROUP: u32 = 4294967295;
 
 // The answer of the gate: the group that permits, or that came nearest; all ones where none is named.
 #[repr(C)]
-#[derive(Drop)]
+#[derive(Clone, Copy)]
 pub struct HostReply {
     pub refusal: u32,
     pub group: u32,
@@ -34,7 +36,7 @@ pub struct HostReply {
 
 // A reply, with the ledger after the call.
 #[repr(C)]
-#[derive(Drop)]
+#[derive(Clone, Copy)]
 pub struct HostOutcome {
     pub refusal: u32,
     pub group: u32,
@@ -43,7 +45,7 @@ pub struct HostOutcome {
 
 // A reply, with the cabinet after the call.
 #[repr(C)]
-#[derive(Drop)]
+#[derive(Clone, Copy)]
 pub struct HostCabinetOutcome {
     pub refusal: u32,
     pub group: u32,
@@ -52,7 +54,7 @@ pub struct HostCabinetOutcome {
 
 // A verdict: the number of the step that failed, from 1, and what an acceptance names.
 #[repr(C)]
-#[derive(Drop)]
+#[derive(Clone, Copy)]
 pub struct HostVerdict {
     pub refusal: u32,
     pub step: u32,
@@ -63,7 +65,7 @@ pub struct HostVerdict {
 
 // The answer of the subject writer: the length of the subject.
 #[repr(C)]
-#[derive(Drop)]
+#[derive(Clone, Copy)]
 pub struct HostSubject {
     pub refusal: u32,
     pub length: u64,
@@ -71,7 +73,7 @@ pub struct HostSubject {
 
 // The answer of the functions for listings: the number of the first bad line, from 1, and the length of the result.
 #[repr(C)]
-#[derive(Drop)]
+#[derive(Clone, Copy)]
 pub struct HostText {
     pub refusal: u32,
     pub line: u64,
@@ -80,7 +82,7 @@ pub struct HostText {
 
 // The answer of the trimming tool: the number of the step that failed, from 1, and the lengths of the new ACL and of its hints.
 #[repr(C)]
-#[derive(Drop)]
+#[derive(Clone, Copy)]
 pub struct HostTrim {
     pub refusal: u32,
     pub step: u32,

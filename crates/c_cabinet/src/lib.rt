@@ -1,4 +1,6 @@
 // The C surface of a cabinet: its steps as exported functions, by value and in place. A slice is a pointer and a length.
+#![tactic(auto)]
+
 ghost use Rattle.std.specs.Prelude.{◌≡◌};
 ghost use Rattle.rules.specs.Cabinet.{fresh_cabinet, cabinet_load, cabinet_clear, cabinet_request, cabinet_narrow, cabinet_expand};
 ghost use Rattle.cabinet.specs.Kept.{cabinet_as};

@@ -1,5 +1,7 @@
 // The C surface of what has no ledger: the desk, the trimming tool, the subject writer and texts of files as exported functions. A slice is a pointer
 // and a length.
+#![tactic(auto)]
+
 ghost use Rattle.std.specs.Prelude.{◌≡◌};
 ghost use Rattle.rules.specs.Desk.{desk};
 ghost use Rattle.rules.specs.Subject.{subject_reply, subject_buffer};

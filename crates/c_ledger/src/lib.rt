@@ -1,4 +1,6 @@
 // The C surface of a ledger: the steps of the gate as exported functions, by value and in place. A slice is a pointer and a length.
+#![tactic(auto)]
+
 ghost use Rattle.std.specs.Prelude.{◌≡◌};
 ghost use Rattle.rules.specs.Ledger.{fresh_ledger};
 ghost use Rattle.rules.specs.Gate.{load, clear, request, narrow, expand};

@@ -1,4 +1,6 @@
 // The C surface of the desk's reasons: where a verdict that is no acceptance comes from, as an exported function. A slice is a pointer and a length.
+#![tactic(auto)]
+
 ghost use Rattle.std.specs.Prelude.{◌≡◌};
 ghost use Rattle.reason_desk.specs.VerdictPlaces.{verdict_place};
 

@@ -1,5 +1,7 @@
 // The C surface of reasons: where a fault is, as exported functions. A slice is a pointer and a length. What an answer does not name is 0, or all ones
 // where it is an index.
+#![tactic(auto)]
+
 ghost use Rattle.std.specs.Prelude.{◌≡◌};
 ghost use Rattle.refusals.specs.Refusals.{denial_group};
 ghost use Rattle.gate.specs.Outcomes.{ledger_as};
@@ -21,7 +23,7 @@ const UNNAMED: u32 = 4294967295;
 
 // Where the first fault of a file is: its part is 1 the length, 2 a record, 3 the end; the index is the record's, or the number of records.
 #[repr(C)]
-#[derive(Drop)]
+#[derive(Clone, Copy)]
 pub struct HostFilePlace {
     pub refusal: u32,
     pub part: u32,
@@ -30,7 +32,7 @@ pub struct HostFilePlace {
 
 // Where the first fault of a call is.
 #[repr(C)]
-#[derive(Drop)]
+#[derive(Clone, Copy)]
 pub struct HostCallPlace {
     pub refusal: u32,
     pub input: u32,
@@ -42,7 +44,7 @@ pub struct HostCallPlace {
 }
 
 // What breaks a rule, and which item of a group it is.
-#[derive(Drop)]
+#[derive(Clone, Copy)]
 pub struct Reason {
     pub reason: u32,
     pub item: u32,

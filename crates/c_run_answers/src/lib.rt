@@ -1,4 +1,6 @@
 // The answers of the C surface for runs and prepared forms, in plain structs of numbers. Each begins with the refusal, 0 where there is none.
+#![tactic(auto)]
+
 ghost use Rattle.std.specs.Prelude.{◌≡◌};
 ghost use Rattle.rules.specs.Basics.{Bytes};
 ghost use Rattle.run_form.specs.Forms.{form_as, preparation_as};
@@ -15,7 +17,7 @@ use runs::{RunOutcome, RunReply};
 
 // The answer of a run in place: the number of its requests.
 #[repr(C)]
-#[derive(Drop)]
+#[derive(Clone, Copy)]
 pub struct HostRunReply {
     pub refusal: u32,
     pub count: u64,
@@ -23,7 +25,7 @@ pub struct HostRunReply {
 
 // The answer of a run: the number of its requests, and the ledger after it.
 #[repr(C)]
-#[derive(Drop)]
+#[derive(Clone, Copy)]
 pub struct HostRun {
     pub refusal: u32,
     pub count: u64,
@@ -32,7 +34,7 @@ pub struct HostRun {
 
 // A run's reply, and the cabinet after it.
 #[repr(C)]
-#[derive(Drop)]
+#[derive(Clone, Copy)]
 pub struct HostCabinetRun {
     pub refusal: u32,
     pub count: u64,
@@ -41,7 +43,7 @@ pub struct HostCabinetRun {
 
 // The form of an ACL, or the ACL's refusal and the form of no groups.
 #[repr(C)]
-#[derive(Drop)]
+#[derive(Clone, Copy)]
 pub struct HostForm {
     pub refusal: u32,
     pub form: Prepared,

@@ -1,4 +1,6 @@
 // The C surface of runs: runs on a ledger and in a slot of a cabinet, by value and in place, and the form of an ACL. A slice is a pointer and a length.
+#![tactic(auto)]
+
 ghost use Rattle.std.specs.Prelude.{◌≡◌};
 ghost use Rattle.rules.specs.Runs.{run};
 ghost use Rattle.rules.specs.Prepared.{prepare, prepared_run};

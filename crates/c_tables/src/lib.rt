@@ -1,5 +1,7 @@
 // The C surface of a ledger's tables: a request, a narrowing and an expansion that charge the tables and the last time where the host has them, so that nothing is
 // copied. Reply and tables are those of the call by value. A slice is a pointer and a length.
+#![tactic(auto)]
+
 ghost use Rattle.std.specs.Prelude.{◌≡◌};
 ghost use Rattle.rules.specs.Gate.{request, narrow, expand};
 ghost use Rattle.gate_decision.specs.Standings.{ledger_of_tables};

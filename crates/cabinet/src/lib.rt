@@ -1,5 +1,7 @@
 // The cabinet: eight slots, each with its group counts and times, over one table of named counters. A call to a slot is the gate's own call on the
 // slot's counts and times and the shared counters. A call copies one slot's counts out of the cabinet, and lends them and the counters.
+#![tactic(auto)]
+
 ghost use Rattle.std.specs.Prelude.{◌≡◌, ◌<◌, length, ltb};
 ghost use Rattle.rules.specs.Sizes.{groups_max, slots_max};
 ghost use Rattle.rules.specs.Gate.{request, narrow, expand};
@@ -19,7 +21,7 @@ use refusals::Refusal;
 
 // What a slot has of a ledger: group counts, the load time and the last time.
 #[repr(C)]
-#[derive(Drop)]
+#[derive(Clone, Copy)]
 pub struct Slot {
     pub counts: [u32; Ledger::GROUPS],
     pub loaded: u64,
@@ -28,14 +30,14 @@ pub struct Slot {
 
 // The slots and the counters that they share.
 #[repr(C)]
-#[derive(Drop)]
+#[derive(Clone, Copy)]
 pub struct Cabinet {
     pub slots: [Slot; Cabinet::SLOTS],
     pub counters: [u32; Ledger::COUNTERS],
 }
 
 // The cabinet after a call, with the reply.
-#[derive(Drop)]
+#[derive(Clone, Copy)]
 pub struct CabinetOutcome {
     pub cabinet: Cabinet,
     pub reply: Reply,

@@ -1,5 +1,7 @@
 // Runs in a slot of a cabinet: the gate's own run, on the slot's counts and times and the shared counters. The entries, which take the row of
 // certificates, are proved by hand: each reads the row and leaves the rest to one function with plain parameters.
+#![tactic(auto)]
+
 ghost use Rattle.std.specs.Prelude.{◌≡◌, ◌<◌};
 ghost use Rattle.rules.specs.Sizes.{slots_max};
 ghost use Rattle.rules.specs.Basics.{Bytes};
@@ -20,7 +22,7 @@ use run_form::Prepared;
 use runs::{RunOutcome, RunReply};
 
 // The cabinet after a run, with the reply.
-#[derive(Drop)]
+#[derive(Clone, Copy)]
 pub struct CabinetRan {
     pub cabinet: Cabinet,
     pub reply: RunReply,

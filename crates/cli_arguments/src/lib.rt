@@ -1,12 +1,14 @@
 // A program's arguments, and the files that they name. A file that cannot be read is reported in one line on standard error.
 //
 // All but `prefix` only read, or print on standard error, so that they promise nothing.
+#![tactic(auto)]
+
 ghost use Rattle.std.specs.Prelude.{◌≡◌, take};
 
 use libc::STDERR_FILENO;
 
 // What became of a file: how many bytes of it were read, or that it could not be.
-#[derive(Drop)]
+#[derive(Clone, Copy)]
 pub enum Input {
     Read(usize),
     Unreadable,

@@ -1,6 +1,8 @@
 // The kind of file that a program's first argument names. A program that is given one argument fewer means an ACL.
 //
 // Only `kind_of` is proved. `read_arguments` reads them and prints on standard error, so that it promises nothing.
+#![tactic(auto)]
+
 ghost use Rattle.std.specs.Prelude.{◌≡◌};
 ghost use Rattle.cli_kinds.specs.Names.{kind_named};
 
@@ -10,14 +12,14 @@ use text_files::Kind;
 pub const LONGEST: usize = 179000;
 
 // The kind of a name, or that no kind has it.
-#[derive(Drop)]
+#[derive(Clone, Copy)]
 pub enum Named {
     Is(Kind),
     Unknown,
 }
 
 // The arguments: without a kind, with one, or not as the usage has them.
-#[derive(Drop)]
+#[derive(Clone, Copy)]
 pub enum Given {
     Acl,
     Other(Kind),

@@ -1,6 +1,8 @@
 // The words of every refusal number and of every attestation step, and the lines on standard error that have them.
 //
 // The two functions that find words are proved. The others only print, so that they promise nothing.
+#![tactic(auto)]
+
 ghost use Rattle.std.specs.Prelude.{◌≤◌, length};
 ghost use Rattle.desk_steps.specs.Steps.{step_as};
 ghost use Rattle.text_bytes.specs.Putting.{Put};

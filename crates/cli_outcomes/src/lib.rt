@@ -1,5 +1,7 @@
 // Prints what the gate and the cabinet answer: the reply, and the ledger or the slot as it now is. A function that returns a ledger or a cabinet returns the
 // one of its argument. No contract can say what is printed.
+#![tactic(auto)]
+
 ghost use Rattle.std.specs.Prelude.{◌≡◌};
 ghost use Rattle.rules.specs.Ledger.{fresh_ledger};
 ghost use Rattle.rules.specs.Gate.{done};

@@ -1,6 +1,8 @@
 // Prints numbers, tables and bytes on standard output, as the programs show them. Lost output is reported on standard error.
 //
 // All of these only print, so that they promise nothing.
+#![tactic(auto)]
+
 use libc::STDOUT_FILENO;
 
 // Reports once that output is lost: what is printed from here on goes to /dev/null, where nothing is lost.

@@ -6,6 +6,8 @@
 //     field HKNSO is absent
 //     signature warrant is not good
 //     bundle: record 3: a record is malformed or out of place
+#![tactic(auto)]
+
 ghost use Rattle.std.specs.Prelude.{◌≤◌, length};
 
 use desk_steps::Step;

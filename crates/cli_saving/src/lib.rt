@@ -2,6 +2,8 @@
 // renamed. An argument's number says which file is meant. A failure is reported in one line on standard error.
 //
 // These functions call the system, so that no contract says what becomes of the files; `checks/programs` tries it.
+#![tactic(auto)]
+
 ghost use Rattle.std.specs.Prelude.{◌≡◌, ◌+◌, ◌≤◌, length};
 ghost use Rattle.libc.specs.Io.{Ended};
 ghost use Rattle.io.specs.Counts.{IsPrefixLen};

@@ -1,5 +1,7 @@
 // The day program: `day KM0 ACL REQUESTS`, three file names. It starts with a fresh ledger loaded at 0 and prints a line for each request record; a bad
 // file or record, or too many records, print `0 refuse N` alone, and standard error says which file it is and what N means.
+#![tactic(auto)]
+
 use cli_arguments::Input;
 use files::Checked;
 use gate::Ledger;

@@ -1,4 +1,6 @@
 // The day program's files: a KM0 hash, an ACL, and request records without certificates. Their first fault.
+#![tactic(auto)]
+
 ghost use Rattle.std.specs.Prelude.{◌≡◌};
 ghost use Rattle.rules.specs.Basics.{each_fault, records};
 ghost use Rattle.rules.specs.Request.{request_record_fault};

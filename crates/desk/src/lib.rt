@@ -1,4 +1,6 @@
 // The desk: the verdict on a bundle file and an ACL file.
+#![tactic(auto)]
+
 ghost use Rattle.std.specs.Prelude.{◌≡◌, ◌≤◌, replicate};
 ghost use Rattle.std.proofs.Math.Option.{none};
 ghost use Rattle.rules.specs.Basics.{or_next, records};
@@ -19,7 +21,7 @@ use refusals::Refusal;
 use suites::Lookup;
 
 // How well a key is protected: the weakest way in which its ACL lets it be kept. Approach 1 judges none.
-#[derive(Drop)]
+#[derive(Clone, Copy)]
 pub enum Protection {
     NotJudged,
     Module,
@@ -29,7 +31,7 @@ pub enum Protection {
 }
 
 // What an acceptance names. Approach 1 judges neither protection nor recoverability: NotJudged, and false.
-#[derive(Drop)]
+#[derive(Clone, Copy)]
 pub struct Acceptance {
     pub approach: u8,
     pub protection: Protection,
@@ -37,7 +39,7 @@ pub struct Acceptance {
 }
 
 // The desk's answer: an acceptance, the first failing step, or why the files were not judged.
-#[derive(Drop)]
+#[derive(Clone, Copy)]
 pub enum Verdict {
     Accepted(Acceptance),
     Failed(Step),

@@ -1,5 +1,7 @@
 // One action of an ACL: the attestation step that it fails, its protection. Each function decodes any bytes,
 // whether or not the file was tested. A record of kind 15 after the action changes nothing here.
+#![tactic(auto)]
+
 ghost use Rattle.std.specs.Prelude.{◌≡◌, ◌+◌, ◌≤◌, ◌<◌, length};
 ghost use Rattle.std.proofs.Math.Option.{Option, none};
 ghost use Rattle.rules.specs.Sizes.{record_bytes, hash_bytes};
@@ -26,7 +28,7 @@ const BY_CARDSET: u8 = 3;
 pub const NOT_KEPT: u8 = 4;
 
 // What a permission lets its holder do with the key.
-#[derive(Drop)]
+#[derive(Clone, Copy)]
 enum Class {
     Harmless,
     Signature,

@@ -1,5 +1,7 @@
 // What a bundle gives evidence of: fields that are present and equal, signatures that are good, and the keys that world certificates vouch for. A hash that
 // may be absent is a part of the bundle, empty where there is none.
+#![tactic(auto)]
+
 ghost use Rattle.std.specs.Prelude.{◌≡◌, ◌&&◌, ◌||◌, ◌<◌};
 ghost use Rattle.rules.specs.Basics.{present, both_same, records};
 ghost use Rattle.rules.specs.Bundle.{field, has_field, reported, is_good, good, policy_of};

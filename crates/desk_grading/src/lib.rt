@@ -1,4 +1,6 @@
 // An ACL at the desk: the first step that it fails, the key's protection, whether the key is recoverable. One walk through the ACL finds all three.
+#![tactic(auto)]
+
 ghost use Rattle.std.specs.Prelude.{◌≡◌, min, length};
 ghost use Rattle.std.proofs.Math.Option.{Option};
 ghost use Rattle.rules.specs.Sizes.{record_bytes};
@@ -14,7 +16,7 @@ use bundle_facts::Policy;
 use desk_steps::Failure;
 
 // The grade of an ACL, or of a part of it.
-#[derive(Drop)]
+#[derive(Clone, Copy)]
 pub struct Grade {
     pub failure: Failure,
     pub protection: u8,

@@ -1,4 +1,6 @@
 // The attestation steps that look at a bundle alone. A run of steps answers with the first that fails.
+#![tactic(auto)]
+
 ghost use Rattle.std.specs.Prelude.{◌≡◌};
 ghost use Rattle.rules.specs.Basics.{or_next, records};
 ghost use Rattle.rules.specs.Bundle.{policy_of};
@@ -10,7 +12,7 @@ ghost use Rattle.desk_steps.specs.Steps.{step_as, step_number, failure_as, warra
 use bundle_facts::Policy;
 
 // The steps that can fail, by their names in document 01.
-#[derive(Drop)]
+#[derive(Clone, Copy)]
 pub enum Step {
     WV1,
     MSCV1,
@@ -36,7 +38,7 @@ pub enum Step {
 }
 
 // What a run of steps finds: that none fails, or the first that does.
-#[derive(Drop)]
+#[derive(Clone, Copy)]
 pub enum Failure {
     Nothing,
     At(Step),

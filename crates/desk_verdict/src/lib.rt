@@ -1,4 +1,6 @@
 // A verdict of the desk as a line of text: `accept 1`, `accept 2 protection P recoverable yes` or `no`, `fail STEP`, `refuse N`.
+#![tactic(auto)]
+
 ghost use Rattle.std.specs.Prelude.{◌+◌, ◌≤◌, length};
 ghost use Rattle.refusals.specs.Refusals.{refusal_number};
 ghost use Rattle.desk_steps.specs.Steps.{step_as};

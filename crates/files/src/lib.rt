@@ -1,4 +1,6 @@
 // What every reader of a file answers with, and the test of a file's length.
+#![tactic(auto)]
+
 ghost use Rattle.std.specs.Prelude.{◌≡◌, ◌≤◌};
 ghost use Rattle.rules.specs.Basics.{fits, or_next};
 ghost use Rattle.files.specs.Faults.{fault_as};
@@ -6,7 +8,7 @@ ghost use Rattle.files.specs.Faults.{fault_as};
 use refusals::Refusal;
 
 // What a reader finds: no fault, or the first one.
-#[derive(Drop)]
+#[derive(Clone, Copy)]
 pub enum Checked {
     Sound,
     Refused(Refusal),

@@ -1,4 +1,6 @@
 // The gate: the ledger, and the calls that take it by value and return it.
+#![tactic(auto)]
+
 ghost use Rattle.std.specs.Prelude.{◌≡◌};
 ghost use Rattle.rules.specs.Acl.{acl_of};
 ghost use Rattle.rules.specs.Request.{request_of, hints_of};
@@ -17,7 +19,7 @@ use refusals::Refusal;
 // What was used: a count for each group, the named counters, the load time and the last time, in seconds. It is laid out as C lays it out, so that a
 // host's program can hold it.
 #[repr(C)]
-#[derive(Drop)]
+#[derive(Clone, Copy)]
 pub struct Ledger {
     pub counts: [u32; Ledger::GROUPS],
     pub counters: [u32; Ledger::COUNTERS],
@@ -26,7 +28,7 @@ pub struct Ledger {
 }
 
 // The ledger after a call, with the reply.
-#[derive(Drop)]
+#[derive(Clone, Copy)]
 pub struct Outcome {
     pub ledger: Ledger,
     pub reply: Reply,

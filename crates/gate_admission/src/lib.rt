@@ -1,4 +1,6 @@
 // Whether an action admits a request, and whether a group does: one of its actions has to. Each function decodes any bytes.
+#![tactic(auto)]
+
 ghost use Rattle.std.specs.Prelude.{◌≡◌, length};
 ghost use Rattle.std.proofs.Math.Option.{Option};
 ghost use Rattle.rules.specs.Sizes.{record_bytes};

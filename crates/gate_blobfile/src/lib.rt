@@ -1,5 +1,7 @@
 // What blobfile, the record of kind 15, says of an action: against what a request's says, and against what that of an older action says. Each function
 // decodes any bytes.
+#![tactic(auto)]
+
 ghost use Rattle.std.specs.Prelude.{◌≡◌, length};
 ghost use Rattle.rules.specs.Sizes.{record_bytes};
 ghost use Rattle.rules.specs.Basics.{records};

@@ -1,6 +1,8 @@
 // Chains of delegations. The certificates of a request file and its delegations are lent apart; records of another kind in either part are passed over.
 // A set of delegations is a number, bit i for the i-th. What leads to where is found once for a request: for each delegation the set of those that lead
 // to its start, and for each certificate the set of those that lead to its key. A group is then certified by these sets alone.
+#![tactic(auto)]
+
 ghost use Rattle.std.specs.Prelude.{◌≡◌, [], ◌≤◌, not, ◌&&◌, ◌||◌, eqb, length};
 ghost use Rattle.std.proofs.Math.Option.{Option};
 ghost use Rattle.std.specs.Int.Bits.{bit_and};

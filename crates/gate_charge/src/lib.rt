@@ -1,4 +1,6 @@
 // Replies: the reply to a judgement, and what a reply charges, on lent tables that are changed in place.
+#![tactic(auto)]
+
 ghost use Rattle.std.specs.Prelude.{◌≡◌, true, ◌<◌, length, get_or};
 ghost use Rattle.rules.specs.Sizes.{groups_max, counters_max, full_count};
 ghost use Rattle.rules.specs.Basics.{records};
@@ -10,7 +12,7 @@ use gate_decision::Judged;
 use refusals::{Denial, Refusal};
 
 // What the gate answers: a load or a clear is done, a group permits, what was given is refused, or judging denies.
-#[derive(Drop)]
+#[derive(Clone, Copy)]
 pub enum Reply {
     Done,
     Permit(usize),

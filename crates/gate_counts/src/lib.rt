@@ -1,4 +1,6 @@
 // The group counts that a narrowing and an expansion leave.
+#![tactic(auto)]
+
 ghost use Rattle.std.specs.Prelude.{◌≡◌, length, get_or, set};
 ghost use Rattle.rules.specs.Sizes.{groups_max};
 ghost use Rattle.rules.specs.Request.{hints_of};

@@ -1,5 +1,7 @@
 // Judging a request on an ACL: whether a group is unspent, the lowest group that admits, is certified and unspent, and else how far the groups come.
 // The functions take the ledger's tables and times, not the ledger; they decode any bytes.
+#![tactic(auto)]
+
 ghost use Rattle.std.specs.Prelude.{◌≡◌, [], ◌≤◌, length, get_or};
 ghost use Rattle.rules.specs.Sizes.{record_bytes};
 ghost use Rattle.rules.specs.Basics.{records};
@@ -17,7 +19,7 @@ use refusals::Denial;
 const FULL: u32 = 4294967295;
 
 // How far a group comes: it does not admit; it admits; it admits and is certified; it admits, is certified and unspent.
-#[derive(Drop)]
+#[derive(Clone, Copy)]
 enum GroupResult {
     NotAdmitting,
     Admitting,
@@ -26,7 +28,7 @@ enum GroupResult {
 }
 
 // The nearest that came before: no group; the lowest that admits; the lowest that admits and is certified.
-#[derive(Drop)]
+#[derive(Clone, Copy)]
 enum Nearest {
     Nothing,
     Admitting(usize),
@@ -34,7 +36,7 @@ enum Nearest {
 }
 
 // The judgement: the group that grants, or why none does.
-#[derive(Drop)]
+#[derive(Clone, Copy)]
 pub enum Judged {
     Granted(usize),
     Denied(Denial),

@@ -1,4 +1,6 @@
 // The first fault of a call's files.
+#![tactic(auto)]
+
 ghost use Rattle.std.specs.Prelude.{◌≡◌};
 ghost use Rattle.rules.specs.Gate.{lengths_fit, request_files, narrow_files, expand_files};
 ghost use Rattle.files.specs.Faults.{fault_as};

@@ -1,5 +1,7 @@
 // The gate's calls on a ledger that stays where the host has it: its tables and its last time are lent, and are charged there, so that nothing is copied.
 // Reply and tables after a call are those of the call by value.
+#![tactic(auto)]
+
 ghost use Rattle.std.specs.Prelude.{◌≡◌};
 ghost use Rattle.rules.specs.Acl.{acl_of};
 ghost use Rattle.rules.specs.Request.{request_of};

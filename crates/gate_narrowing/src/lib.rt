@@ -1,4 +1,6 @@
 // Whether hints show that a new ACL is a narrowing of an old one. Each function decodes any bytes; the files need not have been tested.
+#![tactic(auto)]
+
 ghost use Rattle.std.specs.Prelude.{◌≡◌, ◌-◌, ◌≤◌, ◌<◌, true, length, drop, get_or};
 ghost use Rattle.std.proofs.Math.ListN.{get_elem?};
 ghost use Rattle.rules.specs.Sizes.{record_bytes};

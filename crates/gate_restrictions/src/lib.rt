@@ -1,5 +1,7 @@
 // Restrictions of a new record against an old one: what the old one restricts is kept, tightened or added to. Each function decodes any
 // bytes.
+#![tactic(auto)]
+
 ghost use Rattle.std.specs.Prelude.{◌≡◌, ◌+◌, ◌≤◌, ◌<◌, ◌&&◌, length};
 ghost use Rattle.std.proofs.Math.Option.{Option};
 ghost use Rattle.rules.specs.Sizes.{record_bytes, hash_bytes};

@@ -1,5 +1,7 @@
 // list [KIND] FILE: prints the text of a file (docs/TEXT.md). A file that is not valid gives `FILE: refuse N: WORDS` on standard error, and prints
 // nothing.
+#![tactic(auto)]
+
 use cli_arguments::Input;
 use cli_kinds::Given;
 use text_acl::Reply;

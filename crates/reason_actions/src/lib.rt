@@ -1,5 +1,7 @@
 // Which action of an ACL the desk's steps fail at: the first in record order, by the indices of its group and of itself among the group's actions. Each
 // function decodes whatever bytes a record has; the file may or may not have been tested.
+#![tactic(auto)]
+
 ghost use Rattle.std.specs.Prelude.{◌≡◌, ◌<◌, length};
 ghost use Rattle.std.proofs.Math.Option.{Option, none};
 ghost use Rattle.rules.specs.Sizes.{record_bytes};
@@ -15,7 +17,7 @@ use bundle_facts::Policy;
 use desk_steps::Failure;
 
 // The group and the action, and the permission that the policy does not admit; all ones where none is named.
-#[derive(Drop)]
+#[derive(Clone, Copy)]
 pub struct Spot {
     pub group: u32,
     pub action: u32,

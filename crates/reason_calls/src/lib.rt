@@ -1,5 +1,7 @@
 // Where the first fault of a call is: the input and the record that is at fault; for 7 the limit that is spent; for 8 what breaks the narrowing. The
 // functions take the bytes of the call that they explain and change nothing.
+#![tactic(auto)]
+
 ghost use Rattle.std.specs.Prelude.{◌≡◌, ◌-◌, get_or};
 ghost use Rattle.rules.specs.Acl.{acl_of};
 ghost use Rattle.rules.specs.Request.{request_of};
@@ -17,7 +19,7 @@ use refusals::Denial;
 
 // Where the first fault of a call is: it is permitted; an input is at fault; it is denied, and what is spent; the hints show no narrowing, by the index of a
 // new group.
-#[derive(Drop)]
+#[derive(Clone, Copy)]
 pub enum CallPlace {
     Permitted,
     BadInput(Input, FilePlace),

@@ -1,5 +1,7 @@
 // Where a verdict that is no acceptance comes from: for a failing step the field or signature, or the group and the action; for a refusal the input and its
 // record.
+#![tactic(auto)]
+
 ghost use Rattle.std.specs.Prelude.{◌≡◌, ◌<◌, length};
 ghost use Rattle.rules.specs.Basics.{records};
 ghost use Rattle.rules.specs.Acl.{acl_of};
@@ -21,7 +23,7 @@ use text_files::Kind;
 // Where a verdict comes from. Refusal and step are the desk's, 0 where there is none. What is not named is 0 (input, part, what, number) or all ones
 // (index, group, action, permission).
 #[repr(C)]
-#[derive(Drop)]
+#[derive(Clone, Copy)]
 pub struct VerdictPlace {
     pub refusal: u32,
     pub step: u32,
@@ -36,7 +38,7 @@ pub struct VerdictPlace {
 }
 
 // Where in its input a fault is.
-#[derive(Drop)]
+#[derive(Clone, Copy)]
 pub struct Site {
     pub input: u32,
     pub part: u32,

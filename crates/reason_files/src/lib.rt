@@ -1,4 +1,6 @@
 // Where the first fault of a file is: its length, a record, or its end.
+#![tactic(auto)]
+
 ghost use Rattle.std.specs.Prelude.{◌≡◌, not};
 ghost use Rattle.rules.specs.Basics.{present, records};
 ghost use Rattle.rules.specs.Acl.{acl_start};
@@ -14,7 +16,7 @@ use text_states::State;
 
 // Where the first fault is: there is none; the length, which gives 1; a record, with the refusal and its index from 0; the end, where a record is missing,
 // with the refusal and the number of records.
-#[derive(Drop)]
+#[derive(Clone, Copy)]
 pub enum FilePlace {
     Sound,
     Length,

@@ -1,4 +1,6 @@
 // Which input of a call is at fault, and where: a bad length of any input comes before other faults, and these come in the order of the inputs.
+#![tactic(auto)]
+
 ghost use Rattle.std.specs.Prelude.{◌≡◌, length};
 ghost use Rattle.rules.specs.Sizes.{record_bytes};
 ghost use Rattle.rules.specs.Basics.{records};
@@ -18,7 +20,7 @@ const REDUCE_ACL: u8 = 2;
 const EXPAND_ACL: u8 = 12;
 
 // The inputs of a call, in the order of their numbers.
-#[derive(Drop)]
+#[derive(Clone, Copy)]
 pub enum Input {
     Nothing,
     Km0,
@@ -29,7 +31,7 @@ pub enum Input {
 }
 
 // An input, and where its first fault is.
-#[derive(Drop)]
+#[derive(Clone, Copy)]
 pub struct InputPlace {
     pub input: Input,
     pub place: FilePlace,

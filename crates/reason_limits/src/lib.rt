@@ -1,4 +1,6 @@
 // The first limit of a group that is spent.
+#![tactic(auto)]
+
 ghost use Rattle.std.specs.Prelude.{◌≡◌, length, get_or};
 ghost use Rattle.rules.specs.Sizes.{record_bytes};
 ghost use Rattle.rules.specs.Basics.{records};
@@ -7,7 +9,7 @@ ghost use Rattle.rules.specs.Grant.{limit_left};
 ghost use Rattle.reason_limits.specs.Limits.{spent_with};
 
 // What is spent of the group that a refusal 7 names: the first of its limits that is, by its index, or its own count is full. Nothing for another refusal.
-#[derive(Drop)]
+#[derive(Clone, Copy)]
 pub enum SpentBy {
     Nothing,
     Limit(usize),

@@ -1,5 +1,7 @@
 // What breaks a narrowing: the first new group that its hint does not show to be narrower, and the first test that it fails. Each function decodes any
 // bytes; the files need not have been tested.
+#![tactic(auto)]
+
 ghost use Rattle.std.specs.Prelude.{◌≡◌, ◌≤◌, ◌<◌, length, get_or};
 ghost use Rattle.std.proofs.Math.ListN.{get_elem?};
 ghost use Rattle.rules.specs.Sizes.{record_bytes};
@@ -12,7 +14,7 @@ ghost use Rattle.reason_narrowing.specs.Breaches.{actions_named, first_wider, wi
 
 // The first test that a new group fails: none; its hint; the certifier or mechanism of its source; a limit of the source, by its index; an action of the
 // new group, by its index.
-#[derive(Drop)]
+#[derive(Clone, Copy)]
 pub enum Breach {
     Nothing,
     Hint,
@@ -22,7 +24,7 @@ pub enum Breach {
 }
 
 // Whether hints show a narrowing; else the index of the first new group that breaks it, or the number of new groups where a hint is left over.
-#[derive(Drop)]
+#[derive(Clone, Copy)]
 pub enum Narrowing {
     Shown,
     Broken(usize, Breach),

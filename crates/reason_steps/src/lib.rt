@@ -1,5 +1,7 @@
 // What fails an attestation step that looks at a bundle: the first signature or field, in the order in which document 01 names them, that is absent, not
 // good or not equal to what it must equal.
+#![tactic(auto)]
+
 ghost use Rattle.std.specs.Prelude.{◌≡◌, [], ◌∷◌, ◌<◌};
 ghost use Rattle.std.proofs.Math.Option.{none};
 ghost use Rattle.rules.specs.Basics.{first_fault, records};
@@ -11,7 +13,7 @@ ghost use Rattle.reason_steps.specs.Defects.{named, first_named, signature_test,
 use desk_steps::Step;
 
 // What is wrong with a signature or a field, and its number; both zero where nothing is named.
-#[derive(Drop)]
+#[derive(Clone, Copy)]
 pub struct Defect {
     pub what: u32,
     pub number: u32,

@@ -1,5 +1,7 @@
 // The bytes of a record: tests of zero and of equality, big-endian numbers, flags, token parameters. Nothing here knows a kind of record;
 // each contract is a definition of the crate rules over an offset and a length.
+#![tactic(auto)]
+
 ghost use Rattle.std.specs.Prelude.{◌≡◌, ◌+◌, ◌*◌, ◌≤◌, ◌<◌, length, eqb};
 ghost use Rattle.rules.specs.Basics.{all_zero, same, bit, bit_count, within, part, number, blank, flag};
 ghost use Rattle.rules.specs.Layout.{token_parameters_at};

@@ -1,5 +1,7 @@
 // The layout of each kind of record, over the record's 64 bytes. A caller looks at the kind, byte 0, and calls the test of that kind. The tests of the
 // kinds that an ACL has most of end at the first fault: a test and a jump cost less than joining the answers.
+#![tactic(auto)]
+
 ghost use Rattle.std.specs.Prelude.{◌≡◌, ◌+◌, ◌≤◌, ◌<◌, length};
 ghost use Rattle.rules.specs.Sizes.{record_bytes};
 ghost use Rattle.rules.specs.Basics.{within};

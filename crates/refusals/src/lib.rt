@@ -1,10 +1,12 @@
 // Why the product says no: a refusal of what it is given, or a denial of judging. Every reader and every entry point answers with these.
+#![tactic(auto)]
+
 ghost use Rattle.std.specs.Prelude.{◌≡◌};
 ghost use Rattle.refusals.specs.Refusals.{refusal_number, denial_number};
 
 // A refusal of files, buffers and numbers; refusalNumber gives its number in document 01's table, with those that document 02 adds. It never names a
 // group.
-#[derive(Drop)]
+#[derive(Clone, Copy)]
 pub enum Refusal {
     BadLength,
     Malformed,
@@ -20,7 +22,7 @@ pub enum Refusal {
 
 // Why no group grants: the time goes back; none admits; none that admits is certified, with the lowest that admits; none of those is unspent, with the
 // lowest that admits and is certified. denialNumber gives its number in document 01's table, denialGroup the group that came nearest.
-#[derive(Drop)]
+#[derive(Clone, Copy)]
 pub enum Denial {
     ClockBack,
     NotAdmitted,

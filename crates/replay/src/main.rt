@@ -1,5 +1,7 @@
 // Drives every entry point from a script on standard input and prints one line for each call (docs/REPLAY.md). One ledger and one cabinet go from call to
 // call; memory is fixed, so that a script may be of any length.
+#![tactic(auto)]
+
 ghost use Rattle.std.specs.Prelude.{◌≡◌, ◌<◌, ◌≤◌, length};
 
 use cabinet::Cabinet;
@@ -7,7 +9,7 @@ use gate::Ledger;
 use replay_script::{Call, Next, prefix};
 
 // What is carried from call to call, and whether the run goes on.
-#[derive(Drop)]
+#[derive(Clone, Copy)]
 struct State {
     ledger: Ledger,
     cabinet: Cabinet,

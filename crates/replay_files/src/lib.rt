@@ -1,5 +1,7 @@
 // The calls of a replay script (docs/REPLAY.md) that know of no ledger: the desk, the subject writer, the texts and the trimming tool. Each makes the
 // call and prints its line; what writes into lent buffers leaves them as the definition has it. No contract can say what is printed.
+#![tactic(auto)]
+
 ghost use Rattle.std.specs.Prelude.{◌≡◌};
 ghost use Rattle.rules.specs.Trim.{trim_acl_buffer, trim_hint_buffer};
 ghost use Rattle.replay_files.specs.Letters.{buffer_after};

@@ -1,5 +1,7 @@
 // The calls of a replay script (docs/REPLAY.md) on the ledger and on the cabinet, by their letters. Each makes the call, prints its line and returns the
 // ledger or the cabinet: that of the letter's definition. No contract can say what is printed.
+#![tactic(auto)]
+
 ghost use Rattle.std.specs.Prelude.{◌≡◌};
 ghost use Rattle.gate.specs.Outcomes.{ledger_as, outcome_as};
 ghost use Rattle.cabinet.specs.Kept.{cabinet_as, cabinet_outcome_as};

@@ -1,5 +1,7 @@
 // A row of certificates that is given as bytes, decoded and lent to a run as a host lends its own. The functions that lend it are proved by hand: each is
 // one call.
+#![tactic(auto)]
+
 ghost use Rattle.std.specs.Prelude.{◌≡◌, ◌+◌, ◌≤◌, List, length, take};
 ghost use Rattle.rules.specs.Sizes.{hash_bytes, certificates_max};
 ghost use Rattle.rules.specs.Request as rules;

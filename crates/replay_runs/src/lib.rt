@@ -1,6 +1,8 @@
 // The calls of a replay script (docs/REPLAY.md) that run many requests on the ledger or in a slot of the cabinet, and the call that prepares an ACL for
 // them. Each makes the call and prints its line; a run returns the ledger or the cabinet, and leaves the buffer, of its letter's definition. No contract
 // can say what is printed.
+#![tactic(auto)]
+
 ghost use Rattle.std.specs.Prelude.{◌≡◌, length};
 ghost use Rattle.rules.specs.Sizes.{permissions_max};
 ghost use Rattle.gate.specs.Outcomes.{ledger_as};

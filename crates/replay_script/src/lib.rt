@@ -1,5 +1,7 @@
 // Reads the calls of a replay script (docs/REPLAY.md) from standard input: a letter, then the numbers and the runs of bytes that its call takes. In every
 // call the numbers come first, two at most, then a form, if the call takes one, so that one walk reads them all. No contract can say what is read.
+#![tactic(auto)]
+
 ghost use Rattle.std.specs.Prelude.{◌≡◌, ◌||◌, ◌≤◌, length, take, eqb};
 
 use libc::STDIN_FILENO;
@@ -11,21 +13,21 @@ pub const MOST: usize = 262144;
 pub const FORM: usize = 144;
 
 // An argument that was read: its value or its length; or the script ended, or the length is too great.
-#[derive(Drop)]
+#[derive(Clone, Copy)]
 enum Argument {
     Is(u64),
     Missing,
 }
 
 // The lengths of three runs of bytes that were read.
-#[derive(Drop)]
+#[derive(Clone, Copy)]
 enum Lengths {
     Are(u64, u64, u64),
     Missing,
 }
 
 // A call: its letter, its numbers, and the lengths of its runs of bytes; zero for those that it does not take.
-#[derive(Drop)]
+#[derive(Clone, Copy)]
 pub struct Call {
     pub letter: u8,
     pub first: u64,
@@ -38,7 +40,7 @@ pub struct Call {
 }
 
 // The next item of a script: a call; something that cannot be read; or the end, which may come between two calls.
-#[derive(Drop)]
+#[derive(Clone, Copy)]
 pub enum Next {
     Is(Call),
     Stop,

@@ -1,4 +1,6 @@
 // A request file with what is presented, and a hints file: their first faults; a request's time, and where its delegations begin.
+#![tactic(auto)]
+
 ghost use Rattle.std.specs.Prelude.{◌≡◌, length};
 ghost use Rattle.rules.specs.Sizes.{record_bytes};
 ghost use Rattle.rules.specs.Basics.{records};

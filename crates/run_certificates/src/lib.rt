@@ -1,5 +1,7 @@
 // A lent row of decoded certificates. The functions that take the row are proved by hand: they walk it, or hand it on, and leave the rest to functions
 // with plain parameters.
+#![tactic(auto)]
+
 ghost use Rattle.std.specs.Prelude.{◌≡◌, not, ◌&&◌, ◌||◌, ◌+◌, ◌-◌, ◌*◌, ◌%◌, ◌≤◌, length, take};
 ghost use Rattle.rules.specs.Sizes.{record_bytes, hash_bytes, set_bits};
 ghost use Rattle.rules.specs.Basics.{all, any, same, flag, optional, matches_number};
@@ -9,7 +11,7 @@ ghost use Rattle.run_certificates.specs.Rows.{certificate_as, row_as, record_bef
 
 // A decoded certificate: the hash of its key, and its mechanism. It is laid out as C lays it out, so that a host's program can lend a row of them.
 #[repr(C)]
-#[derive(Drop)]
+#[derive(Clone, Copy)]
 pub struct Certificate {
     pub hash: [u8; record_sizes::HASH],
     pub mechanism: u16,
@@ -94,7 +96,7 @@ fn presented(row: &[Certificate], acl: &[u8], end: usize) -> bool
 
 // The state of the loop that makes the set of certified groups, from the last group to the first: the end of the next group's record, 0 if there is
 // none; and the set of those after it.
-#[derive(Drop)]
+#[derive(Clone, Copy)]
 struct Marking {
     end: usize,
     set: u64,
@@ -169,7 +171,7 @@ fn certified_groups(acl: &[u8], row: &[Certificate]) -> u64
 }
 
 // What a run knows of its row: how many certificates it has, whether every one names a mechanism, and the groups that they certify.
-#[derive(Drop)]
+#[derive(Clone, Copy)]
 pub struct RowSummary {
     pub count: usize,
     pub named: bool,

@@ -1,5 +1,7 @@
 // The judgement of one request record of a run by sets of groups: the groups that admit it, by the form's sets, and those that are certified; of the
 // groups in both the lowest that is unspent, or how far the groups come. A set is walked by its lowest member.
+#![tactic(auto)]
+
 ghost use Rattle.std.specs.Prelude.{◌≡◌, ◌≤◌, ◌<◌, ◌+◌, ◌-◌, ◌^◌, length, get_or, true};
 ghost use Rattle.std.proofs.Math.Option.{none};
 ghost use Rattle.std.specs.Int.Count.{count_trailing_zeros};
@@ -21,7 +23,7 @@ use refusals::Denial;
 
 // The sets of groups that a run uses, beside those of the permissions: the groups with an action for working blobs and for recovery blobs, by the
 // form, and those that are certified.
-#[derive(Drop)]
+#[derive(Clone, Copy)]
 pub struct Sets {
     pub working: u64,
     pub recovery: u64,
@@ -30,14 +32,14 @@ pub struct Sets {
 
 // What a walk over groups finds: the place of the lowest that is unspent, past the last place where none is; and the unspent groups without those that it
 // found spent.
-#[derive(Drop)]
+#[derive(Clone, Copy)]
 struct First {
     place: usize,
     still: u64,
 }
 
 // A judgement, and the unspent groups without those that it found spent.
-#[derive(Drop)]
+#[derive(Clone, Copy)]
 pub struct Chosen {
     pub judged: Judged,
     pub still: u64,

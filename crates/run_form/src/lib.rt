@@ -1,6 +1,8 @@
 // What a run makes of an ACL once. The prepared form: for each permission the groups with an action that sets its bit, for each blob kind those with an
 // action for it; each a set of groups, bit g for group g, made in one pass over the records, from the last to the first. And where the groups stand: for
 // each the byte at which the records begin that follow the group's first one, so that a group's limits and actions are read without a walk.
+#![tactic(auto)]
+
 ghost use Rattle.std.specs.Prelude.{◌≡◌, ◌≤◌, ◌<◌, ◌+◌, ◌*◌, length, set};
 ghost use Rattle.rules.specs.Sizes.{set_bits, permissions_max, groups_max};
 ghost use Rattle.rules.specs.Basics.{Every, same, records};
@@ -15,7 +17,7 @@ use refusals::Refusal;
 
 // The sets of groups of an ACL. It is laid out as C lays it out, so that a host's program can hold it.
 #[repr(C)]
-#[derive(Drop)]
+#[derive(Clone, Copy)]
 pub struct Prepared {
     pub uses: [u64; record_sizes::PERMISSIONS],
     pub working: u64,
@@ -23,7 +25,7 @@ pub struct Prepared {
 }
 
 // What is answered where a form is asked for: the ACL's own refusal, if any, and the form; with a refusal, the form of no groups.
-#[derive(Drop)]
+#[derive(Clone, Copy)]
 pub struct Preparation {
     pub fault: Checked,
     pub form: Prepared,

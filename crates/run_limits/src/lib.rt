@@ -1,6 +1,8 @@
 // The limits of the groups of an ACL, decoded once for a run: a table of numbers, with a row of eight for each group. A row begins with the bound of the group's own count,
 // the last second since load at which the group grants, and how many counters its limits name; a word for each of these follows, with its maximum and its
 // number. A run tests and charges a group by its row.
+#![tactic(auto)]
+
 ghost use Rattle.std.specs.Prelude.{◌≡◌, ◌≤◌, ◌<◌, ◌+◌, ◌*◌, ◌%◌, min, length, get_or, take, drop, set, ltb};
 ghost use Rattle.std.proofs.Math.Option.{none};
 ghost use Rattle.rules.specs.Sizes.{record_bytes, groups_max, limits_max, counters_max, full_count};
@@ -89,7 +91,7 @@ fn put_named(
 }
 
 // What is known of a row before all limits of its group are read: the bound, the last second, and how many words are put.
-#[derive(Drop)]
+#[derive(Clone, Copy)]
 struct Row {
     bound: u64,
     last: u64,

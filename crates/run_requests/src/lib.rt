@@ -1,5 +1,7 @@
 // The requests of a run one after the other: the test of a record, the judgement, the charge in place on the lent tables, and the answer of eight
 // bytes.
+#![tactic(auto)]
+
 ghost use Rattle.std.specs.Prelude.{◌≡◌, ◌≤◌, ◌<◌, ◌+◌, ◌-◌, ◌*◌, ◌/◌, length, leb};
 ghost use Rattle.rules.specs.Sizes.{record_bytes, answer_bytes, groups_max, counters_max, prepared_records};
 ghost use Rattle.rules.specs.Numbers.{malformed};
@@ -25,7 +27,7 @@ use run_decision::Sets;
 const NO_GROUP: u32 = 4294967295;
 
 // What becomes of one request: its answer, and the last time after it; and the groups that were looked at without those found spent.
-#[derive(Drop)]
+#[derive(Clone, Copy)]
 struct Answered {
     number: u32,
     group: u32,
@@ -34,7 +36,7 @@ struct Answered {
 }
 
 // The state between two requests: the last answer, the last time, and the groups that still have to be looked at, from which time on.
-#[derive(Drop)]
+#[derive(Clone, Copy)]
 struct Turn {
     number: u32,
     group: u32,

@@ -1,5 +1,7 @@
 // Runs over a lent row of decoded certificates. The entries, which take the row, are proved by hand: each reads the row and leaves the rest to one
 // function with plain parameters.
+#![tactic(auto)]
+
 ghost use Rattle.std.specs.Prelude.{◌≡◌, ◌≤◌, ◌*◌, length, leb};
 ghost use Rattle.std.proofs.Math.Option.{none};
 ghost use Rattle.rules.specs.Sizes.{answer_bytes, run_records, prepared_records, groups_max, counters_max};
@@ -26,14 +28,14 @@ use run_decision::Sets;
 use run_form::Prepared;
 
 // What a run replies: the number of its requests, or a refusal of it as a whole.
-#[derive(Drop)]
+#[derive(Clone, Copy)]
 pub enum RunReply {
     Ran(usize),
     Refused(Refusal),
 }
 
 // The ledger handed back, with the reply.
-#[derive(Drop)]
+#[derive(Clone, Copy)]
 pub struct RunOutcome {
     pub ledger: Ledger,
     pub reply: RunReply,

@@ -1,4 +1,6 @@
 // The subjects of world certificates, the bytes that the certificates sign: a header text by certificate and suite, then key hashes.
+#![tactic(auto)]
+
 ghost use Rattle.std.specs.Prelude.{◌≡◌, true, ◌≤◌, ◌+◌, ◌%◌, length};
 ghost use Rattle.rules.specs.Sizes.{hash_bytes};
 ghost use Rattle.rules.specs.Basics.{ascii};
@@ -12,7 +14,7 @@ use refusals::Refusal;
 use suites::{Header, Lookup, Suite};
 
 // What the writer answers: the subject's length, or why none was written.
-#[derive(Drop)]
+#[derive(Clone, Copy)]
 pub enum Written {
     Length(usize),
     Refused(Refusal),

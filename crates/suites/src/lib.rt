@@ -1,11 +1,13 @@
 // The ciphersuites: one match on a suite's number.
+#![tactic(auto)]
+
 ghost use Rattle.std.specs.Prelude.{◌≡◌};
 ghost use Rattle.suites.specs.Calls.{lookup_as, called_for};
 
 use refusals::Refusal;
 
 // Which header texts the subjects of certificates 3 and 4 have.
-#[derive(Drop)]
+#[derive(Clone, Copy)]
 pub enum Header {
     Plain,
     TypeRijndael,
@@ -15,7 +17,7 @@ pub enum Header {
 }
 
 // What a suite calls for: its recovery mechanism, the choice of the header texts, and the total lengths of the subjects of certificates 3 and 4.
-#[derive(Drop)]
+#[derive(Clone, Copy)]
 pub struct Suite {
     pub mechanism: u16,
     pub header: Header,
@@ -24,7 +26,7 @@ pub struct Suite {
 }
 
 // The suite of a number, or the refusal of a number that is no suite's.
-#[derive(Drop)]
+#[derive(Clone, Copy)]
 pub enum Lookup {
     Known(Suite),
     Refused(Refusal),

@@ -1,4 +1,6 @@
 // The text form of an ACL, written into a lent buffer and read into one.
+#![tactic(auto)]
+
 ghost use Rattle.std.specs.Prelude.{◌≡◌, ◌+◌, ◌*◌, ◌≤◌, length};
 ghost use Rattle.std.proofs.Math.Option.{none};
 ghost use Rattle.rules.specs.Sizes.{record_bytes, acl_records};
@@ -23,7 +25,7 @@ pub const LONGEST: usize = record_sizes::GROUPS
     * (73 + record_sizes::LIMITS * 34 + record_sizes::ACTIONS * (LONGEST_LINE + 78));
 
 // What the entry points answer: the result's length, a refusal, or the number of the first bad line of a listing, from 1.
-#[derive(Drop)]
+#[derive(Clone, Copy)]
 pub enum Reply {
     Produced(usize),
     Refused(Refusal),
@@ -31,7 +33,7 @@ pub enum Reply {
 }
 
 // What the first pass over a listing finds: the number of lines, or that of the first bad one, from 1.
-#[derive(Drop)]
+#[derive(Clone, Copy)]
 pub enum Lines {
     Count(usize),
     Bad(usize),

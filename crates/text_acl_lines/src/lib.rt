@@ -1,4 +1,6 @@
 // The line of a record, at the front of a lent buffer.
+#![tactic(auto)]
+
 ghost use Rattle.std.specs.Prelude.{◌≡◌, [], ◌++◌, ◌+◌, ◌≤◌, length};
 ghost use Rattle.rules.specs.Sizes.{record_bytes};
 ghost use Rattle.rules.specs.Basics.{ascii, number};

@@ -1,4 +1,6 @@
 // Texts, decimal numbers and hashes put into a lent buffer, and words from a row of names.
+#![tactic(auto)]
+
 ghost use Rattle.std.specs.Prelude.{◌≡◌, [], ◌∷◌, ◌+◌, ◌*◌, ◌%◌, ◌≤◌, ◌<◌, length, get_or};
 ghost use Rattle.rules.specs.Sizes.{hash_bytes};
 ghost use Rattle.rules.specs.Basics.{part};

@@ -1,4 +1,6 @@
 // The text of a file of any kind, written into a lent buffer and read into one.
+#![tactic(auto)]
+
 ghost use Rattle.std.specs.Prelude.{◌≡◌, not, ◌+◌, ◌*◌, ◌≤◌, length};
 ghost use Rattle.std.proofs.Math.Option.{none};
 ghost use Rattle.rules.specs.Sizes.{record_bytes};
@@ -20,7 +22,7 @@ use text_acl::{Lines, Reply};
 use text_states::State;
 
 // The kinds of file that have a text.
-#[derive(Drop)]
+#[derive(Clone, Copy)]
 pub enum Kind {
     Acl,
     Request,

@@ -1,4 +1,6 @@
 // Texts of files whose kind is named by a number, as the header and replay scripts name it.
+#![tactic(auto)]
+
 ghost use Rattle.std.specs.Prelude.{◌≡◌};
 ghost use Rattle.text_acl.specs.Answers.{IsListed};
 ghost use Rattle.text_kinds.specs.Kinds.{text_kind, kind_as, written_for, read_for};
@@ -8,7 +10,7 @@ use text_acl::Reply;
 use text_files::Kind;
 
 // The kind of file that a number names, if it names one.
-#[derive(Drop)]
+#[derive(Clone, Copy)]
 pub enum KindOf {
     Known(Kind),
     Unknown,

@@ -1,4 +1,6 @@
 // What stands in a text: its lines, the words of a line and what they tell. A word's bytes have the space before it.
+#![tactic(auto)]
+
 ghost use Rattle.std.specs.Prelude.{◌≡◌, ◌+◌, ◌-◌, ◌*◌, ◌%◌, ◌^◌, ◌<◌, ◌≤◌, length, drop, slice_index};
 ghost use Rattle.rules.specs.Sizes.{hash_bytes};
 ghost use Rattle.text_rules.specs.Decoding.{stands, hex_value, unhex, bytes_of};
@@ -9,21 +11,21 @@ ghost use Rattle.text_lexer.specs.Telling.{newline_in4, newline_in16, Skipped, L
 ghost use Rattle.text_lexer.specs.Taking.{one, Advanced, Field};
 
 // A number's value modulo 2^64, and how many digits it has.
-#[derive(Drop)]
+#[derive(Clone, Copy)]
 pub struct Number {
     pub value: u64,
     pub digits: usize,
 }
 
 // The index of a name in its row, and how many bytes the name has; none where no name of the row stands.
-#[derive(Drop)]
+#[derive(Clone, Copy)]
 pub struct Name {
     pub index: u64,
     pub bytes: usize,
 }
 
 // Where the reading of a line stands: the place in the text, the place in the record, and the flags that the words so far have set.
-#[derive(Drop)]
+#[derive(Clone, Copy)]
 pub struct Cursor {
     pub at: usize,
     pub end: usize,

@@ -1,5 +1,7 @@
 // The record that a line of a request, a bundle or hints tells, put into a buffer from a place on. Reading goes from word to word without a look
 // back, and takes any line.
+#![tactic(auto)]
+
 ghost use Rattle.std.specs.Prelude.{◌≡◌, ◌++◌, ◌+◌, ◌*◌, ◌≤◌, length, drop};
 ghost use Rattle.text_rules.specs.Decoding.{has_word, after_word, bytes_of};
 ghost use Rattle.text_rules.specs.OtherDecoding.{time_after, use_from, blob_request_from, recovery_from, certificate_from, fact_from, signature_from, policy_record_from, hint_from, delegation_from, record_of};

@@ -1,4 +1,6 @@
 // Parser states of the files other than an ACL: a request, requests that stand alone, a bundle, hints. One step reads one record.
+#![tactic(auto)]
+
 ghost use Rattle.std.specs.Prelude.{◌≡◌, ◌≤◌, length, get_or};
 ghost use Rattle.rules.specs.Sizes.{record_bytes};
 ghost use Rattle.rules.specs.Basics.{present};
@@ -15,7 +17,7 @@ pub const REQUESTS: usize = 1000;
 
 // What may come next. A request file: its request record, the record of kind 15 that this announces, or what is presented after so many certificates
 // and delegations. A file of requests or of hints: after so many records. A bundle: after a record with this place in the order, and so many of field 14.
-#[derive(Drop)]
+#[derive(Clone, Copy)]
 pub enum State {
     Request,
     Blobfile,
@@ -26,7 +28,7 @@ pub enum State {
 }
 
 // What reading a record finds, and the state after it where it has no fault.
-#[derive(Drop)]
+#[derive(Clone, Copy)]
 pub struct Step {
     pub state: State,
     pub found: Checked,

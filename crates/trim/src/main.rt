@@ -3,6 +3,8 @@
 // LINE is the listing's line (docs/TEXT.md) of a blob action, of the blobfile that goes with it, or of the permissions that are gone. Then comes
 // `trimmed: ACL M bytes, hints N bytes`. Where a file is refused, or a step before the ACL fails, the desk's line is printed alone, standard error says what
 // it means, and no file is written. Unless both files are written whole, those that exist are unchanged.
+#![tactic(auto)]
+
 ghost use Rattle.std.specs.Prelude.{◌≡◌, ◌-◌, ◌≤◌, length};
 ghost use Rattle.rules.specs.Sizes.{record_bytes};
 ghost use Rattle.bundle_facts.specs.Places.{Found};

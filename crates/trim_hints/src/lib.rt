@@ -1,4 +1,6 @@
 // The hints of a trimmed ACL: for each group a record that names the group and those of its actions that stay, by their old indices.
+#![tactic(auto)]
+
 ghost use Rattle.std.specs.Prelude.{◌≡◌, ◌-◌, ◌≤◌, ◌<◌, length, get_or};
 ghost use Rattle.std.proofs.Math.Option.{none};
 ghost use Rattle.rules.specs.Sizes.{record_bytes, groups_max, actions_max};
@@ -12,7 +14,7 @@ ghost use Rattle.trim_records.specs.Fates.{on_action};
 ghost use Rattle.trim_hints.specs.Hinting.{begun_hint, action_hinted, record_hinted, places_at, SoundFrom};
 
 // A hint as far as it is written: its bytes, how many actions it names, and the index of the next action of the old group.
-#[derive(Drop)]
+#[derive(Clone, Copy)]
 struct Hint {
     bytes: [u8; record_sizes::RECORD],
     count: usize,

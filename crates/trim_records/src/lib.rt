@@ -1,5 +1,7 @@
 // What the trimming tool does with one record of an ACL: it is copied, copied with fewer permissions, or dropped. Each function decodes any bytes;
 // the file may or may not have been tested.
+#![tactic(auto)]
+
 ghost use Rattle.std.specs.Prelude.{◌≡◌, ◌+◌, ◌-◌, ◌^◌, ◌≤◌, ◌<◌, length};
 ghost use Rattle.std.proofs.Math.Option.{none};
 ghost use Rattle.rules.specs.Sizes.{record_bytes};
@@ -16,7 +18,7 @@ use bundle_facts::Policy;
 use desk_steps::Failure;
 
 // What the tool does with a record: it is copied, copied with fewer permissions, or dropped.
-#[derive(Drop)]
+#[derive(Clone, Copy)]
 pub enum TrimAction {
     Copied,
     Fewer,

@@ -1,4 +1,6 @@
 // The trimming tool: removes from an ACL what fails at the desk by a bundle; writes the new ACL, and the hints by which it narrows the old one.
+#![tactic(auto)]
+
 ghost use Rattle.std.specs.Prelude.{◌≡◌, ◌*◌, ◌≤◌, length};
 ghost use Rattle.std.proofs.Math.Option.{none};
 ghost use Rattle.rules.specs.Sizes.{record_bytes};
@@ -17,7 +19,7 @@ use refusals::Refusal;
 use trim_records::TrimAction;
 
 // The answer: the lengths of the new ACL and of the hints, the step before the ACL that fails, or why nothing was trimmed.
-#[derive(Drop)]
+#[derive(Clone, Copy)]
 pub enum TrimReply {
     Trimmed(usize, usize),
     Failed(Step),
@@ -25,7 +27,7 @@ pub enum TrimReply {
 }
 
 // The lengths of both results.
-#[derive(Drop)]
+#[derive(Clone, Copy)]
 struct Lengths {
     acl: usize,
     hints: usize,

@@ -1,5 +1,7 @@
 // unlist [KIND] TEXT FILE: reads a text (docs/TEXT.md) and writes its file. A line that is not the written form of a record that is valid there gives
 // `TEXT:LINE: refuse 15: WORDS` on standard error. Unless the whole file is written, one that exists is unchanged.
+#![tactic(auto)]
+
 use cli_arguments::Input;
 use cli_kinds::Given;
 use text_acl::Reply;

@@ -1,0 +1,6 @@
+use Rattle.acl_groups.proofs.Laws.{from_place}
+use borrow.Author.Rules.{rules}
+use Rattle.acl_groups.proofs.from_group.Goals as goal
+
+pub returns : goal.returns
+returns c = from_place _ _ _ c.group_at-at.ensures

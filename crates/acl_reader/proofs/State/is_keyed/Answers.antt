@@ -1,0 +1,7 @@
+use Rattle.rules.specs.Acl.{keyed}
+use borrow.Author.Rules.{rules}
+use Rattle.acl_reader.proofs.State.is_keyed.Goals as goal
+
+pub returns : goal.returns
+unfolding keyed
+returns c = rw c.flag_of.ensures

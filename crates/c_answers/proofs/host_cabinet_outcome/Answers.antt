@@ -1,0 +1,5 @@
+use borrow.Author.Rules.{rules}
+use Rattle.c_answers.proofs.host_cabinet_outcome.Goals as goal
+
+pub returns : goal.returns
+returns c = rw c.host_reply-answer.ensures

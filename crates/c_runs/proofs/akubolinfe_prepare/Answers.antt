@@ -1,0 +1,7 @@
+use mathlib.Core.Path.{◌∙◌, ap}
+use Rattle.c_run_answers.specs.Surface.{host_form_for}
+use borrow.Author.Rules.{rules}
+use Rattle.c_runs.proofs.akubolinfe_prepare.Goals as goal
+
+pub returns : goal.returns
+returns c = c.form.ensures ∙ ap host_form_for c.prepare.ensures

@@ -1,0 +1,9 @@
+use Rattle.desk.proofs.Laws.{approach_two, approach_one}
+use borrow.Author.Rules.{rules}
+use Rattle.desk.proofs.judge_read.Goals as goal
+
+pub returns-then-policy-eq2 : goal.returns-then-policy-eq2
+returns-then-policy-eq2 c = approach_two _ _ _ _ c.policy_of-policy.ensures c.if-policy-eq2.true c.judge_policy.ensures
+
+pub returns : goal.returns
+returns c = approach_one _ _ _ _ c.policy_of-policy.ensures c.if-policy-eq2.false c.judge_generation.ensures

@@ -1,0 +1,9 @@
+use Rattle.rules.specs.Basics.{ascii}
+use Rattle.text_bytes.proofs.Laws.{put_on, put_as}
+use Rattle.desk_verdict.proofs.Laws.{refusal_text}
+use borrow.Author.Rules.{rules}
+use Rattle.desk_verdict.proofs.refusal_line.Goals as goal
+
+pub returns : goal.returns
+unfolding ascii
+returns c = put_as (refusal_text _ _ c.number-number.ensures) (put_on c.number_if-named.ensures.written c.append.ensures)

@@ -1,0 +1,19 @@
+use Prim.Native.Nat.{◌≤◌, ◌-◌}
+use native.Mathlib.Omega.{arith}
+use mathlib.Core.Path.{◌≡◌, ap}
+use lib.ListN.{length, get_or}
+use Rattle.rules.specs.Acl.{groups_of, acl_of}
+use Rattle.rules.specs.Request.{request_of}
+use Rattle.rules.specs.Basics.{records_from}
+use Rattle.rules.proofs.Rows.{lent_record}
+use Rattle.gate_decision.specs.declared.Nearest.TheVariants.{Nothing}
+use Rattle.gate_decision.specs.Standings.{judged_from, group_result, Remembered}
+use Rattle.gate_decision.proofs.Laws.{groups_grant, groups_next, groups_done, standing_at, told_none, told_next, seen_before}
+use borrow.Author.Rules.{rules}
+use Rattle.gate_decision.proofs.judge_groups.Given as goal
+
+abbrev pub invariant-loop-at : goal.invariant-loop-at
+invariant-loop-at l = (l.at ≤ length l.acl) × ((l.place ≤ l.at) × ((64 ≤ length l.acl - l.at → get_or l.acl l.at 0 ≡ 1) × ((judged_from (group_result l.counts l.counters l.elapsed l.km0 (request_of l.req)) l.near l.place (groups_of (records_from l.acl l.at)) ≡ judged_from (group_result l.counts l.counters l.elapsed l.km0 (request_of l.req)) Nothing 0 (acl_of l.acl)) × ((l.seen ≤ l.at) × Remembered (request_of l.req) (lent_record l.acl l.seen) l.some l.held))))
+
+abbrev pub decreases-loop-at : goal.decreases-loop-at
+decreases-loop-at l = length l.acl - l.at

@@ -1,0 +1,6 @@
+use Rattle.record_fields.proofs.Words.{word_halves}
+use borrow.Author.Rules.{rules}
+use Rattle.record_fields.proofs.little64.Goals as goal
+
+pub returns : goal.returns
+returns c = search (rules, word_halves 4 4294967296)

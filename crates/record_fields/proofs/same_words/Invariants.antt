@@ -1,0 +1,14 @@
+use Prim.Native.Nat.{◌≤◌, ◌-◌}
+use mathlib.Core.Path.{◌≡◌}
+use mathlib.Core.Bool.{◌&&◌}
+use lib.ListN.{length, drop}
+use Rattle.rules.specs.Basics.{same}
+use Rattle.record_fields.proofs.Words.{same_last, same_words_start, same_words_low, same_words_next, same_words_lower, same_words_done}
+use borrow.Author.Rules.{rules}
+use Rattle.record_fields.proofs.same_words.Given as goal
+
+abbrev pub invariant-loop-i : goal.invariant-loop-i
+invariant-loop-i l = (l.i ≤ length l.a) × ((l.so_far && same (drop l.i l.a) (drop l.i l.b)) ≡ same l.a l.b) × ((l.so_far && same_last l.a l.b) ≡ l.so_far)
+
+abbrev pub decreases-loop-i : goal.decreases-loop-i
+decreases-loop-i l = length l.a - l.i

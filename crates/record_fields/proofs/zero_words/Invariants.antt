@@ -1,0 +1,14 @@
+use Prim.Native.Nat.{◌≤◌, ◌-◌}
+use mathlib.Core.Path.{◌≡◌}
+use mathlib.Core.Bool.{◌&&◌}
+use lib.ListN.{length, drop}
+use Rattle.rules.specs.Basics.{all_zero, blank}
+use Rattle.record_fields.proofs.Words.{zero_words_start, zero_words_low, zero_words_next, zero_words_lower, zero_words_done}
+use borrow.Author.Rules.{rules}
+use Rattle.record_fields.proofs.zero_words.Given as goal
+
+abbrev pub invariant-loop-i : goal.invariant-loop-i
+invariant-loop-i l = (l.i ≤ length l.s) × ((l.so_far && all_zero (drop l.i l.s)) ≡ all_zero l.s) × ((l.so_far && blank (length l.s - 8) 8 l.s) ≡ l.so_far)
+
+abbrev pub decreases-loop-i : goal.decreases-loop-i
+decreases-loop-i l = length l.s - l.i

@@ -1,0 +1,7 @@
+use Rattle.rules.specs.Layout.{mechanism_at}
+use borrow.Author.Rules.{rules}
+use Rattle.record_layout.proofs.mechanism_at.Goals as goal
+
+pub returns : goal.returns
+unfolding mechanism_at
+returns c = cc

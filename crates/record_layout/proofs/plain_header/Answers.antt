@@ -1,0 +1,17 @@
+use native.Mathlib.Omega.{arith}
+use Rattle.record_layout.proofs.Header.{header_bytes_lem}
+use borrow.Author.Rules.{rules}
+use Rattle.record_layout.proofs.plain_header.Goals as goal
+
+pub returns : goal.returns
+returns c =    let given = c.shared_slice_known-2-1.given in
+    header_bytes_lem
+    c.args.s.now
+    c.args.listed
+    c.zero_part.result
+    c.low_flags.result
+    (search rules)
+    (search rules)
+    (λ i. omega (arith, given i))
+    (search rules)
+    (search rules)

@@ -1,0 +1,7 @@
+use Rattle.rules.specs.Request.{blobfile_request_record}
+use borrow.Author.Rules.{rules}
+use Rattle.request_reader.proofs.blobfile_record.Goals as goal
+
+pub returns : goal.returns
+unfolding blobfile_request_record
+returns c = cc

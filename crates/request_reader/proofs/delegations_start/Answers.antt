@@ -1,0 +1,21 @@
+use Prim.Native.Nat.{◌≤◌, ◌%◌}
+use mathlib.Core.Path.{◌≡◌}
+use mathlib.Core.List.{[]}
+use lib.ListN.{length}
+use Rattle.rules.specs.Request.{certificates_of}
+use Rattle.rules.specs.Basics.{records_from}
+use Rattle.request_reader.proofs.Laws.{none_past, none_earlier, parted_here, parted_all}
+use borrow.Author.Rules.{rules}
+use Rattle.request_reader.proofs.delegations_start.Goals as goal
+
+pub loop-at-init : goal.loop-at-init
+loop-at-init c = (search rules, (search rules, (search rules, search (rules, none_past))))
+
+pub returns-then-req-at-ne14 : goal.returns-then-req-at-ne14
+returns-then-req-at-ne14 c = search (rules, parted_here)
+
+pub loop-at-preserved : goal.loop-at-preserved
+loop-at-preserved c = (search rules, (search rules, (search rules, search (rules, none_earlier))))
+
+pub returns : goal.returns
+returns c = search (rules, parted_all)

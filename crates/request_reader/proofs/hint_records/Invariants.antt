@@ -1,0 +1,15 @@
+use Prim.Native.Nat.{◌≤◌, ◌-◌}
+use mathlib.Core.Path.{◌≡◌, refl}
+use lib.ListN.{length}
+use Rattle.rules.specs.Basics.{records, each_fault, records_from}
+use Rattle.rules.specs.Request.{hint_fault, hints_fault}
+use Rattle.rules.proofs.Rows.{each_stop, each_next, each_done}
+use Rattle.request_reader.proofs.Laws.{hint_bad, hint_sound}
+use borrow.Author.Rules.{rules}
+use Rattle.request_reader.proofs.hint_records.Given as goal
+
+abbrev pub invariant-loop-at : goal.invariant-loop-at
+invariant-loop-at l = (l.at ≤ length l.hints) × (each_fault hint_fault (records_from l.hints l.at) ≡ hints_fault (records l.hints))
+
+abbrev pub decreases-loop-at : goal.decreases-loop-at
+decreases-loop-at l = length l.hints - l.at

@@ -1,0 +1,16 @@
+use Prim.Native.Nat.{◌<◌, ◌^◌}
+use mathlib.Core.Path.{◌≡◌, refl}
+use Rattle.rules.specs.Sizes.{groups_max}
+use Rattle.run_decision.specs.GroupSets.{first_in}
+use Rattle.run_decision.specs.Members.{left_at}
+use Rattle.run_decision.proofs.Laws.{lowest_group_lem, walk_stop, walk_next, walk_done, walk_less, walk_within, rest_less}
+use borrow.Author.Rules.{rules}
+use Rattle.run_decision.specs.Opening.{Closes}
+use Rattle.run_decision.proofs.Opening.{closes_start, closes_next, open_word}
+use Rattle.run_decision.proofs.first_unspent.Given as goal
+
+abbrev pub invariant-loop-left : goal.invariant-loop-left
+invariant-loop-left l = (l.left < 2 ^ groups_max) × ((l.still < 18446744073709551616) × ((first_in (left_at l.counts l.counters l.elapsed l.rows) 64 l.left ≡ first_in (left_at l.counts l.counters l.elapsed l.rows) 64 l.set) × Closes (left_at l.counts l.counters l.elapsed l.rows) l.unspent l.still))
+
+abbrev pub decreases-loop-left : goal.decreases-loop-left
+decreases-loop-left l = l.left

@@ -1,0 +1,30 @@
+use Prim.Native.Nat.{◌<◌, ◌^◌}
+use Rattle.rules.specs.Sizes.{groups_max}
+use Rattle.run_decision.specs.Members.{left_at}
+use Rattle.run_decision.proofs.Laws.{lowest_group_lem, walk_less, walk_within, Keeping, keeping_start, keeping_done, keeping_skip, keeping_room, keeping_next, rest_less}
+use borrow.Author.Rules.{rules}
+use Rattle.run_decision.proofs.unspent_of.Goals as goal
+
+pub loop-left-init : goal.loop-left-init
+loop-left-init c = (search rules, search (rules, keeping_start))
+
+pub left_at-requires : goal.left_at-requires
+left_at-requires c = (search (rules, lowest_group_lem), search rules)
+
+pub loop-left-smaller-then-not-left_at : goal.loop-left-smaller-then-not-left_at
+loop-left-smaller-then-not-left_at c = search (rules, walk_less)
+
+pub loop-left-preserved-then-not-left_at : goal.loop-left-preserved-then-not-left_at
+loop-left-preserved-then-not-left_at c = (search (rules, walk_within), search (rules, keeping_skip))
+
+pub with_member-kept-requires : goal.with_member-kept-requires
+with_member-kept-requires c = (search (rules, rest_less), search (rules, keeping_room))
+
+pub loop-left-smaller : goal.loop-left-smaller
+loop-left-smaller c = search (rules, walk_less)
+
+pub loop-left-preserved : goal.loop-left-preserved
+loop-left-preserved c = (search (rules, walk_within), search (rules, keeping_next))
+
+pub returns : goal.returns
+returns c = search (rules, keeping_done)

@@ -1,0 +1,19 @@
+use mathlib.Core.Path.{◌≡◌}
+use Prim.Native.Nat.{◌≤◌, ◌-◌}
+use lib.ListN.{length}
+use Rattle.rules.specs.Sizes.{permissions_max}
+use Rattle.run_form.proofs.Making.{Doubling, doubling_start, doubling_below, doubling_next, doubling_done}
+use borrow.Author.Rules.{rules}
+use Rattle.run_form.proofs.double_uses.Goals as goal
+
+pub loop-p-init : goal.loop-p-init
+loop-p-init c = (search rules, (search rules, search (rules, doubling_start)))
+
+pub with_digit-requires : goal.with_digit-requires
+with_digit-requires c = (search (rules, doubling_below), search rules)
+
+pub loop-p-preserved : goal.loop-p-preserved
+loop-p-preserved c = (search rules, (search rules, search (rules, doubling_next)))
+
+pub returns : goal.returns
+returns c = search (rules, doubling_done)

@@ -1,0 +1,20 @@
+use mathlib.Core.Path.{◌≡◌, refl}
+use mathlib.Core.Bool.{◌&&◌}
+use Prim.Native.Nat.{◌≤◌, ◌-◌}
+use lib.ListN.{length, drop}
+use Rattle.rules.specs.Basics.{same}
+use Rattle.record_fields.proofs.Laws.{same_length, same_next, same_done}
+use borrow.Author.Rules.{rules}
+use Rattle.run_form.proofs.same_words.Goals as goal
+
+pub returns-then-a-b : goal.returns-then-a-b
+returns-then-a-b c = search (rules, same_length)
+
+pub loop-i-init : goal.loop-i-init
+loop-i-init c = (search rules, refl)
+
+pub loop-i-preserved : goal.loop-i-preserved
+loop-i-preserved c = (search rules, search (rules, same_next))
+
+pub returns : goal.returns
+returns c = search (rules, same_done)

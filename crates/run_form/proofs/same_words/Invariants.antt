@@ -1,0 +1,14 @@
+use mathlib.Core.Path.{◌≡◌, refl}
+use mathlib.Core.Bool.{◌&&◌}
+use Prim.Native.Nat.{◌≤◌, ◌-◌}
+use lib.ListN.{length, drop}
+use Rattle.rules.specs.Basics.{same}
+use Rattle.record_fields.proofs.Laws.{same_length, same_next, same_done}
+use borrow.Author.Rules.{rules}
+use Rattle.run_form.proofs.same_words.Given as goal
+
+abbrev pub invariant-loop-i : goal.invariant-loop-i
+invariant-loop-i l = (l.i ≤ length l.a) × ((l.so_far && same (drop l.i l.a) (drop l.i l.b)) ≡ same l.a l.b)
+
+abbrev pub decreases-loop-i : goal.decreases-loop-i
+decreases-loop-i l = length l.a - l.i

@@ -1,0 +1,5 @@
+use borrow.Author.Rules.{rules}
+use Rattle.runs.proofs.lengths_fit.Goals as goal
+
+pub returns : goal.returns
+returns c = cc

@@ -1,0 +1,15 @@
+use Prim.Native.Nat.{◌-◌, ◌≤◌}
+use mathlib.Core.Path.{◌≡◌}
+use lib.ListN.{length}
+use Rattle.text_rules.specs.Listing.{listed_bytes}
+use Rattle.text_rules.specs.Decoding.{decoded}
+use Rattle.text_bytes.proofs.Laws.{Filled}
+use Rattle.text_acl.proofs.Reading.{decoded_length, records_left, records_filled, record_room, record_filled, records_all}
+use borrow.Author.Rules.{rules}
+use Rattle.text_acl.proofs.put_records.Given as goal
+
+abbrev pub invariant-loop-at : goal.invariant-loop-at
+invariant-loop-at l = (l.at ≤ length l.text) × (length l.buffer ≡ length l.initial.buffer) × Filled (listed_bytes l.text) (records_left decoded l.text l.at) 0 l.initial.buffer l.buffer l.end
+
+abbrev pub decreases-loop-at : goal.decreases-loop-at
+decreases-loop-at l = length l.text - l.at

@@ -1,0 +1,21 @@
+use Prim.Native.Nat.{◌-◌, ◌≤◌}
+use mathlib.Core.Path.{◌≡◌}
+use lib.ListN.{length}
+use Rattle.text_rules.specs.Words.{text_by}
+use Rattle.text_rules.specs.OtherWords.{record_line}
+use Rattle.text_acl.proofs.Writing.{lines_from, lines_none, line_room, line_put, lines_all}
+use Rattle.text_bytes.proofs.Laws.{Filled}
+use borrow.Author.Rules.{rules}
+use Rattle.text_files.proofs.put_lines.Goals as goal
+
+pub loop-at-init : goal.loop-at-init
+loop-at-init c = search (rules, lines_none)
+
+pub put_line-end-requires : goal.put_line-end-requires
+put_line-end-requires c = search (rules, line_room record_line)
+
+pub loop-at-preserved : goal.loop-at-preserved
+loop-at-preserved c = (search rules, search rules, search (rules, line_put))
+
+pub returns : goal.returns
+returns c = search (rules, lines_all)

@@ -1,0 +1,14 @@
+use Rattle.std.proofs.Common.{◌≡◌, ◌+◌, ◌*◌, ◌≤◌, length, drop, rules}
+use Rattle.text_rules.specs.OtherDecoding.{bytes_here}
+use Rattle.text_bytes.proofs.Laws.{Filled}
+use Rattle.text_lexer.proofs.Laws.{bytes_left, here_none, here_byte, here_all}
+use Rattle.text_lexer.proofs.bytes_here.Goals as goal
+
+pub loop-k-init : goal.loop-k-init
+loop-k-init c = (search rules, search rules, search rules, search rules, search (rules, here_none))
+
+pub loop-k-preserved : goal.loop-k-preserved
+loop-k-preserved c = (search rules, search rules, search rules, search rules, search (rules, here_byte))
+
+pub returns : goal.returns
+returns c = search (rules, here_all)

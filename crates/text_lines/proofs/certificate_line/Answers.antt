@@ -1,0 +1,8 @@
+use Rattle.rules.specs.Basics.{ascii}
+use Rattle.text_lines.proofs.Laws.{certificate_held}
+use borrow.Author.Rules.{rules}
+use Rattle.text_lines.proofs.certificate_line.Goals as goal
+
+pub returns : goal.returns
+unfolding ascii
+returns c = search (rules, certificate_held)

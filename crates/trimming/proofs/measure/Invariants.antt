@@ -1,0 +1,12 @@
+use Prim.Native.Nat.{◌≤◌, ◌-◌}
+use lib.ListN.{length}
+use Rattle.rules.specs.Basics.{records}
+use Rattle.trimming.proofs.Laws.{Measuring, measure_start, measure_next, measure_acl, measure_hints}
+use borrow.Author.Rules.{rules}
+use Rattle.trimming.proofs.measure.Given as goal
+
+abbrev pub invariant-loop-at : goal.invariant-loop-at
+invariant-loop-at l = (l.at ≤ length l.acl) × ((l.n ≤ l.at) × ((l.m ≤ l.at) × Measuring (records l.bundle) l.acl l.checked l.kept l.at l.n l.m))
+
+abbrev pub decreases-loop-at : goal.decreases-loop-at
+decreases-loop-at l = length l.acl - l.at
