@@ -3,101 +3,134 @@
 // All of these only print, so that they promise nothing.
 #![tactic(auto)]
 
-use libc::STDOUT_FILENO;
+use std::io;
 
-// Reports once that output is lost: what is printed from here on goes to /dev/null, where nothing is lost.
-fn check(written: bool) {
-    if written {
+// Standard output, and whether output was lost there.
+pub struct Output {
+    rt: HostRuntime,
+    lost: bool,
+}
+
+impl Output {
+    // Standard output, where nothing is lost yet.
+    pub fn new(rt: &HostRuntime) -> Output {
+        Output {
+            rt: *rt,
+            lost: false,
+        }
+    }
+}
+
+// Reports once that output is lost: what is printed from here on goes nowhere, where nothing is lost.
+fn check(out: &mut Output, written: io::Result<()>) {
+    let Err(why) = written else {
+        return;
+    };
+    cli_arguments::fail(&out.rt, b"standard output", why);
+    out.lost = true;
+}
+
+pub fn print(out: &mut Output, text: &[u8]) {
+    if out.lost {
         return;
     }
-    os::fail(b"standard output");
-    libc::close(STDOUT_FILENO);
-    os::open_overwrite(b"/dev/null");
+    let written = Print::write_all(&out.rt, text);
+    check(out, written);
 }
 
-pub fn print(text: &[u8]) {
-    check(io::write_all(STDOUT_FILENO, text));
-}
-
-pub fn print_number(n: u64) {
-    check(io::print_decimal(STDOUT_FILENO, n));
+pub fn print_number(out: &mut Output, n: u64) {
+    if out.lost {
+        return;
+    }
+    let written = Print::print(&out.rt, n);
+    check(out, written);
 }
 
 // The beginning of a line: its number and a space.
-pub fn print_line(k: u64) {
-    print_number(k);
-    print(b" ");
+pub fn print_line(out: &mut Output, k: u64) {
+    print_number(out, k);
+    print(out, b" ");
 }
 
-pub fn print_refusal(number: u64) {
-    print(b"refuse ");
-    print_number(number);
+pub fn print_refusal(out: &mut Output, number: u64) {
+    print(out, b"refuse ");
+    print_number(out, number);
 }
 
 // A space and a number.
-pub fn print_spaced(n: usize) {
-    print(b" ");
-    print_number(n as u64);
+pub fn print_spaced(out: &mut Output, n: usize) {
+    print(out, b" ");
+    print_number(out, n as u64);
 }
 
 // The entries of a table that are not zero, with their indices.
-fn print_table(table: &[u32]) {
+fn print_table(out: &mut Output, table: &[u32]) {
     let mut i = 0;
     while i < table.len() {
-        print_entry(i, table[i]);
+        print_entry(out, i, table[i]);
         i += 1;
     }
 }
 
-fn print_entry(i: usize, n: u32) {
+fn print_entry(out: &mut Output, i: usize, n: u32) {
     if n == 0 {
         return;
     }
-    print_spaced(i);
-    print(b":");
-    print_number(n as u64);
+    print_spaced(out, i);
+    print(out, b":");
+    print_number(out, n as u64);
 }
 
 // Load time, last time and group counts.
-pub fn print_used(loaded: u64, last: u64, counts: &[u32]) {
-    print(b" load ");
-    print_number(loaded);
-    print(b" last ");
-    print_number(last);
-    print(b" counts");
-    print_table(counts);
+pub fn print_used(out: &mut Output, loaded: u64, last: u64, counts: &[u32]) {
+    print(out, b" load ");
+    print_number(out, loaded);
+    print(out, b" last ");
+    print_number(out, last);
+    print(out, b" counts");
+    print_table(out, counts);
 }
 
 // The named counters, which end a line.
-pub fn print_counters(counters: &[u32]) {
-    print(b" counters");
-    print_table(counters);
-    print(b"\n");
+pub fn print_counters(out: &mut Output, counters: &[u32]) {
+    print(out, b" counters");
+    print_table(out, counters);
+    print(out, b"\n");
 }
 
 // Bytes, two lower-case digits for each.
-pub fn print_hex(s: &[u8]) {
+pub fn print_hex(out: &mut Output, s: &[u8]) {
     let mut i = 0;
     while i < s.len() {
-        print_byte(s[i]);
+        print_byte(out, s[i]);
         i += 1;
     }
 }
 
-fn print_byte(b: u8) {
-    check(io::print_hex(STDOUT_FILENO, b as u64, 2));
+fn print_byte(out: &mut Output, b: u8) {
+    if out.lost {
+        return;
+    }
+    let rt = out.rt;
+    let written = print!(rt; "{b:02x}");
+    check(out, written);
 }
 
 // A number, sixteen lower-case digits.
-pub fn print_word(n: u64) {
-    check(io::print_hex(STDOUT_FILENO, n, 16));
+pub fn print_word(out: &mut Output, n: u64) {
+    if out.lost {
+        return;
+    }
+    let rt = out.rt;
+    let written = print!(rt; "{n:016x}");
+    check(out, written);
 }
 
 // Numbers, sixteen lower-case digits for each.
-pub fn print_words(s: &[u64]) {
+pub fn print_words(out: &mut Output, s: &[u64]) {
     let mut i = 0;
     while i < s.len() {
-        print_word(s[i]);
+        print_word(out, s[i]);
         i += 1;
     }
 }

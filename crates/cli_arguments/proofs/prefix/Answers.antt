@@ -2,7 +2,6 @@ use native.Mathlib.Omega.{arith}
 use native.Mathlib.Numerals.{unary_clauses}
 use mathlib.Core.Path.{refl, sym}
 use lib.Seq.{take_all}
-use borrow.Author.Rules.{rules}
 use Rattle.cli_arguments.proofs.prefix.Goals as goal
 
 pub returns-then-s-n : goal.returns-then-s-n
