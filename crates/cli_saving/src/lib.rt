@@ -5,10 +5,12 @@
 #![tactic(auto)]
 
 ghost use Rattle.std.specs.Prelude.{◌≡◌, ◌+◌, ◌≤◌, length};
-ghost use Rattle.libc.specs.Io.{Ended};
-ghost use Rattle.io.specs.Counts.{IsPrefixLen};
+ghost use Rattle.std.specs.Io.{WritesAtMost};
 
-use libc::{PATH_MAX, STDERR_FILENO};
+use cli_arguments::{PATH, argument_or_none, prefix, say};
+use std::fs::{File, OpenOptions};
+use std::io::{ErrorKind, Write};
+use std::{fs, io, process};
 
 // Room for a path and for what the name of its temporary file adds.
 const ROOM: usize = 4112;
@@ -16,158 +18,148 @@ const ROOM: usize = 4112;
 // Links that are followed, as many as the system follows.
 const LINKS: usize = 40;
 
-// The process's number.
-fn process() -> u32 {
-    let id = libc::getpid();
-    if id < 0 {
-        return 0;
-    }
-    id as u32
-}
-
 // The name of the temporary file beside the file of a path, and its length.
-fn temporary(path: &[u8], name: &mut [u8]) -> usize
+fn temporary(rt: &HostRuntime, path: &[u8], name: &mut [u8]) -> usize
     requires { length path.now + 16 ≤ length name.old }
-    ensures { IsPrefixLen result name.new }
+    ensures { result ≤ length name.new }
 {
     let named = text_bytes::append(path, 0, name);
-    let numbered = text_bytes::number_if(true, b".", process(), named, name);
+    let numbered = text_bytes::number_if(true, b".", process::id(rt.process()), named, name);
     text_bytes::append(b".tmp", numbered, name)
 }
 
 // Prints what is wrong with the file of a path.
-fn say(path: &[u8], what: &[u8]) {
-    io::write_all(STDERR_FILENO, path);
-    io::write_all(STDERR_FILENO, what);
-}
-
-// The path with zeros after it, as C wants it.
-fn ended(path: &[u8]) -> [u8; PATH_MAX]
-    requires { length path.now ≤ 4096 }
-    ensures { Ended result }
-{
-    let mut whole = io::buffer();
-    text_bytes::append(path, 0, &mut whole);
-    whole[PATH_MAX - 1] = 0;
-    whole
-}
-
-// Where the symbolic link of a path leads, at the front of the buffer, and its length; 0 where the path is no link.
-fn link_of(path: &[u8], target: &mut [u8]) -> usize
-    requires { length path.now ≤ 4096 }
-    ensures { IsPrefixLen result target.new }
-{
-    let whole = ended(path);
-    let got = libc::readlink(&whole, target);
-    io::count(got, target)
+fn say_of(rt: &HostRuntime, path: &[u8], what: &[u8]) {
+    say(rt, path);
+    say(rt, what);
 }
 
 // Whether a path is a symbolic link.
-fn is_link(path: &[u8]) -> bool
-    requires { length path.now ≤ 4096 }
-{
-    let mut target = [0u8; 1];
-    link_of(path, &mut target) != 0
+fn is_link(rt: &HostRuntime, path: &[u8]) -> io::Result<bool> {
+    let text = cli_arguments::text(path)?;
+    let about = fs::symlink_metadata(rt, text)?;
+    Ok(about.is_symlink())
+}
+
+// Opens the file of a path for reading and writing, as it is.
+fn open_update(rt: &HostRuntime, path: &[u8]) -> io::Result<File> {
+    let text = cli_arguments::text(path)?;
+    let mut how = OpenOptions::new();
+    how.read(true).write(true);
+    how.open(rt, text)
 }
 
 // Whether a file may take this name: there is none yet, or a regular file that may be written. Devices, pipes and terminals have nothing to flush.
-fn is_replaceable(path: &[u8]) -> bool
-    requires { length path.now ≤ 4096 }
-{
-    if is_link(path) {
-        say(path, b": a symbolic link\n");
+fn is_replaceable(rt: &HostRuntime, path: &[u8]) -> bool {
+    if let Ok(true) = is_link(rt, path) {
+        say_of(rt, path, b": a symbolic link\n");
         return false;
     }
-    let fd = os::open_update(path);
-    if fd < 0 {
-        if os::errno() == libc::ENOENT {
-            return true;
+    match open_update(rt, path) {
+        Ok(file) => {
+            if file.sync_all().is_ok() {
+                return true;
+            }
+            say_of(rt, path, b": not a regular file\n");
+            false
         }
-        os::fail(path);
-        return false;
+        Err(why) => {
+            if why.kind() == ErrorKind::NotFound {
+                return true;
+            }
+            cli_arguments::fail(rt, path, why);
+            false
+        }
     }
-    let flushed = libc::fsync(fd);
-    libc::close(fd);
-    if flushed != 0 {
-        say(path, b": not a regular file\n");
-        return false;
-    }
-    true
 }
 
-// Prints why the open file could not be written, and closes it.
-fn lost(fd: i32, path: &[u8]) -> bool {
-    os::fail(path);
-    libc::close(fd);
-    false
+// The bytes into the open file and to the disk.
+fn write_open(file: &mut File, bytes: &[u8]) -> io::Result<()> {
+    file.write_all(bytes)?;
+    file.sync_all()
 }
 
-// Whether all bytes are in the open file and on the disk. `path` is the name that it is to get.
-fn write_open(fd: i32, path: &[u8], bytes: &[u8]) -> bool {
-    if !io::write_all(fd, bytes) {
-        return lost(fd, path);
+// Opens a new file of that name for writing.
+fn create(rt: &HostRuntime, name: &[u8]) -> io::Result<File> {
+    let text = cli_arguments::text(name)?;
+    let mut how = OpenOptions::new();
+    how.write(true).create_new(true);
+    how.open(rt, text)
+}
+
+// Removes the file of that name, if there is one.
+fn remove(rt: &HostRuntime, name: &[u8]) {
+    if let Ok(text) = cli_arguments::text(name) {
+        let _ = fs::remove_file(rt, text);
     }
-    if libc::fsync(fd) != 0 {
-        return lost(fd, path);
+}
+
+// Whether all bytes are in the open file and on the disk, and closes it. `path` is the name that it is to get.
+fn is_written(rt: &HostRuntime, mut file: File, path: &[u8], bytes: &[u8]) -> bool {
+    match write_open(&mut file, bytes) {
+        Ok(()) => true,
+        Err(why) => {
+            cli_arguments::fail(rt, path, why);
+            false
+        }
     }
-    if libc::close(fd) != 0 {
-        os::fail(path);
-        return false;
-    }
-    true
 }
 
 // Whether a new file of that name has all bytes. If not, there is none.
-fn write_new(path: &[u8], name: &[u8], bytes: &[u8]) -> bool {
-    let fd = os::create(name);
-    if fd < 0 {
-        if os::errno() == libc::EEXIST {
-            os::fail(name);
-            return false;
+fn write_new(rt: &HostRuntime, path: &[u8], name: &[u8], bytes: &[u8]) -> bool {
+    match create(rt, name) {
+        Ok(file) => {
+            let written = is_written(rt, file, path, bytes);
+            if !written {
+                remove(rt, name);
+            }
+            written
         }
-        os::fail(path);
-        return false;
+        Err(why) => {
+            let taken = why.kind() == ErrorKind::AlreadyExists;
+            cli_arguments::fail(rt, if taken { name } else { path }, why);
+            false
+        }
     }
-    let written = write_open(fd, path, bytes);
-    if !written {
-        os::unlink(name);
-    }
-    written
 }
 
 // Whether the bytes for the file that argument i names are in its temporary file. A message about an argument that cannot be had names it by `what`.
-pub fn prepare(i: usize, what: &[u8], bytes: &[u8]) -> bool {
-    let mut path = io::buffer();
-    let n = os::arg(i, &mut path);
-    if os::errno() != 0 {
-        os::fail(what);
-        return false;
-    }
-    if !is_replaceable(&path[..n]) {
+pub fn prepare(rt: &HostRuntime, i: usize, what: &[u8], bytes: &[u8]) -> bool {
+    let mut path = [0u8; PATH];
+    let n = match cli_arguments::argument(rt, i, &mut path) {
+        Ok(n) => n,
+        Err(why) => {
+            cli_arguments::fail(rt, what, why);
+            return false;
+        }
+    };
+    if !is_replaceable(rt, &path[..n]) {
         return false;
     }
     let mut name = [0u8; ROOM];
-    let m = temporary(&path[..n], &mut name);
-    write_new(&path[..n], &name[..m], bytes)
+    let m = temporary(rt, &path[..n], &mut name);
+    write_new(rt, &path[..n], &name[..m], bytes)
+}
+
+// Whether the file of that name can be read.
+fn is_readable(rt: &HostRuntime, name: &[u8]) -> io::Result<()> {
+    let text = cli_arguments::text(name)?;
+    let _file = File::open(rt, text)?;
+    Ok(())
 }
 
 // Whether the file of a path has a temporary file: one that was prepared for it under this or another path.
-fn has_temporary(path: &[u8]) -> bool
+fn has_temporary(rt: &HostRuntime, path: &[u8]) -> bool
     requires { length path.now ≤ 4096 }
 {
     let mut name = [0u8; ROOM];
-    let m = temporary(path, &mut name);
-    let fd = os::open_read(&name[..m]);
-    if fd < 0 {
-        return false;
-    }
-    libc::close(fd);
-    true
+    let m = temporary(rt, path, &mut name);
+    is_readable(rt, &name[..m]).is_ok()
 }
 
 // How much of a path is kept in front of what its link says: nothing where that begins at the root, else the path's folder.
 fn kept_length(first: u8, path: &[u8]) -> usize
-    ensures { IsPrefixLen result path.now }
+    ensures { result ≤ length path.now }
 {
     if first == b'/' {
         return 0;
@@ -175,66 +167,95 @@ fn kept_length(first: u8, path: &[u8]) -> usize
     folder_length(path)
 }
 
-// The path that the link of a path of n bytes leads to, in its place, and its length; 0 where it is no link, or one that is too long.
-fn follow(n: usize, path: &mut [u8]) -> usize
-    requires { IsPrefixLen n path.old × (length path.old ≡ 4096) }
-    ensures { IsPrefixLen result path.new }
+// Where the symbolic link of a path leads, at the front of the buffer, and its length; 0 where the path is no link, or the buffer is too short.
+fn link_of(rt: &HostRuntime, path: &[u8], target: &mut [u8]) -> io::Result<usize>
+    ensures { WritesAtMost result target.new }
 {
-    let mut target = io::buffer();
-    let m = link_of(&path[..n], &mut target);
+    let Ok(true) = is_link(rt, path) else {
+        return Ok(0);
+    };
+    let to = fs::read_link(rt, cli_arguments::text(path)?)?;
+    let bytes = to.as_str().as_bytes();
+    if target.len() < bytes.len() {
+        return Ok(0);
+    }
+    Ok(text_bytes::append(bytes, 0, target))
+}
+
+// The path that the link of a path of n bytes leads to, in its place, and its length; 0 where it is no link, or one that is too long. An error where the
+// link cannot be read.
+fn follow(rt: &HostRuntime, n: usize, path: &mut [u8]) -> io::Result<usize>
+    requires { (n ≤ length path.old) × (length path.old ≡ 4096) }
+    ensures { WritesAtMost result path.new }
+{
+    let mut target = [0u8; PATH];
+    let m = link_of(rt, &path[..n], &mut target)?;
     if m == 0 {
-        return 0;
+        return Ok(0);
     }
     let kept = kept_length(target[0], &path[..n]);
     if path.len() - kept < m {
-        return 0;
+        return Ok(0);
     }
-    text_bytes::append(&target[..m], kept, path)
+    Ok(text_bytes::append(&target[..m], kept, path))
 }
 
-// Whether the file that argument i names, or one that it leads to, has a temporary file.
-fn is_prepared(i: usize) -> bool {
-    let mut path = io::buffer();
-    let mut n = os::arg(i, &mut path);
+// Whether the file that argument i names, or one that it leads to, has a temporary file. An error where that cannot be told.
+fn is_prepared(rt: &HostRuntime, i: usize) -> io::Result<bool> {
+    let mut path = [0u8; PATH];
+    let mut n = argument_or_none(rt, i, &mut path);
     let mut links = 0;
     while links < LINKS {
-        if has_temporary(&path[..n]) {
-            return true;
+        if has_temporary(rt, &path[..n]) {
+            return Ok(true);
         }
-        n = follow(n, &mut path);
+        n = follow(rt, n, &mut path)?;
         if n == 0 {
-            return false;
+            return Ok(false);
         }
         links += 1;
     }
-    false
+    Ok(false)
 }
 
 // Removes the temporary file of the file that argument i names.
-pub fn discard(i: usize) {
-    let mut path = io::buffer();
-    let n = os::arg(i, &mut path);
+pub fn discard(rt: &HostRuntime, i: usize) {
+    let mut path = [0u8; PATH];
+    let n = argument_or_none(rt, i, &mut path);
     let mut name = [0u8; ROOM];
-    let m = temporary(&path[..n], &mut name);
-    os::unlink(&name[..m]);
+    let m = temporary(rt, &path[..n], &mut name);
+    remove(rt, &name[..m]);
 }
 
-// Whether argument j names the very file that was prepared for argument i. If so, nothing is written.
-pub fn is_same(i: usize, j: usize) -> bool {
-    if !is_prepared(j) {
-        return false;
+// Prints that the file that argument i names cannot be told from others.
+fn say_unknown(rt: &HostRuntime, i: usize, why: io::Error) {
+    let mut path = [0u8; PATH];
+    let n = argument_or_none(rt, i, &mut path);
+    cli_arguments::fail(rt, prefix(&path, n), why);
+}
+
+// Whether argument j names the very file that was prepared for argument i, or that cannot be told. If so, nothing is written.
+pub fn is_same(rt: &HostRuntime, i: usize, j: usize) -> bool {
+    match is_prepared(rt, j) {
+        Ok(false) => return false,
+        Ok(true) => {
+            discard(rt, i);
+            cli_arguments::print(rt, i);
+            say(rt, b": the same file as ");
+            cli_arguments::print(rt, j);
+            say(rt, b"\n");
+        }
+        Err(why) => {
+            discard(rt, i);
+            say_unknown(rt, j, why);
+        }
     }
-    discard(i);
-    cli_arguments::print(i);
-    io::write_all(STDERR_FILENO, b": the same file as ");
-    cli_arguments::print(j);
-    io::write_all(STDERR_FILENO, b"\n");
     true
 }
 
 // The length of the path's folder, with the slash that ends it; 0 where the path has none.
 fn folder_length(path: &[u8]) -> usize
-    ensures { IsPrefixLen result path.now }
+    ensures { result ≤ length path.now }
 {
     let mut i = path.len();
     while 0 < i {
@@ -246,38 +267,43 @@ fn folder_length(path: &[u8]) -> usize
     0
 }
 
-// Whether the open folder is on the disk.
-fn flush_open(fd: i32) -> bool {
-    if fd < 0 {
-        return false;
-    }
-    let flushed = libc::fsync(fd);
-    libc::close(fd);
-    flushed == 0
+// Opens a folder, and has it on the disk.
+fn flush_open(rt: &HostRuntime, folder: &[u8]) -> io::Result<()> {
+    let text = cli_arguments::text(folder)?;
+    let open = File::open(rt, text)?;
+    open.sync_all()
 }
 
 // Whether the folder of a path is on the disk.
-fn flush_folder(path: &[u8]) -> bool {
+fn flush_folder(rt: &HostRuntime, path: &[u8]) -> bool {
     let n = folder_length(path);
     if n == 0 {
-        return flush_open(os::open_read(b"."));
+        return flush_open(rt, b".").is_ok();
     }
-    flush_open(os::open_read(&path[..n]))
+    flush_open(rt, &path[..n]).is_ok()
+}
+
+// Gives a file another name.
+fn rename(rt: &HostRuntime, from: &[u8], to: &[u8]) -> io::Result<()> {
+    let from = cli_arguments::text(from)?;
+    let to = cli_arguments::text(to)?;
+    fs::rename(rt, from, to)
 }
 
 // Whether the temporary file of the file that argument i names has got its name. If not, it is gone and the old file is as it was.
-pub fn put(i: usize) -> bool {
-    let mut path = io::buffer();
-    let n = os::arg(i, &mut path);
+pub fn put(rt: &HostRuntime, i: usize) -> bool {
+    let mut path = [0u8; PATH];
+    let n = argument_or_none(rt, i, &mut path);
     let mut name = [0u8; ROOM];
-    let m = temporary(&path[..n], &mut name);
-    if os::rename(&name[..m], &path[..n]) != 0 {
-        os::fail(&path[..n]);
-        os::unlink(&name[..m]);
+    let m = temporary(rt, &path[..n], &mut name);
+    if let Err(why) = rename(rt, &name[..m], &path[..n]) {
+        cli_arguments::fail(rt, &path[..n], why);
+        remove(rt, &name[..m]);
         return false;
     }
-    if !flush_folder(&path[..n]) {
-        say(
+    if !flush_folder(rt, &path[..n]) {
+        say_of(
+            rt,
             &path[..n],
             b": written, but its folder could not be flushed to the disk\n",
         );
