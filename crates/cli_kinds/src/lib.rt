@@ -48,20 +48,20 @@ pub fn kind_of(name: &[u8]) -> Named
 }
 
 // What a program is given that takes `count` arguments, its own name among them, and `more` with a kind. If they are wrong, prints the usage.
-pub fn read_arguments(count: usize, more: usize, usage: &[u8]) -> Given {
-    if os::arg_count() != more {
-        if cli_arguments::are_given(count, usage) {
+pub fn read_arguments(rt: &HostRuntime, count: usize, more: usize, usage: &[u8]) -> Given {
+    if cli_arguments::count(rt) != more {
+        if cli_arguments::are_given(rt, count, usage) {
             return Given::Acl;
         }
         return Given::Wrong;
     }
     let mut name = [0u8; 8];
-    let n = os::arg(1, &mut name);
+    let n = cli_arguments::argument_or_none(rt, 1, &mut name);
     let named = kind_of(&name[..n]);
     match named {
         Named::Is(kind) => Given::Other(kind),
         Named::Unknown => {
-            cli_arguments::print_usage(usage);
+            cli_arguments::print_usage(rt, usage);
             Given::Wrong
         }
     }

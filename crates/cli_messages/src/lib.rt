@@ -8,9 +8,9 @@ ghost use Rattle.desk_steps.specs.Steps.{step_as};
 ghost use Rattle.text_bytes.specs.Putting.{Put};
 ghost use Rattle.cli_messages.specs.Words.{words_bytes, refusal_words, step_words};
 
+use cli_arguments::{prefix, say};
 use desk::Verdict;
 use desk_steps::Step;
-use libc::STDERR_FILENO;
 
 // No words are longer.
 pub const ROOM: usize = 160;
@@ -179,41 +179,41 @@ pub fn step_words(step: Step, buffer: &mut [u8]) -> usize
 }
 
 // Prints that the file that argument i names is refused, and why: `FILE: refuse N: WORDS`.
-pub fn refuse(i: usize, number: u8) {
-    cli_arguments::print(i);
-    print_refusal(number);
+pub fn refuse(rt: &HostRuntime, i: usize, number: u8) {
+    cli_arguments::print(rt, i);
+    print_refusal(rt, number);
 }
 
 // Prints that a file is refused because of one of its lines: `FILE:LINE: refuse N: WORDS`.
-pub fn refuse_line(i: usize, line: u64, number: u8) {
-    cli_arguments::print(i);
-    io::write_all(STDERR_FILENO, b":");
-    io::print_decimal(STDERR_FILENO, line);
-    print_refusal(number);
+pub fn refuse_line(rt: &HostRuntime, i: usize, line: u64, number: u8) {
+    cli_arguments::print(rt, i);
+    say(rt, b":");
+    cli_arguments::say_number(rt, line);
+    print_refusal(rt, number);
 }
 
 // The end of such a line.
-fn print_refusal(number: u8) {
+fn print_refusal(rt: &HostRuntime, number: u8) {
     let mut words = [0u8; ROOM];
     let n = refusal_words(number, &mut words);
-    io::write_all(STDERR_FILENO, b": refuse ");
-    io::print_decimal(STDERR_FILENO, number as u64);
-    io::write_all(STDERR_FILENO, b": ");
-    io::write_all(STDERR_FILENO, cli_arguments::prefix(&words, n));
-    io::write_all(STDERR_FILENO, b"\n");
+    say(rt, b": refuse ");
+    cli_arguments::say_number(rt, number as u64);
+    say(rt, b": ");
+    say(rt, prefix(&words, n));
+    say(rt, b"\n");
 }
 
 // Prints the meaning of a failing step: `fail STEP: WORDS`.
-fn fail(step: Step) {
+fn fail(rt: &HostRuntime, step: Step) {
     let mut name = [0u8; desk_verdict::LINE];
     let mut words = [0u8; ROOM];
     let m = desk_verdict::append_step(step, 0, &mut name);
     let n = step_words(step, &mut words);
-    io::write_all(STDERR_FILENO, b"fail");
-    io::write_all(STDERR_FILENO, cli_arguments::prefix(&name, m));
-    io::write_all(STDERR_FILENO, b": ");
-    io::write_all(STDERR_FILENO, cli_arguments::prefix(&words, n));
-    io::write_all(STDERR_FILENO, b"\n");
+    say(rt, b"fail");
+    say(rt, prefix(&name, m));
+    say(rt, b": ");
+    say(rt, prefix(&words, n));
+    say(rt, b"\n");
 }
 
 // Whether the desk refuses the bundle alone, with that number.
@@ -235,13 +235,13 @@ fn refused_file(number: u8, bundle: &[u8]) -> usize {
 }
 
 // Prints the meaning of a verdict that is no acceptance. The program's arguments begin with BUNDLE and ACL.
-pub fn explain(v: Verdict, bundle: &[u8]) {
+pub fn explain(rt: &HostRuntime, v: Verdict, bundle: &[u8]) {
     match v {
         Verdict::Accepted(_) => {}
-        Verdict::Failed(s) => fail(s),
+        Verdict::Failed(s) => fail(rt, s),
         Verdict::Refused(why) => {
             let number = refusals::number(why);
-            refuse(refused_file(number, bundle), number);
+            refuse(rt, refused_file(number, bundle), number);
         }
     }
 }
