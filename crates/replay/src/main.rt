@@ -5,6 +5,7 @@
 ghost use Rattle.std.specs.Prelude.{◌≡◌, ◌<◌, ◌≤◌, length};
 
 use cabinet::Cabinet;
+use cli_printing::Output;
 use gate::Ledger;
 use replay_script::{Call, Next, prefix};
 
@@ -31,14 +32,15 @@ fn ended(mut s: State) -> State {
 }
 
 // Prints that the script cannot be read any further.
-fn stopped(k: u64, s: State) -> State {
-    cli_printing::print_line(k);
-    cli_printing::print(b"stop\n");
+fn stopped(out: &mut Output, k: u64, s: State) -> State {
+    cli_printing::print_line(out, k);
+    cli_printing::print(out, b"stop\n");
     ended(s)
 }
 
 // A call that only reads what it is lent: of the ledger, of the cabinet or of the desk. No other letter is left.
 fn called(
+    out: &mut Output,
     k: u64,
     mut s: State,
     call: Call,
@@ -52,28 +54,29 @@ fn called(
     let first = call.first;
     if replay_gate::is_ledgers(letter) {
         let before = s.ledger;
-        s.ledger = replay_gate::ledger_call(k, before, letter, first, a, b, c, d, e);
+        s.ledger = replay_gate::ledger_call(out, k, before, letter, first, a, b, c, d, e);
         return s;
     }
     if replay_gate::is_cabinets(letter) {
         let before = s.cabinet;
         let second = call.second;
-        s.cabinet = replay_gate::cabinet_call(k, before, letter, first, second, a, b, c, d, e);
+        s.cabinet = replay_gate::cabinet_call(out, k, before, letter, first, second, a, b, c, d, e);
         return s;
     }
     if letter == b'D' {
-        replay_files::desk_call(k, a, b);
+        replay_files::desk_call(out, k, a, b);
         return s;
     }
     if letter == b'P' {
-        replay_runs::prepare_call(k, a);
+        replay_runs::prepare_call(out, k, a);
         return s;
     }
-    stopped(k, s)
+    stopped(out, k, s)
 }
 
 // A run of many requests, its arguments in the buffers.
 fn ran(
+    out: &mut Output,
     k: u64,
     mut s: State,
     call: Call,
@@ -89,6 +92,7 @@ fn ran(
     let before = s.ledger;
     let m = replay_script::within(e, call.e);
     s.ledger = replay_runs::run_call(
+        out,
         k,
         before,
         call.letter,
@@ -104,6 +108,7 @@ fn ran(
 
 // A run in a slot of the cabinet, its arguments in the buffers.
 fn ran_in_slot(
+    out: &mut Output,
     k: u64,
     mut s: State,
     call: Call,
@@ -119,6 +124,7 @@ fn ran_in_slot(
     let before = s.cabinet;
     let m = replay_script::within(e, call.e);
     s.cabinet = replay_runs::slot_run_call(
+        out,
         k,
         before,
         call.letter,
@@ -135,6 +141,7 @@ fn ran_in_slot(
 
 // A call, its arguments in the buffers. Those that write do so in the second, a trimming in the third and fourth, a run in the fifth.
 fn answered(
+    out: &mut Output,
     k: u64,
     s: State,
     call: Call,
@@ -149,10 +156,10 @@ fn answered(
 {
     let letter = call.letter;
     if replay_script::is_run(letter) {
-        return ran(k, s, call, form, a, b, c, d, e);
+        return ran(out, k, s, call, form, a, b, c, d, e);
     }
     if replay_script::is_slot_run(letter) {
-        return ran_in_slot(k, s, call, form, a, b, c, d, e);
+        return ran_in_slot(out, k, s, call, form, a, b, c, d, e);
     }
     let given = prefix(a, call.a);
     let m = replay_script::within(b, call.b);
@@ -160,18 +167,29 @@ fn answered(
     let o = replay_script::within(d, call.d);
     let p = replay_script::within(e, call.e);
     if replay_files::is_buffers(letter) {
-        replay_files::buffer_call(k, letter, call.first, call.second, given, &mut b[0..m]);
+        replay_files::buffer_call(out, k, letter, call.first, call.second, given, &mut b[0..m]);
         return s;
     }
     if letter == b'M' {
-        replay_files::trim_call(k, given, &b[0..m], &mut c[0..n], &mut d[0..o]);
+        replay_files::trim_call(out, k, given, &b[0..m], &mut c[0..n], &mut d[0..o]);
         return s;
     }
-    called(k, s, call, given, &b[0..m], &c[0..n], &d[0..o], &e[0..p])
+    called(
+        out,
+        k,
+        s,
+        call,
+        given,
+        &b[0..m],
+        &c[0..n],
+        &d[0..o],
+        &e[0..p],
+    )
 }
 
 // The next item of the script: a call, or the end.
 fn turn(
+    out: &mut Output,
     k: u64,
     s: State,
     next: Next,
@@ -185,14 +203,16 @@ fn turn(
     requires { length form.now ≡ 144 }
 {
     match next {
-        Next::Is(call) => answered(k, s, call, a, b, c, d, e, form),
-        Next::Stop => stopped(k, s),
+        Next::Is(call) => answered(out, k, s, call, a, b, c, d, e, form),
+        Next::Stop => stopped(out, k, s),
         Next::End => ended(s),
     }
 }
 
 // Reads the next call into the buffers, and makes it.
 fn next_turn(
+    rt: &HostRuntime,
+    out: &mut Output,
     k: u64,
     s: State,
     a: &mut [u8],
@@ -202,8 +222,8 @@ fn next_turn(
     e: &mut [u8],
 ) -> State {
     let mut form = [0u8; replay_script::FORM];
-    let next = replay_script::read_call(a, b, c, d, e, &mut form);
-    turn(k, s, next, a, b, c, d, e, &form)
+    let next = replay_script::read_call(rt, a, b, c, d, e, &mut form);
+    turn(out, k, s, next, a, b, c, d, e, &form)
 }
 
 // The number of the call after call k; the greatest where the run has ended.
@@ -218,20 +238,21 @@ fn number_after(on: bool, k: u64) -> u64
 }
 
 // A proved loop has to end, and nothing says that a script does: the calls are counted up to a number that no run reaches.
-fn run(a: &mut [u8], b: &mut [u8], c: &mut [u8], d: &mut [u8], e: &mut [u8]) {
+fn run(rt: &HostRuntime, a: &mut [u8], b: &mut [u8], c: &mut [u8], d: &mut [u8], e: &mut [u8]) {
+    let mut out = Output::new(rt);
     let mut s = fresh();
     let mut k: u64 = 1;
     while k < u64::MAX {
-        s = next_turn(k, s, a, b, c, d, e);
+        s = next_turn(rt, &mut out, k, s, a, b, c, d, e);
         k = number_after(s.on, k);
     }
 }
 
-fn main() {
+fn main(rt: HostRuntime) {
     let mut a = [0u8; replay_script::MOST];
     let mut b = [0u8; replay_script::MOST];
     let mut c = [0u8; replay_script::MOST];
     let mut d = [0u8; replay_script::MOST];
     let mut e = [0u8; replay_script::MOST];
-    run(&mut a, &mut b, &mut c, &mut d, &mut e);
+    run(&rt, &mut a, &mut b, &mut c, &mut d, &mut e);
 }

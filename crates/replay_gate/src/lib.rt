@@ -8,6 +8,7 @@ ghost use Rattle.cabinet.specs.Kept.{cabinet_as, cabinet_outcome_as};
 ghost use Rattle.replay_gate.specs.Letters.{is_ledgers, ledger_answer, is_cabinets, cabinet_answer, slot_of};
 
 use cabinet::{Cabinet, CabinetOutcome};
+use cli_printing::Output;
 use gate::{Ledger, Outcome};
 
 // Whether a letter is one of the ledger's.
@@ -55,6 +56,7 @@ fn ledger_answer(
 
 // A ledger call.
 pub fn ledger_call(
+    out: &mut Output,
     k: u64,
     before: Ledger,
     letter: u8,
@@ -68,7 +70,7 @@ pub fn ledger_call(
     ensures { ledger_as result ≡ (ledger_answer (ledger_as before) letter number km0.now acl.now req.now new.now hints.now).ledger }
 {
     let o = ledger_answer(before, letter, number, km0, acl, req, new, hints);
-    cli_outcomes::ledger_line(k, o)
+    cli_outcomes::ledger_line(out, k, o)
 }
 
 // Whether a letter is one of the cabinet's.
@@ -127,6 +129,7 @@ fn slot_of(letter: u8, place: usize) -> usize
 
 // A cabinet call.
 pub fn cabinet_call(
+    out: &mut Output,
     k: u64,
     before: Cabinet,
     letter: u8,
@@ -142,5 +145,5 @@ pub fn cabinet_call(
 {
     let place = first as usize;
     let o = cabinet_answer(before, letter, place, second, km0, acl, req, new, hints);
-    cli_outcomes::cabinet_line(k, o, slot_of(letter, place))
+    cli_outcomes::cabinet_line(out, k, o, slot_of(letter, place))
 }

@@ -14,7 +14,7 @@ ghost use Rattle.replay_runs.specs.Letters.{form_bytes, uses_given, form_given, 
 
 use cabinet::Cabinet;
 use cabinet_runs::CabinetRan;
-use cli_printing::print;
+use cli_printing::{Output, print};
 use files::Checked;
 use gate::Ledger;
 use run_form::Prepared;
@@ -67,18 +67,19 @@ fn answer(
     replay_rows::prepared_run(ledger, km0, acl, row, form_of(form), requests, answers)
 }
 
-fn print_ran(reply: RunReply) {
+fn print_ran(out: &mut Output, reply: RunReply) {
     match reply {
         RunReply::Ran(n) => {
-            print(b"length");
-            cli_printing::print_spaced(n);
+            print(out, b"length");
+            cli_printing::print_spaced(out, n);
         }
-        RunReply::Refused(why) => cli_printing::print_refusal(refusals::number(why) as u64),
+        RunReply::Refused(why) => cli_printing::print_refusal(out, refusals::number(why) as u64),
     }
 }
 
 // Makes a run, prints its reply and the whole buffer after it, and returns the ledger.
 pub fn run_call(
+    out: &mut Output,
     k: u64,
     before: Ledger,
     letter: u8,
@@ -95,11 +96,11 @@ pub fn run_call(
     let o = answer(before, letter, form, km0, acl, row, requests, answers);
     let reply = o.reply;
     let ledger = o.ledger;
-    cli_printing::print_line(k);
-    print_ran(reply);
-    print(b" ");
-    cli_printing::print_hex(answers);
-    cli_outcomes::print_ledger(ledger)
+    cli_printing::print_line(out, k);
+    print_ran(out, reply);
+    print(out, b" ");
+    cli_printing::print_hex(out, answers);
+    cli_outcomes::print_ledger(out, ledger)
 }
 
 // The answer to a letter of a run in a slot: plain, or on a prepared ACL.
@@ -134,6 +135,7 @@ fn slot_answer(
 
 // A run in a slot: its reply, the whole buffer after it, the slot and the shared counters of the cabinet that it returns.
 pub fn slot_run_call(
+    out: &mut Output,
     k: u64,
     before: Cabinet,
     letter: u8,
@@ -152,30 +154,30 @@ pub fn slot_run_call(
     let o = slot_answer(before, letter, slot, form, km0, acl, row, requests, answers);
     let reply = o.reply;
     let cabinet = o.cabinet;
-    cli_printing::print_line(k);
-    print_ran(reply);
-    print(b" ");
-    cli_printing::print_hex(answers);
-    cli_outcomes::print_cabinet(cabinet, slot)
+    cli_printing::print_line(out, k);
+    print_ran(out, reply);
+    print(out, b" ");
+    cli_printing::print_hex(out, answers);
+    cli_outcomes::print_cabinet(out, cabinet, slot)
 }
 
 // The sets of a form, sixteen lower-case digits for each.
-fn print_form(form: Prepared) {
+fn print_form(out: &mut Output, form: Prepared) {
     let uses = form.uses;
-    print(b"form ");
-    cli_printing::print_words(&uses);
-    cli_printing::print_word(form.working);
-    cli_printing::print_word(form.recovery);
+    print(out, b"form ");
+    cli_printing::print_words(out, &uses);
+    cli_printing::print_word(out, form.working);
+    cli_printing::print_word(out, form.recovery);
 }
 
 // A preparation: the form, or the ACL's refusal.
-pub fn prepare_call(k: u64, acl: &[u8]) {
+pub fn prepare_call(out: &mut Output, k: u64, acl: &[u8]) {
     let p = run_form::prepare(acl);
     let fault = p.fault;
-    cli_printing::print_line(k);
+    cli_printing::print_line(out, k);
     match fault {
-        Checked::Sound => print_form(p.form),
-        Checked::Refused(why) => cli_printing::print_refusal(refusals::number(why) as u64),
+        Checked::Sound => print_form(out, p.form),
+        Checked::Refused(why) => cli_printing::print_refusal(out, refusals::number(why) as u64),
     }
-    print(b"\n");
+    print(out, b"\n");
 }

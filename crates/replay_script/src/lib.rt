@@ -4,8 +4,6 @@
 
 ghost use Rattle.std.specs.Prelude.{◌≡◌, ◌||◌, ◌≤◌, length, take, eqb};
 
-use libc::STDIN_FILENO;
-
 // The greatest length of a run of bytes.
 pub const MOST: usize = 262144;
 
@@ -106,13 +104,23 @@ fn can_be_third(letter: u8, n: u64) -> bool {
     !(is_run(letter) | is_slot_run(letter)) | (n % 22 == 0)
 }
 
+// Reads from standard input until the buffer is full or the script ends, and returns how many bytes it put at the buffer's front. A read that fails ends
+// the script: nothing is read.
+fn read_full(rt: &HostRuntime, buffer: &mut [u8]) -> usize {
+    let mut script = rt.stdin();
+    match cli_arguments::read_full(&mut script, buffer) {
+        Ok(n) => n,
+        Err(_) => 0,
+    }
+}
+
 // Reads a number, if the call takes one: 8 bytes, big-endian.
-fn read_number(due: bool) -> Argument {
+fn read_number(rt: &HostRuntime, due: bool) -> Argument {
     if !due {
         return Argument::Is(0);
     }
     let mut b = [0u8; 8];
-    let n = io::read_full(STDIN_FILENO, &mut b);
+    let n = read_full(rt, &mut b);
     if n != 8 {
         return Argument::Missing;
     }
@@ -120,9 +128,9 @@ fn read_number(due: bool) -> Argument {
 }
 
 // A length: 4 bytes, big-endian.
-fn read_length() -> Argument {
+fn read_length(rt: &HostRuntime) -> Argument {
     let mut b = [0u8; 4];
-    let n = io::read_full(STDIN_FILENO, &mut b);
+    let n = read_full(rt, &mut b);
     if n != 4 {
         return Argument::Missing;
     }
@@ -130,18 +138,18 @@ fn read_length() -> Argument {
 }
 
 // Reads bytes, if the call takes them: a length, then that many bytes, into the front of the buffer.
-fn read_bytes(due: bool, buffer: &mut [u8]) -> Argument {
+fn read_bytes(rt: &HostRuntime, due: bool, buffer: &mut [u8]) -> Argument {
     if !due {
         return Argument::Is(0);
     }
-    let Argument::Is(n) = read_length() else {
+    let Argument::Is(n) = read_length(rt) else {
         return Argument::Missing;
     };
     let m = n as usize;
     if buffer.len() < m {
         return Argument::Missing;
     }
-    let got = io::read_full(STDIN_FILENO, &mut buffer[0..m]);
+    let got = read_full(rt, &mut buffer[0..m]);
     if got != m {
         return Argument::Missing;
     }
@@ -149,22 +157,22 @@ fn read_bytes(due: bool, buffer: &mut [u8]) -> Argument {
 }
 
 // Reads a form, if the call takes one, into its buffer. Returns whether it has the length of a form.
-fn read_form(due: bool, form: &mut [u8]) -> bool {
-    let Argument::Is(n) = read_bytes(due, form) else {
+fn read_form(rt: &HostRuntime, due: bool, form: &mut [u8]) -> bool {
+    let Argument::Is(n) = read_bytes(rt, due, form) else {
         return false;
     };
     !due | (n as usize == form.len())
 }
 
 // The first three runs of bytes of a call that takes n, each into its buffer.
-fn read_three(n: u64, a: &mut [u8], b: &mut [u8], c: &mut [u8]) -> Lengths {
-    let Argument::Is(x) = read_bytes(0 < n, a) else {
+fn read_three(rt: &HostRuntime, n: u64, a: &mut [u8], b: &mut [u8], c: &mut [u8]) -> Lengths {
+    let Argument::Is(x) = read_bytes(rt, 0 < n, a) else {
         return Lengths::Missing;
     };
-    let Argument::Is(y) = read_bytes(1 < n, b) else {
+    let Argument::Is(y) = read_bytes(rt, 1 < n, b) else {
         return Lengths::Missing;
     };
-    let Argument::Is(z) = read_bytes(2 < n, c) else {
+    let Argument::Is(z) = read_bytes(rt, 2 < n, c) else {
         return Lengths::Missing;
     };
     Lengths::Are(x, y, z)
@@ -172,6 +180,7 @@ fn read_three(n: u64, a: &mut [u8], b: &mut [u8], c: &mut [u8]) -> Lengths {
 
 // The runs of bytes of a call, behind its numbers and its form.
 fn read_runs(
+    rt: &HostRuntime,
     letter: u8,
     first: u64,
     second: u64,
@@ -182,16 +191,16 @@ fn read_runs(
     e: &mut [u8],
 ) -> Next {
     let n = runs_of(letter);
-    let Lengths::Are(x, y, z) = read_three(n, a, b, c) else {
+    let Lengths::Are(x, y, z) = read_three(rt, n, a, b, c) else {
         return Next::Stop;
     };
     if !can_be_third(letter, z) {
         return Next::Stop;
     }
-    let Argument::Is(v) = read_bytes(3 < n, d) else {
+    let Argument::Is(v) = read_bytes(rt, 3 < n, d) else {
         return Next::Stop;
     };
-    let Argument::Is(w) = read_bytes(4 < n, e) else {
+    let Argument::Is(w) = read_bytes(rt, 4 < n, e) else {
         return Next::Stop;
     };
     Next::Is(Call {
@@ -208,6 +217,7 @@ fn read_runs(
 
 // The arguments of a letter's call.
 fn read_arguments(
+    rt: &HostRuntime,
     letter: u8,
     a: &mut [u8],
     b: &mut [u8],
@@ -217,20 +227,21 @@ fn read_arguments(
     form: &mut [u8],
 ) -> Next {
     let n = numbers_of(letter);
-    let Argument::Is(first) = read_number(0 < n) else {
+    let Argument::Is(first) = read_number(rt, 0 < n) else {
         return Next::Stop;
     };
-    let Argument::Is(second) = read_number(1 < n) else {
+    let Argument::Is(second) = read_number(rt, 1 < n) else {
         return Next::Stop;
     };
-    if !read_form((letter == b'Q') | (letter == b'q'), form) {
+    if !read_form(rt, (letter == b'Q') | (letter == b'q'), form) {
         return Next::Stop;
     }
-    read_runs(letter, first, second, a, b, c, d, e)
+    read_runs(rt, letter, first, second, a, b, c, d, e)
 }
 
 // The next call, its runs of bytes in the buffers and its form in one of its own.
 pub fn read_call(
+    rt: &HostRuntime,
     a: &mut [u8],
     b: &mut [u8],
     c: &mut [u8],
@@ -239,9 +250,9 @@ pub fn read_call(
     form: &mut [u8],
 ) -> Next {
     let mut letter = [0u8; 1];
-    let n = io::read_full(STDIN_FILENO, &mut letter);
+    let n = read_full(rt, &mut letter);
     if n == 0 {
         return Next::End;
     }
-    read_arguments(letter[0], a, b, c, d, e, form)
+    read_arguments(rt, letter[0], a, b, c, d, e, form)
 }

@@ -5,5 +5,5 @@ use borrow.Author.Rules.{rules}
 use Rattle.replay_runs.proofs.run_call.Goals as goal
 
 pub returns : goal.returns
-returns c =    let o = c.answer-o.ensures in
+returns c = let o = c.answer-o.ensures in
     (ap ledger_as c.print_ledger.ensures ∙ ap (λ (x : RunOutcome). x.ledger) o, ap (λ (x : RunOutcome). x.buffer) o)
