@@ -6,6 +6,7 @@
 use std::io;
 
 // Standard output, and whether output was lost there.
+#[derive(Drop)]
 pub struct Output {
     rt: HostRuntime,
     lost: bool,

@@ -139,7 +139,36 @@ fn ran_in_slot(
     s
 }
 
-// A call, its arguments in the buffers. Those that write do so in the second, a trimming in the third and fourth, a run in the fifth.
+// A call that is no run, its arguments in the buffers. Those that write do so in the second, a trimming in the third and fourth.
+fn answered_alone(
+    out: &mut Output,
+    k: u64,
+    s: State,
+    call: Call,
+    a: &[u8],
+    b: &mut [u8],
+    c: &mut [u8],
+    d: &mut [u8],
+    e: &[u8],
+) -> State {
+    let letter = call.letter;
+    let given = prefix(a, call.a);
+    let m = replay_script::within(b, call.b);
+    let n = replay_script::within(c, call.c);
+    let o = replay_script::within(d, call.d);
+    if replay_files::is_buffers(letter) {
+        replay_files::buffer_call(out, k, letter, call.first, call.second, given, &mut b[0..m]);
+        return s;
+    }
+    if letter == b'M' {
+        replay_files::trim_call(out, k, given, &b[0..m], &mut c[0..n], &mut d[0..o]);
+        return s;
+    }
+    let last = prefix(e, call.e);
+    called(out, k, s, call, given, &b[0..m], &c[0..n], &d[0..o], last)
+}
+
+// A call, its arguments in the buffers. A run writes in the fifth.
 fn answered(
     out: &mut Output,
     k: u64,
@@ -161,30 +190,7 @@ fn answered(
     if replay_script::is_slot_run(letter) {
         return ran_in_slot(out, k, s, call, form, a, b, c, d, e);
     }
-    let given = prefix(a, call.a);
-    let m = replay_script::within(b, call.b);
-    let n = replay_script::within(c, call.c);
-    let o = replay_script::within(d, call.d);
-    let p = replay_script::within(e, call.e);
-    if replay_files::is_buffers(letter) {
-        replay_files::buffer_call(out, k, letter, call.first, call.second, given, &mut b[0..m]);
-        return s;
-    }
-    if letter == b'M' {
-        replay_files::trim_call(out, k, given, &b[0..m], &mut c[0..n], &mut d[0..o]);
-        return s;
-    }
-    called(
-        out,
-        k,
-        s,
-        call,
-        given,
-        &b[0..m],
-        &c[0..n],
-        &d[0..o],
-        &e[0..p],
-    )
+    answered_alone(out, k, s, call, a, b, c, d, e)
 }
 
 // The next item of the script: a call, or the end.
