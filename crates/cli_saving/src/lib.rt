@@ -10,6 +10,7 @@ ghost use Rattle.std.specs.Io.{WritesAtMost};
 use cli_arguments::{PATH, argument_or_none, prefix, say};
 use std::fs::{File, OpenOptions};
 use std::io::{ErrorKind, Write};
+use std::os::unix::fs::MetadataExt;
 use std::{fs, io, process};
 
 // Room for a path and for what the name of its temporary file adds.
@@ -227,7 +228,36 @@ pub fn discard(rt: &HostRuntime, i: usize) {
     remove(rt, &name[..m]);
 }
 
-// Prints that the file that argument i names cannot be told from others.
+// The device and the number of the file that argument i names.
+fn node(rt: &HostRuntime, i: usize) -> io::Result<(u64, u64)> {
+    let mut path = [0u8; PATH];
+    let n = argument_or_none(rt, i, &mut path);
+    let about = fs::metadata(rt, cli_arguments::text(&path[..n])?)?;
+    Ok((about.dev(), about.ino()))
+}
+
+// Whether arguments i and j name one file, by its number. Where there is no file i yet, they do not.
+fn is_one_file(rt: &HostRuntime, i: usize, j: usize) -> io::Result<bool> {
+    match node(rt, i) {
+        Ok(old) => Ok(node(rt, j)? == old),
+        Err(why) => {
+            if why.kind() == ErrorKind::NotFound {
+                return Ok(false);
+            }
+            Err(why)
+        }
+    }
+}
+
+// Whether argument j leads to the file that was prepared for argument i: by its temporary file or, where a link on the way cannot be read, by its number.
+fn leads_to(rt: &HostRuntime, i: usize, j: usize) -> io::Result<bool> {
+    match is_prepared(rt, j) {
+        Ok(found) => Ok(found),
+        Err(_) => is_one_file(rt, i, j),
+    }
+}
+
+// Prints why the file that argument i names cannot be told from another.
 fn say_unknown(rt: &HostRuntime, i: usize, why: io::Error) {
     let mut path = [0u8; PATH];
     let n = argument_or_none(rt, i, &mut path);
@@ -236,7 +266,7 @@ fn say_unknown(rt: &HostRuntime, i: usize, why: io::Error) {
 
 // Whether argument j names the very file that was prepared for argument i, or that cannot be told. If so, nothing is written.
 pub fn is_same(rt: &HostRuntime, i: usize, j: usize) -> bool {
-    match is_prepared(rt, j) {
+    match leads_to(rt, i, j) {
         Ok(false) => return false,
         Ok(true) => {
             discard(rt, i);
