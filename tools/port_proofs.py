@@ -103,7 +103,15 @@ def turn_invariant(fn, kind, loop, equation, trouble):
     if len(words) != len(want):
         trouble.append(f"{kind}-{loop}: {len(words)} variables {words}, for {still} and {moved}")
         return new, None
-    to = dict(zip(words, want))
+    to = {}
+    for word in words:
+        name = word.replace("-", "_").replace("′", "'")
+        if name.endswith("₀") and name[:-1] in moved:
+            to[word] = "l.initial." + name[:-1]
+        elif name in names or name.rstrip("'") in names:
+            to[word] = "l." + (name if name in names else name.rstrip("'"))
+        elif word != "_":
+            trouble.append(f"{kind}-{loop}: no variable {word} among {names}")
     to.pop("_", None)
     body = re.sub(r"(?<![^\s(){}\[\],;])([^\s(){}\[\],;.]+)", lambda m: to.get(m[1], m[1]), body)
     return new, f"{kind}-{new} l ={body}"

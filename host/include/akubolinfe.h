@@ -1,5 +1,5 @@
 /* Akubolinfe for C and C++: a permission gate for keys kept in nShield modules (for one key, and for a cabinet of eight), the
- * attestation desk, the trimming tool, the subject writer, files as text, and where a fault is. x86-64 Linux.
+ * attestation desk, the trimming tool, the subject writer, files as text, and where a fault is. x86-64-v2 Linux.
  *
  * Answers
  *   Every answer begins with `refusal`: 0 if the call did what it was asked, else the number of the refusal (AKUBOLINFE_MALFORMED and
@@ -26,9 +26,9 @@
  *     knows whether a presented certificate, or a signature that is reported as good, was checked.
  *
  * Sizes
- *   A ledger has 1,296 bytes and a cabinet 3,200. The stack that a call in place needs, measured on the longest files: 6 KB on a ledger,
- *   15 KB for a run on it, 12 KB in a slot of a cabinet, 34 KB for a run in a slot. By value it is at most 10 KB more. The other functions
- *   need less than 5 KB.
+ *   A ledger has 1,296 bytes and a cabinet 3,200. The stack that a call in place needs, measured on the longest files (with the older
+ *   kit): 6 KB on a ledger, 15 KB for a run on it, 12 KB in a slot of a cabinet, 34 KB for a run in a slot. By value it is at most 10 KB
+ *   more. The other functions need less than 5 KB.
  *
  * Link with `pkg-config --cflags --libs akubolinfe`. */
 #ifndef AKUBOLINFE_H

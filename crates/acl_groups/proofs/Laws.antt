@@ -10,7 +10,8 @@ use borrow.Author.Tests.{eq-eqb, ne_eqb, not-true, not-false}
 use lib.ListN.{length, take, drop, get_or, length-drop, drop_of_length-le}
 use lib.Seq.{length-take-le, drop-nil, get_or-drop, get_or-take}
 use lib.Dec.{eqb}
-use Rattle.rules.specs.Basics.{if◌then◌else◌, Bytes, all, part, kind, records, records_from}
+use Rattle.std.specs.Prelude.{if◌then◌else◌}
+use Rattle.rules.specs.Basics.{Bytes, all, part, kind, records, records_from}
 use Rattle.rules.specs.Acl.{Limit, limit_of, limits_of, blobfile_rule_of, blobfile_rule_next, action_of, actions_of, Group, group_of, groups_of}
 use Rattle.rules.specs.Request.{blobfile_of, blobfile_next}
 use Rattle.rules.proofs.Rows.{rows_at, rows_end, rows_start, rows_rest, rows_lent, kind_at, lent_record, lent_record_lem, lent_rest, lent_rest_lem, first, no_rows}

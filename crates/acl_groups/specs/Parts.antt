@@ -1,8 +1,8 @@
 -- Parts of an ACL: the offset of one of its groups, and that of a group's next action.
-use Rattle.std.specs.Prelude.{ℕ, ◌+◌, ◌-◌, ◌≤◌, ◌≡◌, List, [], ◌∷◌, Bool, false, ◌||◌, length, get_or, drop, eqb}
+use Rattle.std.specs.Prelude.{ℕ, ◌+◌, ◌-◌, ◌≤◌, ◌≡◌, List, [], ◌∷◌, Bool, false, ◌||◌, length, get_or, drop, eqb, if◌then◌else◌}
 use Rattle.std.proofs.Math.Option.{Option, none, some}
 use Rattle.rules.specs.Sizes.{record_bytes}
-use Rattle.rules.specs.Basics.{if◌then◌else◌, Bytes, part, kind, records}
+use Rattle.rules.specs.Basics.{Bytes, part, kind, records}
 use Rattle.rules.specs.Acl.{Limit, limits_of, BlobfileRule, blobfile_rule_of, blobfile_rule_next, Action, action_of, actions_of, Group, groups_of}
 use Rattle.rules.specs.Request.{Blobfile, blobfile_of, blobfile_next}
 

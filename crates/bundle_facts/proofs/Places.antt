@@ -9,7 +9,8 @@ use borrow.Author.Tests.{eqb-true, eqb-false, eq-eqb, ne_eqb, ltb-true, ltb-fals
 use lib.ListN.{length, get_or, take, drop, set, replicate, length-set, length-replicate, get_or-replicate}
 use lib.Seq.{get_or-take, get_or-drop, get_or-set_same, get_or-set_other}
 use lib.Dec.{eqb, ltb}
-use Rattle.rules.specs.Basics.{if◌then◌else◌, Bytes, part, kind, byte, or_next, records, records_from}
+use Rattle.std.specs.Prelude.{if◌then◌else◌}
+use Rattle.rules.specs.Basics.{Bytes, part, kind, byte, or_next, records, records_from}
 use Rattle.rules.specs.Bundle.{first_record, numbered, policy_record}
 use Rattle.rules.proofs.Rows.{rows_start, rows_lent, rows_end, lent_record, lent_record_lem, kind_at}
 use Rattle.bundle_facts.specs.Found.{or_empty}

@@ -1,8 +1,8 @@
 -- A table of offsets in a bundle: where the records are that the desk asks for.
-use Rattle.std.specs.Prelude.{ℕ, ◌+◌, ◌-◌, ◌≤◌, ◌<◌, ◌≡◌, List, [], ◌∷◌, Bool, ◌&&◌, length, get_or, set, replicate, eqb, ltb}
+use Rattle.std.specs.Prelude.{ℕ, ◌+◌, ◌-◌, ◌≤◌, ◌<◌, ◌≡◌, List, [], ◌∷◌, Bool, ◌&&◌, length, get_or, set, replicate, eqb, ltb, if◌then◌else◌}
 use Rattle.std.proofs.Math.Option.{Option, none, some}
 use Rattle.rules.specs.Sizes.{record_bytes}
-use Rattle.rules.specs.Basics.{if◌then◌else◌, Bytes, part, byte, kind, or_next, records}
+use Rattle.rules.specs.Basics.{Bytes, part, byte, kind, or_next, records}
 use Rattle.rules.specs.Bundle.{first_record}
 
 -- how many entries there are, and the last of them, of which nothing is asked

@@ -8,7 +8,8 @@ use lib.Dec.{eqb, ltb, leb}
 use borrow.Author.Tests.{eqb-true, eqb-false, ltb-true, ltb-false, lt-ltb, le-ltb, le-leb, lt-leb, not-true, not-false}
 use Rattle.rules.specs.Numbers.{malformed, too_many}
 use Rattle.rules.specs.Sizes.{listed_max}
-use Rattle.rules.specs.Basics.{if◌then◌else◌, Bytes, implies, first_fault, record_fault}
+use Rattle.std.specs.Prelude.{if◌then◌else◌}
+use Rattle.rules.specs.Basics.{Bytes, implies, first_fault, record_fault}
 use Rattle.rules.specs.Bundle.{BundleState, order_of, in_order, listed_order, policy_order, bundle_record_laid_out, bundle_in_place, bundle_has_room, bundle_record_fault, listed_after, after_bundle_record, bundle_end}
 
 -- A record's position in the order, as the code computed it, and 1 where it is field 14's.

@@ -1,9 +1,9 @@
 // A bundle file: its first fault.
 #![tactic(auto)]
 
-ghost use Rattle.std.specs.Prelude.{◌≡◌, ◌+◌, ◌*◌, length, eqb};
+ghost use Rattle.std.specs.Prelude.{◌≡◌, ◌+◌, ◌*◌, length, eqb, if◌then◌else◌};
 ghost use Rattle.rules.specs.Sizes.{record_bytes};
-ghost use Rattle.rules.specs.Basics.{if◌then◌else◌, records};
+ghost use Rattle.rules.specs.Basics.{records};
 ghost use Rattle.rules.specs.Bundle.{order_of, listed_order, bundle_record_laid_out, bundle_in_place, bundle_fault};
 ghost use Rattle.files.specs.Faults.{fault_as};
 

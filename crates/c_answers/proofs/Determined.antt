@@ -10,7 +10,7 @@ use lib.ListN.{get_or}
 use lib.Dec.{eqb, lit<}
 use borrow.Author.Tests.{ne_eqb, lt-ltb}
 use Rattle.rules.specs.Numbers.{no_group}
-use Rattle.rules.specs.Basics.{if◌then◌else◌}
+use Rattle.std.specs.Prelude.{if◌then◌else◌}
 use Rattle.rules.specs.Gate.{Answer, done, permit, refuse, Outcome}
 use Rattle.rules.specs.Cabinet as cabinet
 use Rattle.rules.specs.Desk.{Step, WV1, MSCV1, MSCV2, MSCV3, MSCV4, MSCV5, WBCV1, WBCV2, WBCV3, KGCV1, KGCV2, ACLV3, WB1, WB2, WB3, WB6, RB1, RB2, RB3, KV3, CSRL1}

@@ -1,9 +1,8 @@
 -- The answers of the C surface in plain numbers, as the code gives them and as the definitions do. "refusal first, 0 where there is none"; what an answer
 -- does not carry is zero.
-use Rattle.std.specs.Prelude.{ℕ, Bool, false, ltb}
+use Rattle.std.specs.Prelude.{ℕ, Bool, false, ltb, if◌then◌else◌}
 use Rattle.std.proofs.Math.Option.{Option, none, some}
 use Rattle.rules.specs.Numbers.{no_group}
-use Rattle.rules.specs.Basics.{if◌then◌else◌}
 use Rattle.rules.specs.Ledger as rules
 use Rattle.rules.specs.Gate.{Answer, done, permit, refuse, Outcome}
 use Rattle.rules.specs.Cabinet as cabinet

@@ -1,10 +1,10 @@
 -- Where a fault is, in plain numbers, as the code gives it and as the definitions do. "All that is not named is 0 (input, part, reason) or all ones
 -- (record, group, item)."
-use Rattle.std.specs.Prelude.{ℕ, eqb, ltb}
+use Rattle.std.specs.Prelude.{ℕ, eqb, ltb, if◌then◌else◌}
 use Rattle.std.proofs.Math.Option.{Option, none, some}
 use Rattle.rules.specs.Numbers.{not_narrower, out_of_range, no_group}
 use Rattle.rules.specs.Numbers as numbers
-use Rattle.rules.specs.Basics.{if◌then◌else◌, Bytes}
+use Rattle.rules.specs.Basics.{Bytes}
 use Rattle.text_files.specs.declared.Kind.TheVariants as kind
 use Rattle.reason_files.specs.Places.{Place, sound, at_length, at_record, at_end, place_in}
 use Rattle.reason_inputs.specs.declared.Input.{Input}

@@ -5,7 +5,8 @@ use native.Mathlib.Omega.{arith}
 use mathlib.Core.Bool.{false}
 use lib.Dec.{eqb}
 use borrow.Author.Tests.{ne_eqb}
-use Rattle.rules.specs.Basics.{if◌then◌else◌, Bytes}
+use Rattle.std.specs.Prelude.{if◌then◌else◌}
+use Rattle.rules.specs.Basics.{Bytes}
 use Rattle.rules.specs.Runs.{RunReply, ran, refused_whole, RunOutcome}
 use Rattle.rules.specs.Prepared.{Preparation, prepared, unprepared}
 use Rattle.rules.specs.CabinetRuns.{CabinetRan}

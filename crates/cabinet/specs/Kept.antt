@@ -1,8 +1,7 @@
 -- The cabinet's types, as the definitions have them.
-use Rattle.std.specs.Prelude.{ℕ, map, Bool, ltb}
+use Rattle.std.specs.Prelude.{ℕ, map, Bool, ltb, if◌then◌else◌}
 use Rattle.rules.specs.Sizes.{slots_max}
 use Rattle.rules.specs.Numbers.{no_slot}
-use Rattle.rules.specs.Basics.{if◌then◌else◌}
 use Rattle.rules.specs.Ledger.{Ledger}
 use Rattle.rules.specs.Gate.{Outcome, refused}
 use Rattle.rules.specs.Cabinet as rules

@@ -1,5 +1,5 @@
-// Runs in a slot of a cabinet: the gate's own run, on the slot's counts and times and the shared counters. The entries, which take the row of
-// certificates, are proved by hand: each reads the row and leaves the rest to one function with plain parameters.
+// Runs in a slot of a cabinet: the gate's own run, on the slot's counts and times and the shared counters. Each of the entries, which
+// take the row of certificates, reads it and leaves the rest to one function with plain parameters.
 #![tactic(auto)]
 
 ghost use Rattle.std.specs.Prelude.{◌≡◌, ◌<◌};

@@ -1,5 +1,6 @@
 -- The names of the kinds of file, as the programs' arguments have them.
-use Rattle.rules.specs.Basics.{if◌then◌else◌, Bytes, ascii, same}
+use Rattle.std.specs.Prelude.{if◌then◌else◌}
+use Rattle.rules.specs.Basics.{Bytes, ascii, same}
 use Rattle.text_files.specs.declared.Kind.TheVariants.{Acl, Request, Requests, Bundle, Hints}
 use Rattle.cli_kinds.specs.declared.Named.{Named}
 use Rattle.cli_kinds.specs.declared.Named.TheVariants.{Is, Unknown}

@@ -1,7 +1,7 @@
 -- The words of every refusal number and of every attestation step: what the programs say on standard error beside a number or a step's name.
-use Rattle.std.specs.Prelude.{ℕ, List, [], ◌∷◌, eqb}
+use Rattle.std.specs.Prelude.{ℕ, List, [], ◌∷◌, eqb, if◌then◌else◌}
 use Prim.Native.String.{String}
-use Rattle.rules.specs.Basics.{if◌then◌else◌, Bytes, ascii}
+use Rattle.rules.specs.Basics.{Bytes, ascii}
 use Rattle.rules.specs.Numbers as numbers
 use Rattle.rules.specs.Desk as rules
 

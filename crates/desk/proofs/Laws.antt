@@ -10,7 +10,8 @@ use lib.ListN.{replicate}
 use lib.Dec.{eqb, leb}
 use Rattle.rules.specs.Sizes.{bundle_records, acl_records}
 use Rattle.rules.specs.Numbers.{bad_length}
-use Rattle.rules.specs.Basics.{if◌then◌else◌, Bytes, or_next, first_fault, fits, records}
+use Rattle.std.specs.Prelude.{if◌then◌else◌}
+use Rattle.rules.specs.Basics.{Bytes, or_next, first_fault, fits, records}
 use Rattle.rules.specs.Suites.{suite}
 use Rattle.rules.specs.Acl.{Action, permissions, make_blob, make_archive, Group, acl_of, acl_fault}
 use Rattle.rules.specs.Bundle.{Policy, policy_of, bundle_fault}
@@ -168,6 +169,3 @@ unfolding full_failure first_fault
 failed_early b gs f s a e d =
     let p : before_acl b ≡ some (step_as s) = sym e ∙ ap failure_as d in
     sym (rw p)
-
-pub passed_early : (b : List Bytes) (f : Failure) → failure_as f ≡ before_acl b → f ≡ Nothing → before_acl b ≡ none
-passed_early b f e d = sym e ∙ ap failure_as d

@@ -1,10 +1,10 @@
 -- The desk's answers by document 01's numbers, values and step names, as the code gives them and as the definitions do. Both readings keep all that an
 -- answer says, so that an equation between them determines the code's answer.
-use Rattle.std.specs.Prelude.{ℕ, List, [], ◌∷◌, Bool, false, ◌&&◌, replicate, leb}
+use Rattle.std.specs.Prelude.{ℕ, List, [], ◌∷◌, Bool, false, ◌&&◌, replicate, leb, if◌then◌else◌}
 use Rattle.std.proofs.Math.Option.{Option}
 use Rattle.rules.specs.Sizes.{bundle_records, acl_records}
 use Rattle.rules.specs.Numbers as numbers
-use Rattle.rules.specs.Basics.{if◌then◌else◌, Bytes, fits, unless, first_fault}
+use Rattle.rules.specs.Basics.{Bytes, fits, unless, first_fault}
 use Rattle.rules.specs.Suites.{is_suite}
 use Rattle.rules.specs.Bundle.{policy_of}
 use Rattle.rules.specs.Desk as rules

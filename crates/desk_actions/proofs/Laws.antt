@@ -12,7 +12,8 @@ use lib.ListN.{length, take, drop, get_or, length-drop}
 use lib.Seq.{length-take-le, take-take}
 use lib.Pow.{shr-shr, shr_le}
 use lib.Dec.{eqb, ltb}
-use Rattle.rules.specs.Basics.{if◌then◌else◌, Bytes, implies, bit, all_below, part, number, kind, flag, optional, present, both_same, unless, first_fault}
+use Rattle.std.specs.Prelude.{if◌then◌else◌}
+use Rattle.rules.specs.Basics.{Bytes, implies, bit, all_below, part, number, kind, flag, optional, present, both_same, unless, first_fault}
 use Rattle.rules.specs.Acl.{blob_rule_of, archive_rule_of, parameters_at, BlobfileRule, Action, permissions, make_blob, make_archive, action_of}
 use Rattle.rules.specs.Bundle.{Policy}
 use Rattle.rules.specs.Suites.{suite_mechanism}

@@ -10,7 +10,8 @@ use lib.ListN.{length, drop, get_or}
 use lib.Dec.{eqb}
 use Rattle.rules.specs.Numbers.{not_kept}
 use Rattle.rules.specs.Sizes.{hash_bytes}
-use Rattle.rules.specs.Basics.{if◌then◌else◌, Bytes, any, kind, flag, part, number, optional, both_same, or_next, first_fault, records, records_from}
+use Rattle.std.specs.Prelude.{if◌then◌else◌}
+use Rattle.rules.specs.Basics.{Bytes, any, kind, flag, part, number, optional, both_same, or_next, first_fault, records, records_from}
 use Rattle.rules.specs.Acl.{blob_rule_of, archive_rule_of, BlobfileRule, blobfile_rule_next, Action, make_blob, action_of, actions_of, Group, group_of, groups_of}
 use Rattle.rules.specs.Bundle.{field, Policy, policy_of}
 use Rattle.rules.specs.Desk.{Step, permissions_failure, blob_failure, archive_failure, module_key, recovery_key, failure_under, officers_group, acl_failure, action_protection, smallest, is_archive, key_protection, recoverable_key}

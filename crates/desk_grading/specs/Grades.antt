@@ -1,8 +1,8 @@
 -- The grade of an ACL at the desk, part by part.
-use Rattle.std.specs.Prelude.{ℕ, min, List, [], ◌∷◌, Bool, true, false, ◌||◌}
+use Rattle.std.specs.Prelude.{ℕ, min, List, [], ◌∷◌, Bool, true, false, ◌||◌, if◌then◌else◌}
 use Rattle.std.proofs.Math.Option.{Option, none}
 use Rattle.rules.specs.Numbers.{not_kept}
-use Rattle.rules.specs.Basics.{if◌then◌else◌, Bytes, both_same, or_next}
+use Rattle.rules.specs.Basics.{Bytes, both_same, or_next}
 use Rattle.rules.specs.Acl.{Action, Group}
 use Rattle.rules.specs.Bundle.{Policy}
 use Rattle.rules.specs.Desk.{Step, failure_under, acl_failure, action_protection, key_protection, is_archive, recoverable_key}

@@ -1,7 +1,7 @@
 -- The line of a verdict.
-use Rattle.std.specs.Prelude.{ℕ, ◌++◌, Bool, true, false, eqb}
+use Rattle.std.specs.Prelude.{ℕ, ◌++◌, Bool, true, false, eqb, if◌then◌else◌}
 use Prim.Native.String.{String}
-use Rattle.rules.specs.Basics.{if◌then◌else◌, Bytes, ascii}
+use Rattle.rules.specs.Basics.{Bytes, ascii}
 use Rattle.rules.specs.Day.{decimal}
 use Rattle.rules.specs.Desk as rules
 use Rattle.desk.specs.Replies.{Named, DeskReply, accepting, failing, refusing}

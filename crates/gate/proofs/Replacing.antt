@@ -7,7 +7,8 @@ use mathlib.Core.Bool.{Bool, true, false}
 use lib.ListN.{length}
 use Rattle.rules.specs.Sizes.{groups_max}
 use Rattle.rules.specs.Numbers.{not_narrower}
-use Rattle.rules.specs.Basics.{if◌then◌else◌, Bytes}
+use Rattle.std.specs.Prelude.{if◌then◌else◌}
+use Rattle.rules.specs.Basics.{Bytes}
 use Rattle.rules.specs.Acl.{Group, acl_of}
 use Rattle.rules.specs.Request.{Request, request_of, Hint, hints_of}
 use Rattle.rules.specs.Ledger.{Ledger, charge, recounted, carried}

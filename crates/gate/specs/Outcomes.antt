@@ -1,7 +1,6 @@
 -- The gate's types, as the definitions have them: the ledger and outcomes; and the outcome of a call by its answer.
-use Rattle.std.specs.Prelude.{ℕ, List, ◌≡◌, Bool, drop}
+use Rattle.std.specs.Prelude.{ℕ, List, ◌≡◌, Bool, drop, if◌then◌else◌}
 use Rattle.rules.specs.Numbers.{not_narrower}
-use Rattle.rules.specs.Basics.{if◌then◌else◌}
 use Rattle.rules.specs.Acl.{Limit, Group}
 use Rattle.rules.specs.Request.{Hint}
 use Rattle.rules.specs.Ledger as rules

@@ -11,7 +11,8 @@ use lib.ListN.{length, get_or, set, length-set}
 use lib.Seq.{get_or-set_same, get_or-set_other}
 use lib.Bits.{bit_and, and_step, and_zero_r}
 use lib.Dec.{eqb}
-use Rattle.rules.specs.Basics.{if◌then◌else◌, Bytes, any, same, part, number, flag, optional, matches_number, set_of, records, records_from}
+use Rattle.std.specs.Prelude.{if◌then◌else◌}
+use Rattle.rules.specs.Basics.{Bytes, any, same, part, number, flag, optional, matches_number, set_of, records, records_from}
 use Rattle.rules.specs.Request.{Certificate, certificate_of, Delegation, delegation_of, delegations_of}
 use Rattle.rules.specs.Chain.{serves, holds}
 use Rattle.rules.proofs.Laws.{same_eq, eq_same}

@@ -8,7 +8,8 @@ use lib.ListN.{length, get_or, drop, length-drop}
 use lib.Pow.{pow_mono}
 use lib.Dec.{eqb}
 use borrow.Author.Tests.{eq-eqb, ne_eqb}
-use Rattle.rules.specs.Basics.{if◌then◌else◌, Bytes, kind, set_of, records, records_from}
+use Rattle.std.specs.Prelude.{if◌then◌else◌}
+use Rattle.rules.specs.Basics.{Bytes, kind, set_of, records, records_from}
 use Rattle.rules.specs.Request.{Delegation, delegation_of, delegations_of}
 use Rattle.rules.proofs.Laws.{chunks_length}
 use Rattle.rules.proofs.Rows.{rows_start, rows_lent, rows_end, lent_record, lent_record_lem, kind_at}

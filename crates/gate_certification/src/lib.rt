@@ -3,11 +3,11 @@
 // to its start, and for each certificate the set of those that lead to its key. A group is then certified by these sets alone.
 #![tactic(auto)]
 
-ghost use Rattle.std.specs.Prelude.{◌≡◌, [], ◌≤◌, not, ◌&&◌, ◌||◌, eqb, length};
+ghost use Rattle.std.specs.Prelude.{◌≡◌, [], ◌≤◌, not, ◌&&◌, ◌||◌, eqb, length, if◌then◌else◌};
 ghost use Rattle.std.proofs.Math.Option.{Option};
 ghost use Rattle.std.specs.Int.Bits.{bit_and};
 ghost use Rattle.rules.specs.Sizes.{record_bytes, hash_bytes, chain_max};
-ghost use Rattle.rules.specs.Basics.{if◌then◌else◌, any, same, part, number, flag, optional, matches_number, set_of, records};
+ghost use Rattle.rules.specs.Basics.{any, same, part, number, flag, optional, matches_number, set_of, records};
 ghost use Rattle.rules.specs.Acl.{group_of};
 ghost use Rattle.rules.specs.Request.{Blobfile, wanted_of, certificate_of, certificates_of, delegation_of, delegations_of, request_of};
 ghost use Rattle.rules.specs.Chain.{serves, holds, chained, delegated};

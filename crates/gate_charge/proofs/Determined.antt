@@ -1,6 +1,6 @@
 -- The reading of a reply loses nothing: two replies with one answer are one reply.
 use mathlib.Core.Path.{◌≡◌, refl}
-use Rattle.rules.specs.Basics.{if◌then◌else◌}
+use Rattle.std.specs.Prelude.{if◌then◌else◌}
 use Rattle.rules.specs.Gate as rulesGate
 use Rattle.refusals.proofs.Determined.{refusal_back, refusal_back_lem, denial_back, denial_back_lem, denies, refusal_not_denied, denial_denied}
 use Rattle.gate_charge.specs.declared.Reply.{Reply}

@@ -10,7 +10,8 @@ use lib.ListN.{length, drop, get_or, get_elem?, set, length-set}
 use lib.Seq.{set_out, get_or-take, get_or-drop, get_or-set_other}
 use lib.Dec.{eqb}
 use Rattle.rules.specs.Sizes.{full_count}
-use Rattle.rules.specs.Basics.{Bytes, if◌then◌else◌, all, part, byte, records, records_from}
+use Rattle.std.specs.Prelude.{if◌then◌else◌}
+use Rattle.rules.specs.Basics.{Bytes, all, part, byte, records, records_from}
 use Rattle.rules.specs.Acl.{Limit, limit_of, limits_of}
 use Rattle.rules.specs.Ledger.{raised, raised_by}
 use Rattle.rules.proofs.Laws.{and_left, and_right}

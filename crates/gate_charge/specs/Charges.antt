@@ -1,9 +1,9 @@
 -- A reply by document 01's numbers, the reply to a judgement, and what a reply charges, by the limits alone.
-use Rattle.std.specs.Prelude.{ℕ, ◌<◌, List, ◌≡◌, Bool, true, false, get_or, drop, eqb, ltb}
+use Rattle.std.specs.Prelude.{ℕ, ◌<◌, List, ◌≡◌, Bool, true, false, get_or, drop, eqb, ltb, if◌then◌else◌}
 use Rattle.std.proofs.Math.Option.{none}
 use Rattle.rules.specs.Sizes.{full_count}
 use Rattle.rules.specs.Numbers.{not_narrower}
-use Rattle.rules.specs.Basics.{if◌then◌else◌, implies, all}
+use Rattle.rules.specs.Basics.{implies, all}
 use Rattle.rules.specs.Acl.{Limit, Group}
 use Rattle.rules.specs.Ledger as rules
 use Rattle.rules.specs.Gate as rulesGate

@@ -1,7 +1,6 @@
 -- The group counts that a replacement of the ACL leaves.
-use Rattle.std.specs.Prelude.{ℕ, ◌+◌, List, [], ◌∷◌, get_or, set, replicate}
+use Rattle.std.specs.Prelude.{ℕ, ◌+◌, List, [], ◌∷◌, get_or, set, replicate, if◌then◌else◌}
 use Rattle.rules.specs.Sizes.{groups_max}
-use Rattle.rules.specs.Basics.{if◌then◌else◌}
 use Rattle.rules.specs.Request.{Hint}
 use Rattle.rules.specs.Gate as rulesGate
 use Rattle.gate_charge.specs.Charges.{is_permit}

@@ -10,7 +10,8 @@ use borrow.Author.Tests.{ltb-false, lt-ltb, le-ltb, le-leb, lt-leb, not-true, no
 use lib.ListN.{length, take, drop, get_or, get_elem?, length-drop, drop_of_length-le}
 use lib.Seq.{drop-cons, drop-drop, drop-nil, take_all}
 use lib.Dec.{ltb}
-use Rattle.rules.specs.Basics.{if◌then◌else◌, Bytes, any, all, all_zero, records, records_from}
+use Rattle.std.specs.Prelude.{if◌then◌else◌}
+use Rattle.rules.specs.Basics.{Bytes, any, all, all_zero, records, records_from}
 use Rattle.rules.specs.Acl.{blobfile_rule_next, Action, action_of, actions_of, Limit, limit_of, limits_of}
 use Rattle.rules.specs.Narrow.{no_wider, no_wider_than, actions_no_wider, is_answered}
 use Rattle.rules.proofs.Rows.{lent_record, lent_rest}

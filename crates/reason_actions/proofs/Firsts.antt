@@ -10,7 +10,8 @@ use borrow.Author.Tests.{eqb-true, eqb-false, ltb-true, ltb-false, lt-ltb}
 use lib.ListN.{length}
 use lib.Dec.{eqb, ltb}
 use Rattle.rules.specs.Numbers.{not_kept}
-use Rattle.rules.specs.Basics.{if◌then◌else◌, Bytes, Every, all_below, present, unless, or_next, first_fault}
+use Rattle.std.specs.Prelude.{if◌then◌else◌}
+use Rattle.rules.specs.Basics.{Bytes, Every, all_below, present, unless, or_next, first_fault}
 use Rattle.rules.specs.Acl.{Action, permissions, make_blob, make_archive, Group}
 use Rattle.rules.specs.Bundle.{field, Policy, policy_of}
 use Rattle.rules.specs.Desk.{Step, ACLV3, module_key, recovery_key, failure_under, action_failure, officers_group, group_failure, acl_failure, action_protection, smallest, key_protection}

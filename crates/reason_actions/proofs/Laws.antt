@@ -9,7 +9,8 @@ use borrow.Author.Tests.{eq-eqb, ne_eqb, not-true, not-false}
 use lib.ListN.{length, drop, get_or}
 use lib.Dec.{eqb, ltb}
 use Rattle.rules.specs.Sizes.{hash_bytes}
-use Rattle.rules.specs.Basics.{if◌then◌else◌, Bytes, kind, flag, part, number, optional, present, both_same, or_next, records, records_from}
+use Rattle.std.specs.Prelude.{if◌then◌else◌}
+use Rattle.rules.specs.Basics.{Bytes, kind, flag, part, number, optional, present, both_same, or_next, records, records_from}
 use Rattle.rules.specs.Acl.{blob_rule_of, BlobfileRule, blobfile_rule_next, Action, make_blob, action_of, actions_of, group_of, groups_of}
 use Rattle.rules.specs.Bundle.{Policy}
 use Rattle.rules.specs.Desk.{Step, failure_under, action_protection}

@@ -1,8 +1,8 @@
 -- Where the desk's steps over an ACL fail: the first action in record order, with its group and its index among the group's actions.
-use Rattle.std.specs.Prelude.{ℕ, zero, suc, ◌+◌, List, [], ◌∷◌, Bool, true, false, ltb}
+use Rattle.std.specs.Prelude.{ℕ, zero, suc, ◌+◌, List, [], ◌∷◌, Bool, true, false, ltb, if◌then◌else◌}
 use Rattle.std.proofs.Math.Option.{Option, none, some}
 use Rattle.rules.specs.Numbers.{no_group}
-use Rattle.rules.specs.Basics.{if◌then◌else◌, Bytes, present, both_same, or_next}
+use Rattle.rules.specs.Basics.{Bytes, present, both_same, or_next}
 use Rattle.rules.specs.Acl.{Action, permissions, make_blob, make_archive, Group}
 use Rattle.rules.specs.Bundle.{Policy}
 use Rattle.rules.specs.Desk.{failure_under, action_protection}

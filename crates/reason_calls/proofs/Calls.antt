@@ -8,7 +8,8 @@ use mathlib.Core.Bool.{Bool, true, false, ◌&&◌}
 use lib.Dec.{ltb}
 use Rattle.rules.specs.Sizes.{full_count}
 use Rattle.rules.specs.Numbers.{not_narrower}
-use Rattle.rules.specs.Basics.{if◌then◌else◌, Bytes}
+use Rattle.std.specs.Prelude.{if◌then◌else◌}
+use Rattle.rules.specs.Basics.{Bytes}
 use Rattle.rules.specs.Acl.{Limit, acl_of}
 use Rattle.rules.specs.Request.{Request, request_of, hints_of}
 use Rattle.rules.specs.Ledger.{Ledger, charge}

@@ -5,7 +5,8 @@ use mathlib.Core.Path.{◌≡◌, refl, sym, ◌∙◌, ap}
 use mathlib.Core.List.{List, [], ◌∷◌}
 use mathlib.Core.Bool.{Bool, true, false}
 use lib.ListN.{get_or, drop}
-use Rattle.rules.specs.Basics.{if◌then◌else◌, Bytes, records}
+use Rattle.std.specs.Prelude.{if◌then◌else◌}
+use Rattle.rules.specs.Basics.{Bytes, records}
 use Rattle.rules.specs.Acl.{Group, limits_of, acl_of}
 use Rattle.rules.specs.Request.{Request, request_of, hints_of}
 use Rattle.rules.specs.Ledger.{Ledger}

@@ -1,7 +1,7 @@
 -- Where the first fault of a call is: the input and the record that is at fault; for 7 the limit that is spent; for 8 what breaks the narrowing.
-use Rattle.std.specs.Prelude.{ℕ, ◌-◌, List, get_or, drop}
+use Rattle.std.specs.Prelude.{ℕ, ◌-◌, List, get_or, drop, if◌then◌else◌}
 use Rattle.std.proofs.Math.Option.{Option}
-use Rattle.rules.specs.Basics.{if◌then◌else◌, Bytes}
+use Rattle.rules.specs.Basics.{Bytes}
 use Rattle.rules.specs.Acl.{Group, acl_of}
 use Rattle.rules.specs.Request.{Request, request_of, hints_of}
 use Rattle.rules.specs.Ledger.{Ledger}

@@ -9,7 +9,8 @@ use lib.ListN.{length}
 use lib.Dec.{eqb}
 use Rattle.rules.specs.Sizes.{bundle_records, acl_records}
 use Rattle.rules.specs.Numbers.{bad_length, unknown_suite}
-use Rattle.rules.specs.Basics.{if◌then◌else◌, Bytes, unless, or_next, first_fault, file_fault, records, fits}
+use Rattle.std.specs.Prelude.{if◌then◌else◌}
+use Rattle.rules.specs.Basics.{Bytes, unless, or_next, first_fault, file_fault, records, fits}
 use Rattle.rules.specs.Acl.{acl_of, acl_fault}
 use Rattle.rules.specs.Bundle.{bundle_fault, policy_of}
 use Rattle.rules.specs.Suites.{is_suite}

@@ -10,7 +10,8 @@ use borrow.Author.Tests.{eqb-true, ne_eqb, leb-true, leb-false}
 use lib.Dec.{eqb, leb, ltb}
 use Rattle.rules.specs.Sizes.{bundle_records, acl_records}
 use Rattle.rules.specs.Numbers.{bad_length, malformed, not_kept}
-use Rattle.rules.specs.Basics.{if◌then◌else◌, Bytes, bit, all_below, byte, kind, present, both_same, implies, within, bits, blank, unless, or_next, first_fault, record_fault, scan, records, fits}
+use Rattle.std.specs.Prelude.{if◌then◌else◌}
+use Rattle.rules.specs.Basics.{Bytes, bit, all_below, byte, kind, present, both_same, implies, within, bits, blank, unless, or_next, first_fault, record_fault, scan, records, fits}
 use Rattle.rules.specs.Layout.{header, between, policy_laid_out}
 use Rattle.rules.specs.Acl.{Action, permissions, make_blob, make_archive, Group, acl_of}
 use Rattle.rules.specs.Bundle.{BundleState, bundle_record_laid_out, in_order, order_of, bundle_in_place, bundle_record_fault, after_bundle_record, bundle_end, bundle_start, bundle_fault, first_record, field, policy_record, policy_in, policy_of}

@@ -1,8 +1,8 @@
 -- Where a verdict that is no acceptance comes from: for a failing step the field or signature, or the group and the action; for a refusal the input and
 -- its record.
-use Rattle.std.specs.Prelude.{ℕ, ◌+◌, List, [], ◌∷◌, Bool, true, false, ◌||◌, eqb, ltb}
+use Rattle.std.specs.Prelude.{ℕ, ◌+◌, List, [], ◌∷◌, Bool, true, false, ◌||◌, eqb, ltb, if◌then◌else◌}
 use Rattle.std.proofs.Math.Option.{Option, none}
-use Rattle.rules.specs.Basics.{if◌then◌else◌, Bytes, records}
+use Rattle.rules.specs.Basics.{Bytes, records}
 use Rattle.rules.specs.Acl.{Group, acl_of}
 use Rattle.rules.specs.Bundle.{field, policy_record, policy_of}
 use Rattle.rules.specs.Desk.{Step, ACLV3, KV3, CSRL1, module_key, recovery_key, Verdict, accepted, failed, faulty, desk}

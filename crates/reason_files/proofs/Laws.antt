@@ -9,7 +9,8 @@ use mathlib.Core.Bool.{Bool, true, false, not, false≢true}
 use lib.ListN.{length, drop, length-drop}
 use lib.Seq.{take_all, length-take-le}
 use borrow.Author.Tests.{not-true, not-false}
-use Rattle.rules.specs.Basics.{if◌then◌else◌, Bytes, present, records, records_from, fits}
+use Rattle.std.specs.Prelude.{if◌then◌else◌}
+use Rattle.rules.specs.Basics.{Bytes, present, records, records_from, fits}
 use Rattle.rules.specs.Acl.{AclState, acl_start, acl_record_fault, after_record, acl_end}
 use Rattle.rules.specs.Bundle.{bundle_start}
 use Rattle.rules.proofs.Laws.{never}

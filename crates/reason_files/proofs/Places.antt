@@ -9,7 +9,8 @@ use mathlib.Core.Bool.{Bool, true, false}
 use lib.ListN.{length, get_elem?}
 use Rattle.rules.specs.Sizes.{request_records, bundle_records, day_records}
 use Rattle.rules.specs.Numbers.{bad_length}
-use Rattle.rules.specs.Basics.{if◌then◌else◌, Bytes, records, fits, unless, or_next, first_fault, each_fault, scan, file_fault}
+use Rattle.std.specs.Prelude.{if◌then◌else◌}
+use Rattle.rules.specs.Basics.{Bytes, records, fits, unless, or_next, first_fault, each_fault, scan, file_fault}
 use Rattle.rules.specs.Acl.{acl_file_fault}
 use Rattle.rules.specs.Request.{request_laid_out, request_record_fault, request_fault, hints_file_fault}
 use Rattle.rules.specs.Bundle.{bundle_fault}

@@ -1,8 +1,8 @@
 -- Where the first fault of a file is, for each kind of file: its length, a record by its index, or its end.
-use Rattle.std.specs.Prelude.{ℕ, suc, ◌+◌, List, [], ◌∷◌, length}
+use Rattle.std.specs.Prelude.{ℕ, suc, ◌+◌, List, [], ◌∷◌, length, if◌then◌else◌}
 use Rattle.std.proofs.Math.Option.{Option, none, some}
 use Rattle.rules.specs.Numbers.{bad_length}
-use Rattle.rules.specs.Basics.{if◌then◌else◌, Bytes, records, fits}
+use Rattle.rules.specs.Basics.{Bytes, records, fits}
 use Rattle.refusals.specs.Refusals.{refusal_number}
 use Rattle.text_rules.specs.Kinds.{FileKind, acl_kind, request_kind, requests_kind, bundle_kind, hints_kind}
 use Rattle.text_files.specs.declared.Kind.{Kind}

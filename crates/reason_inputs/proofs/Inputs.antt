@@ -8,7 +8,8 @@ use lib.ListN.{length}
 use lib.Dec.{eqb}
 use Rattle.rules.specs.Sizes.{hash_bytes, acl_records, request_records, hint_records}
 use Rattle.rules.specs.Numbers.{bad_length, malformed}
-use Rattle.rules.specs.Basics.{if◌then◌else◌, Bytes, kind, byte, records, fits, unless, or_next, first_fault, file_fault}
+use Rattle.std.specs.Prelude.{if◌then◌else◌}
+use Rattle.rules.specs.Basics.{Bytes, kind, byte, records, fits, unless, or_next, first_fault, file_fault}
 use Rattle.rules.specs.Layout.{use_laid_out}
 use Rattle.rules.specs.Acl.{acl_fault}
 use Rattle.rules.specs.Request.{request_laid_out, use_of, reduce_acl, expand_acl, request_fault, hints_fault}

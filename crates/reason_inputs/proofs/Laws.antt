@@ -7,7 +7,8 @@ use lib.ListN.{length, take}
 use borrow.Author.Tests.{eq-eqb, ne_eqb}
 use Rattle.rules.specs.Sizes.{hash_bytes, request_records}
 use Rattle.rules.specs.Numbers.{malformed}
-use Rattle.rules.specs.Basics.{if◌then◌else◌, Bytes, records, fits}
+use Rattle.std.specs.Prelude.{if◌then◌else◌}
+use Rattle.rules.specs.Basics.{Bytes, records, fits}
 use Rattle.rules.specs.Request.{use_of, reduce_acl, expand_acl}
 use Rattle.rules.proofs.Rows.{first, no_rows}
 use Rattle.text_rules.specs.Kinds.{acl_kind, request_kind, hints_kind}

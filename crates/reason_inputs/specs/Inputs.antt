@@ -1,8 +1,8 @@
 -- Which input of a call is at fault, and where.
-use Rattle.std.specs.Prelude.{ℕ, List, [], ◌∷◌, Bool, true, false, not, ◌&&◌, length, eqb}
+use Rattle.std.specs.Prelude.{ℕ, List, [], ◌∷◌, Bool, true, false, not, ◌&&◌, length, eqb, if◌then◌else◌}
 use Rattle.rules.specs.Sizes.{hash_bytes, request_records}
 use Rattle.rules.specs.Numbers.{malformed}
-use Rattle.rules.specs.Basics.{if◌then◌else◌, Bytes, records, fits}
+use Rattle.rules.specs.Basics.{Bytes, records, fits}
 use Rattle.rules.specs.Request.{use_of, reduce_acl, expand_acl}
 use Rattle.text_rules.specs.Kinds.{acl_kind, request_kind, hints_kind}
 use Rattle.reason_files.specs.Places.{Place, sound, at_length, at_record, at_end, file_place, place_as}

@@ -6,7 +6,8 @@ use mathlib.Core.List.{List, [], ◌∷◌}
 use mathlib.Core.Option.{none, some}
 use mathlib.Core.Bool.{Bool, true, false, ◌&&◌}
 use lib.ListN.{get_elem?}
-use Rattle.rules.specs.Basics.{if◌then◌else◌, all}
+use Rattle.std.specs.Prelude.{if◌then◌else◌}
+use Rattle.rules.specs.Basics.{all}
 use Rattle.rules.proofs.Laws.{never}
 use Rattle.reason_limits.specs.Limits.{first_failing}
 

@@ -1,7 +1,6 @@
 -- The first limit of a group that is spent.
-use Rattle.std.specs.Prelude.{ℕ, suc, List, [], ◌∷◌, Bool}
+use Rattle.std.specs.Prelude.{ℕ, suc, List, [], ◌∷◌, Bool, if◌then◌else◌}
 use Rattle.std.proofs.Math.Option.{Option, none, some}
-use Rattle.rules.specs.Basics.{if◌then◌else◌}
 use Rattle.rules.specs.Acl.{Limit}
 use Rattle.rules.specs.Grant.{limit_left}
 use Rattle.reason_limits.specs.declared.SpentBy.{SpentBy}

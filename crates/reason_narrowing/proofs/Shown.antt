@@ -8,7 +8,8 @@ use mathlib.Core.Option.{Option, none, some}
 use mathlib.Core.Bool.{Bool, true, false, not, ◌&&◌, false≢true}
 use lib.ListN.{take, get_elem?}
 use lib.Dec.{leb}
-use Rattle.rules.specs.Basics.{if◌then◌else◌, all, all_zero, present}
+use Rattle.std.specs.Prelude.{if◌then◌else◌}
+use Rattle.rules.specs.Basics.{all, all_zero, present}
 use Rattle.rules.specs.Acl.{Action, Group}
 use Rattle.rules.specs.Request.{Hint}
 use Rattle.rules.specs.Narrow.{kept, kept_number, is_answered, no_wider_than, actions_no_wider, group_narrows, narrows_source, narrows_from, narrows}

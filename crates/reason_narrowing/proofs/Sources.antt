@@ -9,7 +9,8 @@ use lib.ListN.{length, take, drop, get_or, get_elem?}
 use lib.Seq.{get_or-take, drop-nil}
 use lib.Dec.{eqb, leb}
 use borrow.Author.Tests.{eq-eqb, lt-leb, le-leb}
-use Rattle.rules.specs.Basics.{if◌then◌else◌, Bytes, part, byte, kind, records, records_from}
+use Rattle.std.specs.Prelude.{if◌then◌else◌}
+use Rattle.rules.specs.Basics.{Bytes, part, byte, kind, records, records_from}
 use Rattle.rules.specs.Acl.{Group, group_of, groups_of}
 use Rattle.rules.specs.Request.{Hint, hint_of}
 use Rattle.rules.proofs.Rows.{rows_start, rows_at, rows_lent, rows_end, rows_rest, lent_record, lent_record_lem, lent_rest, kind_at, no_rows}

@@ -1,8 +1,8 @@
 -- What breaks a narrowing: the first new group that its hint does not show to be narrower than its source, and the first test that it fails.
-use Rattle.std.specs.Prelude.{ℕ, suc, List, [], ◌∷◌, Bool, true, false, not, ◌&&◌, leb}
+use Rattle.std.specs.Prelude.{ℕ, suc, List, [], ◌∷◌, Bool, true, false, not, ◌&&◌, leb, if◌then◌else◌}
 use Rattle.std.proofs.Math.Option.{Option, none, some}
 use Rattle.std.proofs.Math.ListN.{get_elem?}
-use Rattle.rules.specs.Basics.{if◌then◌else◌, Bytes, all_zero, present}
+use Rattle.rules.specs.Basics.{Bytes, all_zero, present}
 use Rattle.rules.specs.Acl.{Action, Group, group_of}
 use Rattle.rules.specs.Request.{Hint}
 use Rattle.rules.specs.Narrow.{kept, kept_number, is_answered, no_wider_than}

@@ -1,7 +1,7 @@
 -- What fails a step that looks at the bundle: the tests of each step, in the order in which document 01 names them. b is a bundle's list of records.
-use Rattle.std.specs.Prelude.{ℕ, List, [], ◌∷◌, eqb}
+use Rattle.std.specs.Prelude.{ℕ, List, [], ◌∷◌, eqb, if◌then◌else◌}
 use Rattle.std.proofs.Math.Option.{Option, none, some}
-use Rattle.rules.specs.Basics.{if◌then◌else◌, Bytes, both_same, unless, first_fault}
+use Rattle.rules.specs.Basics.{Bytes, both_same, unless, first_fault}
 use Rattle.rules.specs.Bundle.{field, has_field, reported, good}
 use Rattle.rules.specs.Desk.{Step, WV1, MSCV1, MSCV2, MSCV3, MSCV4, MSCV5, WBCV1, WBCV2, WBCV3, KGCV1, KGCV2, ACLV3, WB1, WB2, WB3, WB6, RB1, RB2, RB3, KV3, CSRL1, is_listed}
 use Rattle.reason_steps.specs.declared.Defect.{Defect}

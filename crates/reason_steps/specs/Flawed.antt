@@ -1,6 +1,6 @@
 -- What a flaw that is named says of the bundle.
-use Rattle.std.specs.Prelude.{ℕ, ◌≡◌, List, Bool, true, false, eqb}
-use Rattle.rules.specs.Basics.{if◌then◌else◌, Bytes, both_same}
+use Rattle.std.specs.Prelude.{ℕ, ◌≡◌, List, Bool, true, false, eqb, if◌then◌else◌}
+use Rattle.rules.specs.Basics.{Bytes, both_same}
 use Rattle.rules.specs.Bundle.{field, has_field, reported, good}
 use Rattle.rules.specs.Desk.{is_listed}
 use Rattle.reason_steps.specs.Defects.{Flaw, signature_absent, signature_bad, field_absent, field_differs}

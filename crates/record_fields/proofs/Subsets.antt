@@ -9,7 +9,8 @@ use lib.Pow.{shr-shr}
 use lib.Dec.{eqb}
 use borrow.Author.Tests.{eqb-true, eq-eqb, ne_eqb}
 use lib.Count.{ones, ones_step}
-use Rattle.rules.specs.Basics.{if◌then◌else◌, implies, bit, bit_count, within}
+use Rattle.std.specs.Prelude.{if◌then◌else◌}
+use Rattle.rules.specs.Basics.{implies, bit, bit_count, within}
 use Rattle.rules.proofs.Laws.{all_below_at, all_below_all, implied, implication, not_both}
 
 -- a bit of the half is the next bit of the whole

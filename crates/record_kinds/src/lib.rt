@@ -1,7 +1,6 @@
 // The kinds of record and their flags, each named once, by the names of docs/RECORDS.md. A kind is byte 0 of a record, a flag a bit of bytes 2 and 3.
 #![tactic(auto)]
 
-
 // The records of an ACL: a group, its limits, its actions.
 pub const GROUP: u8 = 1;
 

@@ -1,7 +1,6 @@
 // The sizes of document 01 that the code uses, each named once. The definitions have the same names in crates/rules/specs/Sizes.antt.
 #![tactic(auto)]
 
-
 // Bytes of a record.
 pub const RECORD: usize = 64;
 

@@ -4,7 +4,7 @@
 ghost use Rattle.std.specs.Prelude.{◌≡◌};
 ghost use Rattle.refusals.specs.Refusals.{refusal_number, denial_number};
 
-// A refusal of files, buffers and numbers; refusalNumber gives its number in document 01's table, with those that document 02 adds. It never names a
+// A refusal of files, buffers and numbers; refusal_number gives its number in document 01's table, with those that document 02 adds. It never names a
 // group.
 #[derive(Clone, Copy)]
 pub enum Refusal {
@@ -21,7 +21,7 @@ pub enum Refusal {
 }
 
 // Why no group grants: the time goes back; none admits; none that admits is certified, with the lowest that admits; none of those is unspent, with the
-// lowest that admits and is certified. denialNumber gives its number in document 01's table, denialGroup the group that came nearest.
+// lowest that admits and is certified. denial_number gives its number in document 01's table, denial_group the group that came nearest.
 #[derive(Clone, Copy)]
 pub enum Denial {
     ClockBack,

@@ -1,6 +1,6 @@
 -- The letters of a replay script (docs/REPLAY.md) that write into one lent buffer, by their numbers, and the definition that each stands for.
-use Rattle.std.specs.Prelude.{ℕ, eqb}
-use Rattle.rules.specs.Basics.{if◌then◌else◌, Bytes}
+use Rattle.std.specs.Prelude.{ℕ, eqb, if◌then◌else◌}
+use Rattle.rules.specs.Basics.{Bytes}
 use Rattle.rules.specs.Subject.{subject_buffer}
 use Rattle.text_rules.specs.Listing.{write_listing, read_listing_into}
 use Rattle.text_kinds.specs.Kinds.{text_kind, written_for, read_for}

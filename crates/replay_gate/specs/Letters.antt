@@ -1,7 +1,7 @@
 -- The letters of a replay script (docs/REPLAY.md) that call the gate or the cabinet, by their numbers, and the definition that each stands for.
-use Rattle.std.specs.Prelude.{ℕ, Bool, ◌||◌, eqb}
+use Rattle.std.specs.Prelude.{ℕ, Bool, ◌||◌, eqb, if◌then◌else◌}
 use Rattle.rules.specs.Sizes.{slots_max}
-use Rattle.rules.specs.Basics.{if◌then◌else◌, Bytes}
+use Rattle.rules.specs.Basics.{Bytes}
 use Rattle.rules.specs.Ledger.{Ledger, fresh_ledger}
 use Rattle.rules.specs.Gate.{done, Outcome, load, clear, request, narrow, expand}
 use Rattle.rules.specs.Cabinet.{Cabinet, CabinetOutcome, fresh_cabinet, cabinet_load, cabinet_clear, cabinet_request, cabinet_narrow, cabinet_expand}

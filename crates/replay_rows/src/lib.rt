@@ -1,5 +1,4 @@
-// A row of certificates that is given as bytes, decoded and lent to a run as a host lends its own. The functions that lend it are proved by hand: each is
-// one call.
+// A row of certificates that is given as bytes, decoded and lent to a run as a host lends its own. Each of the functions that lend it is one call.
 #![tactic(auto)]
 
 ghost use Rattle.std.specs.Prelude.{◌≡◌, ◌+◌, ◌≤◌, List, length, take};
@@ -28,7 +27,7 @@ const CERTIFICATE: usize = record_sizes::HASH + 2;
 
 // How many certificates of a row are lent at most: one more than a run takes. A run with more than it takes is refused by the lengths of its files (1) or
 // else by the number of its certificates (3), before a mechanism, the ACL's records, the room or the form is looked at. So the first 33 of a longer row
-// get the answer of the whole row: the theorems `run-long-row` and `prepared-run-long-row`, which the contracts of the functions that lend rest on.
+// get the answer of the whole row: the theorems `run_long_row` and `prepared_run_long_row`, which the contracts of the functions that lend rest on.
 const LENT: usize = record_sizes::CERTIFICATES + 1;
 
 // The hash at the front of some bytes.

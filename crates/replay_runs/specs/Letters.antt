@@ -1,7 +1,7 @@
 -- The letters of a replay script (docs/REPLAY.md) that run many requests, by their numbers, and the definition that each stands for.
-use Rattle.std.specs.Prelude.{ℕ, zero, suc, ◌*◌, List, [], ◌∷◌, ◌++◌, eqb}
+use Rattle.std.specs.Prelude.{ℕ, zero, suc, ◌*◌, List, [], ◌∷◌, ◌++◌, eqb, if◌then◌else◌}
 use Rattle.rules.specs.Sizes.{permissions_max}
-use Rattle.rules.specs.Basics.{if◌then◌else◌, Bytes, number}
+use Rattle.rules.specs.Basics.{Bytes, number}
 use Rattle.rules.specs.Ledger.{Ledger}
 use Rattle.rules.specs.Runs.{RunOutcome, run}
 use Rattle.rules.specs.Prepared.{Form, prepared_run}

@@ -11,7 +11,8 @@ use lib.Dec.{eqb, ltb}
 use borrow.Author.Tests.{eq-eqb, ne_eqb, eqb-true, not-true, not-false}
 use Rattle.rules.specs.Sizes.{certificates_max, delegations_max}
 use Rattle.rules.specs.Numbers.{malformed, too_many}
-use Rattle.rules.specs.Basics.{if◌then◌else◌, Bytes, number, kind, flag, unless, records, or_next, first_fault, record_fault, scan, records_from}
+use Rattle.std.specs.Prelude.{if◌then◌else◌}
+use Rattle.rules.specs.Basics.{Bytes, number, kind, flag, unless, records, or_next, first_fault, record_fault, scan, records_from}
 use Rattle.rules.specs.Request.{Certificate, certificate_of, certificates_of, delegations_of, certificate_record, delegation_record, PresentedCounts, certificate_fault, delegation_fault, presented_record_fault, after_presented, presented_end, presented_fault, blobfile_request_record, blobfile_follows, presented_after, request_fault, request_from, request_of, hint_record, hint_fault}
 use Rattle.rules.specs.Layout.{delegation_laid_out, blobfile_request_laid_out}
 use Rattle.rules.proofs.Laws.{and_left, and_right, not_both, unless_passed, or_next_first, or_next_next, fault_none_every}

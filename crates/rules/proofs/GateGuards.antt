@@ -32,7 +32,7 @@ decrypt_group = open_group ++ permitting 2 0
 abbrev limit : ℕ → ℕ → ℕ → Bytes
 limit sort counter maximum = rec (2 ∷ 0 ∷ 0 ∷ 0 ∷ sort ∷ counter ∷ 0 ∷ 0 ∷ 0 ∷ 0 ∷ 0 ∷ maximum ∷ [])
 
--- a certificate by the certifier of certifiedGroup, at its mechanism
+-- a certificate by the certifier of certified_group, at its mechanism
 abbrev right_mechanism : Bytes
 right_mechanism = rec (9 ∷ 0 ∷ 0 ∷ 0 ∷ [] ++ hash 9 ++ (0 ∷ 1 ∷ []))
 
@@ -214,7 +214,7 @@ reducible_under limits = open_group ++ limits ++ permitting 0 0x14
 abbrev sign_under : Bytes → Bytes
 sign_under limits = open_group ++ limits ++ sign_action
 
--- certified by the certifier of certifiedGroup
+-- certified by the certifier of certified_group
 abbrev reducible_certified : Bytes
 reducible_certified = rec (1 ∷ 0 ∷ 0 ∷ 3 ∷ [] ++ hash 9 ++ (0 ∷ 1 ∷ [])) ++ permitting 0 0x14
 

@@ -9,7 +9,8 @@ use lib.ListN.{get_elem?}
 use lib.Dec.{eqb}
 use lib.Pow.{shr-shr}
 use lib.Bits.{bit_or, or_shr, or_mod}
-use Rattle.rules.specs.Basics.{if◌then◌else◌, bit, holds_at, set_of}
+use Rattle.std.specs.Prelude.{if◌then◌else◌}
+use Rattle.rules.specs.Basics.{bit, holds_at, set_of}
 use Rattle.rules.specs.Acl.{Group}
 use Rattle.rules.proofs.Sets.{set_rest}
 

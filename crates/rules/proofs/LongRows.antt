@@ -12,7 +12,8 @@ use lib.Dec.{leb}
 use borrow.Author.Tests.{leb-true, leb-false, lt-leb}
 use Rattle.rules.specs.Sizes.{certificates_max, run_records, prepared_records}
 use Rattle.rules.specs.Numbers.{bad_length, too_many}
-use Rattle.rules.specs.Basics.{if◌then◌else◌, Bytes, first_fault}
+use Rattle.std.specs.Prelude.{if◌then◌else◌}
+use Rattle.rules.specs.Basics.{Bytes, first_fault}
 use Rattle.rules.specs.Request.{Certificate}
 use Rattle.rules.specs.Ledger.{Ledger}
 use Rattle.rules.specs.Runs.{run_lengths_fit, run_fault, run}

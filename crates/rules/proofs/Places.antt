@@ -9,7 +9,8 @@ use mathlib.Core.Bool.{Bool, true, false, ◌&&◌, false≢true}
 use lib.Dec.{eqb}
 use borrow.Author.Tests.{eqb-true, eq-eqb}
 use Rattle.rules.specs.Numbers.{malformed, too_many, open_archive}
-use Rattle.rules.specs.Basics.{if◌then◌else◌, Bytes, kind, first_fault, scan}
+use Rattle.std.specs.Prelude.{if◌then◌else◌}
+use Rattle.rules.specs.Basics.{Bytes, kind, first_fault, scan}
 use Rattle.rules.specs.Layout.{limit_laid_out, blobfile_laid_out}
 use Rattle.rules.specs.Acl.{AclState, limit_key, limit_in_place, action_in_place, action_laid_out, blobfile_record, placed_under, placed_by_kind, in_place_under, in_place, has_room, keyed, after_record, record_fault_under, acl_record_fault, acl_end}
 use Rattle.rules.proofs.Laws.{and_left, and_right, and_both, not_both, unless_passed, fault_none_every}

@@ -120,7 +120,7 @@ cardset = 0 ∷ 0 ∷ 1 ∷ 2 ∷ 0 ∷ 0 ∷ 0 ∷ 0 ∷ []
 abbrev pub softcard : Bytes
 softcard = 0 ∷ 1 ∷ 1 ∷ 2 ∷ 0 ∷ 0 ∷ 0 ∷ 0 ∷ []
 
--- a direct blob under hkm, and a group with the certifier of certifiedGroup that admits it under any KM0
+-- a direct blob under hkm, and a group with the certifier of certified_group that admits it under any KM0
 abbrev pub direct_blob : ℕ → Bytes
 direct_blob time = timed (7 ∷ 0 ∷ 0 ∷ 0 ∷ [] ++ hash 6) time
 

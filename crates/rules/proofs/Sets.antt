@@ -6,7 +6,8 @@ use mathlib.Core.List.{List, [], ◌∷◌}
 use mathlib.Core.Bool.{Bool, true, false}
 use lib.ListN.{length}
 use lib.Dec.{eqb}
-use Rattle.rules.specs.Basics.{if◌then◌else◌, set_of}
+use Rattle.std.specs.Prelude.{if◌then◌else◌}
+use Rattle.rules.specs.Basics.{set_of}
 
 -- the first bit of a set, and the rest of it
 pub set_first : (b : Bool) (n : ℕ) → eqb (((if b then 1 else 0) + 2 * n) % 2) 1 ≡ b

@@ -1,16 +1,10 @@
 -- Bytes and records: lists of numbers with tests that compute. Nothing here is about one kind of record.
-use Rattle.std.specs.Prelude.{ℕ, zero, suc, ◌+◌, ◌*◌, ◌/◌, ◌%◌, ◌^◌, List, [], ◌∷◌, ◌++◌, map, Bool, true, false, not, ◌&&◌, ◌||◌, length, get_or, take, drop, eqb, leb}
+use Rattle.std.specs.Prelude.{ℕ, zero, suc, ◌+◌, ◌*◌, ◌/◌, ◌%◌, ◌^◌, List, [], ◌∷◌, ◌++◌, map, Bool, true, false, not, ◌&&◌, ◌||◌, length, get_or, take, drop, eqb, leb, if◌then◌else◌}
 use Prim.Native.String.{String}
 use Prim.Native.Char.{code}
 use Rattle.std.proofs.Math.Option.{Option, none, some}
 use Rattle.rules.specs.Sizes.{record_bytes}
 use Rattle.rules.specs.Numbers.{bad_length, malformed, too_many}
-
--- a choice by a test
-infix 5 if◌then◌else◌
-abbrev pub if◌then◌else◌ : {A : Type 0} → Bool → A → A → A
-if true then x else y = x
-if false then x else y = y
 
 -- A file, a record or a hash: its bytes. A number here may be of any size; that a lent byte is below 256 is what its Rattle type, u8, sees to.
 abbrev pub Bytes : Type 0

@@ -1,10 +1,10 @@
 -- The cabinet of many keys: document 02, request h. "Add a part above the gate: eight slots, each with its own ACL (lent by the host at each call),
 -- group counts and times, and one shared table of named counters."
-use Rattle.std.specs.Prelude.{ℕ, List, [], get_or, set, replicate, ltb}
+use Rattle.std.specs.Prelude.{ℕ, List, [], get_or, set, replicate, ltb, if◌then◌else◌}
 use Rattle.std.proofs.Math.Option.{none}
 use Rattle.rules.specs.Sizes.{slots_max, counters_max}
 use Rattle.rules.specs.Numbers.{out_of_range, no_slot}
-use Rattle.rules.specs.Basics.{if◌then◌else◌, Bytes}
+use Rattle.rules.specs.Basics.{Bytes}
 use Rattle.rules.specs.Ledger.{Ledger, fresh_ledger}
 use Rattle.rules.specs.Gate.{Answer, done, refuse, Outcome, request, load, narrow, expand}
 

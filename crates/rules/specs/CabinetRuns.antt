@@ -1,8 +1,8 @@
 -- Runs in a slot of the cabinet: document 02, request k, "The cabinet rereads up to 86,016 bytes for each request."
-use Rattle.std.specs.Prelude.{ℕ, List, ltb}
+use Rattle.std.specs.Prelude.{ℕ, List, ltb, if◌then◌else◌}
 use Rattle.rules.specs.Sizes.{slots_max}
 use Rattle.rules.specs.Numbers.{no_slot}
-use Rattle.rules.specs.Basics.{if◌then◌else◌, Bytes}
+use Rattle.rules.specs.Basics.{Bytes}
 use Rattle.rules.specs.Request.{Certificate}
 use Rattle.rules.specs.Runs.{RunReply, refused_whole, RunOutcome, run}
 use Rattle.rules.specs.Prepared.{Form, prepared_run}

@@ -1,8 +1,8 @@
 -- The layout of each kind of record: document 01, "Records", and of the kinds added by document 02. "Unlisted bytes, unlisted flag bits and absent
 -- optional fields are zero." Each test takes a record whose kind is known already.
-use Rattle.std.specs.Prelude.{ℕ, ◌+◌, [], ◌∷◌, Bool, not, ◌&&◌, ◌||◌, eqb, leb, ltb}
+use Rattle.std.specs.Prelude.{ℕ, ◌+◌, [], ◌∷◌, Bool, not, ◌&&◌, ◌||◌, eqb, leb, ltb, if◌then◌else◌}
 use Rattle.rules.specs.Sizes.{hash_bytes, Capacity, today}
-use Rattle.rules.specs.Basics.{if◌then◌else◌, Bytes, bit_count, bits, within, number, byte, blank, flag}
+use Rattle.rules.specs.Basics.{Bytes, bit_count, bits, within, number, byte, blank, flag}
 
 -- "Byte 0 is the kind, byte 1 zero, bytes 2-3 flags."; of the flags none but those listed is set
 unfoldable pub header : ℕ → Bytes → Bool

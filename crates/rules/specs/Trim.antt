@@ -1,9 +1,9 @@
 -- The trimming tool: document 02, request l. "Given a bundle and its ACL, produce an ACL, with hints naming each kept group and action by its old
 -- place". Both are made in one pass over the ACL's records. In these definitions b is a bundle's list of records.
-use Rattle.std.specs.Prelude.{ℕ, zero, suc, ◌+◌, ◌^◌, List, [], ◌∷◌, ◌++◌, Bool, true, false, not, ◌&&◌, ◌||◌, length, take, drop, eqb, leb}
+use Rattle.std.specs.Prelude.{ℕ, zero, suc, ◌+◌, ◌^◌, List, [], ◌∷◌, ◌++◌, Bool, true, false, not, ◌&&◌, ◌||◌, length, take, drop, eqb, leb, if◌then◌else◌}
 use Rattle.std.proofs.Math.Option.{Option, none, some}
 use Rattle.rules.specs.Numbers.{short_buffer}
-use Rattle.rules.specs.Basics.{if◌then◌else◌, Bytes, implies, bit, kind, present, both_same, unless, first_fault, records, joined}
+use Rattle.rules.specs.Basics.{Bytes, implies, bit, kind, present, both_same, unless, first_fault, records, joined}
 use Rattle.rules.specs.Acl.{permission_bits, action_of, certifier_of}
 use Rattle.rules.specs.Subject.{written_over}
 use Rattle.rules.specs.Written.{big_endian, hint_bytes}

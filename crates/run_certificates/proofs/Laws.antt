@@ -1,5 +1,6 @@
 -- The turns of the walks over a row: what is left of the row, with what was found, has the answer of the whole.
-use Prim.Native.Nat.{ℕ, ◌+◌, ◌<◌, ◌≤◌}
+use Prim.Native.Nat.{ℕ, suc, ◌+◌, ◌<◌, ◌≤◌}
+use native.Mathlib.Omega.{arith}
 use mathlib.Core.Path.{◌≡◌, refl, sym, ◌∙◌, ap}
 use mathlib.Core.Bool.{Bool, true, false, ◌&&◌, ◌||◌}
 use mathlib.Core.List.{List, [], ◌∷◌}
@@ -14,7 +15,10 @@ use Rattle.rules.specs.Request as rules
 use Rattle.run_certificates.specs.declared.Certificate.{Certificate}
 use Rattle.run_certificates.specs.declared.RowSummary.{RowSummary}
 use Rattle.run_certificates.specs.Rows.{certificate_as, row_as, certified_set, readable_of, Saw}
-use Rattle.run_certificates.proofs.Lent.{blank}
+
+-- an element past a row's end
+abbrev pub blank : Certificate
+blank = record { hash = []; mechanism = 0 }
 
 -- "and" of a test, or "or", over what is left
 module _ (p : rules.Certificate → Bool) (ys : List Certificate) (i : ℕ) where
@@ -59,18 +63,18 @@ module _ (p : rules.Certificate → Bool) (ys : List Certificate) (i : ℕ) wher
       or_false true = refl
       or_false false = refl
 
-all_decoded : (ys : List Certificate) → Every (λ (d : Certificate). length d.hash ≡ hash_bytes) ys → Every Decoded (row_as ys)
+pub all_decoded : (ys : List Certificate) → ((k : ℕ) → k < length ys → length ((get_or ys k blank).hash) ≡ hash_bytes) → Every Decoded (row_as ys)
 all_decoded [] e = tt
-all_decoded (y ∷ ys) e = (e.0, all_decoded ys e.1)
+all_decoded (y ∷ ys) e = (e 0 (omega arith), all_decoded ys (λ k h. e (suc k) (omega (arith, h))))
 
 -- what a run knows of its row, from the answers of the calls
 pub saw : (r : RowSummary) (acl file : Bytes) (ys : List Certificate) (f : Bool) (c : ℕ) → r ≡ record { count = length ys; named = f; certified = c } → f ≡ all mechanism_named (row_as ys) → file ≡ readable_of acl (length ys)
-    → c ≡ certified_set (row_as ys) (take set_bits (acl_of file)) → Every (λ (d : Certificate). length d.hash ≡ hash_bytes) ys → Saw r acl (row_as ys)
+    → c ≡ certified_set (row_as ys) (take set_bits (acl_of file)) → Every Decoded (row_as ys) → Saw r acl (row_as ys)
 saw r acl file ys f c e named_is file-is c-is sized =
     let n : length (row_as ys) ≡ length ys = length-map ys certificate_as in
     record {
       count_is = ap (λ (s : RowSummary). s.count) e ∙ sym n;
       named_is = ap (λ (s : RowSummary). s.named) e ∙ named_is;
       certified_is = ap (λ (s : RowSummary). s.certified) e ∙ c-is ∙ ap (λ (z : Bytes). certified_set (row_as ys) (take set_bits (acl_of z))) (file-is ∙ ap (readable_of acl) (sym n));
-      decoded = all_decoded ys sized;
+      decoded = sized;
     }

@@ -1,8 +1,8 @@
 -- A lent row of decoded certificates, as the definitions have it, and the groups of an ACL that it certifies.
-use Rattle.std.specs.Prelude.{ℕ, ◌-◌, ◌%◌, ◌<◌, ◌≤◌, List, [], map, ◌≡◌, Bool, true, ◌&&◌, length, take, drop, get_or, leb}
+use Rattle.std.specs.Prelude.{ℕ, ◌-◌, ◌%◌, ◌<◌, ◌≤◌, List, [], map, ◌≡◌, Bool, true, ◌&&◌, length, take, drop, get_or, leb, if◌then◌else◌}
 use Rattle.std.proofs.Math.Option.{Option, none, some}
 use Rattle.rules.specs.Sizes.{record_bytes, hash_bytes, acl_records, certificates_max, set_bits}
-use Rattle.rules.specs.Basics.{if◌then◌else◌, Bytes, Every, any, all, part, number, flag, optional, set_of, fits, records_from}
+use Rattle.rules.specs.Basics.{Bytes, Every, any, all, part, number, flag, optional, set_of, fits, records_from}
 use Rattle.rules.specs.Acl.{Group, groups_of, acl_of}
 use Rattle.rules.specs.Request as rules
 use Rattle.rules.specs.Chain.{serves}

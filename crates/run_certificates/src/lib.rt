@@ -1,12 +1,11 @@
-// A lent row of decoded certificates. The functions that take the row are proved by hand: they walk it, or hand it on, and leave the rest to functions
-// with plain parameters.
+// A lent row of decoded certificates. The functions that take the row walk it, or hand it on, and leave the rest to functions with plain parameters.
 #![tactic(auto)]
 
 ghost use Rattle.std.specs.Prelude.{◌≡◌, not, ◌&&◌, ◌||◌, ◌+◌, ◌-◌, ◌*◌, ◌%◌, ◌≤◌, length, take};
 ghost use Rattle.rules.specs.Sizes.{record_bytes, hash_bytes, set_bits};
-ghost use Rattle.rules.specs.Basics.{all, any, same, flag, optional, matches_number};
+ghost use Rattle.rules.specs.Basics.{Every, all, any, same, flag, optional, matches_number};
 ghost use Rattle.rules.specs.Acl.{acl_of};
-ghost use Rattle.rules.specs.Runs.{mechanism_named};
+ghost use Rattle.rules.specs.Runs.{mechanism_named, Decoded};
 ghost use Rattle.run_certificates.specs.Rows.{certificate_as, row_as, record_before, serving, digit, LastGroup, certified_set, readable_of, Saw};
 
 // A decoded certificate: the hash of its key, and its mechanism. It is laid out as C lays it out, so that a host's program can lend a row of them.
@@ -17,16 +16,18 @@ pub struct Certificate {
     pub mechanism: u16,
 }
 
-// Whether a certificate names a mechanism, and those before it did.
+// Whether a certificate names a mechanism, and those before it did. That its hash has 20 bytes is its type's promise, said for the walk of a row.
 fn named_too(named: bool, c: Certificate) -> bool
-    ensures { result ≡ (named && mechanism_named (certificate_as c)) }
+    ensures named { result ≡ (named && mechanism_named (certificate_as c)) }
+    ensures decoded { Decoded (certificate_as c) }
 {
     named & (c.mechanism != 0)
 }
 
 // Whether every certificate of the row names a mechanism.
 fn all_named(row: &[Certificate]) -> bool
-    ensures { result ≡ all mechanism_named (row_as row.now) }
+    ensures named { result ≡ all mechanism_named (row_as row.now) }
+    ensures decoded { Every Decoded (row_as row.now) }
 {
     let mut named = true;
     let mut i = 0;

@@ -12,7 +12,8 @@ use lib.Bits.{bit_and, and_le_l}
 use lib.Dec.{eqb}
 use lib.Pow.{pow_mono}
 use Rattle.rules.specs.Sizes.{groups_max, set_bits}
-use Rattle.rules.specs.Basics.{if◌then◌else◌, Bytes, any, kind, byte, number, part, set_of, records}
+use Rattle.std.specs.Prelude.{if◌then◌else◌}
+use Rattle.rules.specs.Basics.{Bytes, any, kind, byte, number, part, set_of, records}
 use Rattle.rules.specs.Layout.{use_laid_out}
 use Rattle.rules.specs.Acl.{Action, limits_of, actions_of, Group, group_of, acl_of, acl_fault}
 use Rattle.rules.specs.Request.{Wanted, working_blob, recovery_blob, WorkingBlob, RecoveryBlob, Blobfile, working_blob_of, recovery_blob_of, wanted_of, request_laid_out}

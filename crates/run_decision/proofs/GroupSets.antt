@@ -13,7 +13,8 @@ use lib.Dec.{eqb}
 use lib.Bits.{bit_and, and_step, and_self}
 use lib.Count.{count_trailing_zeros, under}
 use Rattle.rules.specs.Sizes.{set_bits}
-use Rattle.rules.specs.Basics.{if◌then◌else◌, Bytes, holds_at, set_of}
+use Rattle.std.specs.Prelude.{if◌then◌else◌}
+use Rattle.rules.specs.Basics.{Bytes, holds_at, set_of}
 use Rattle.rules.specs.Acl.{Group}
 use Rattle.rules.specs.Request.{Request}
 use Rattle.rules.specs.Ledger.{Ledger}

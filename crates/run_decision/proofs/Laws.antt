@@ -14,7 +14,8 @@ use lib.Count.{count_trailing_zeros, trailing_of_zero}
 use lib.Dec.{eqb}
 use lib.Pow.{pow_pos, pow_mono}
 use Rattle.rules.specs.Sizes.{groups_max}
-use Rattle.rules.specs.Basics.{if◌then◌else◌, Bytes, Every, any, records}
+use Rattle.std.specs.Prelude.{if◌then◌else◌}
+use Rattle.rules.specs.Basics.{Bytes, Every, any, records}
 use Rattle.rules.specs.Acl.{actions_of, Group}
 use Rattle.rules.specs.Request.{blobfile_next, wanted_of}
 use Rattle.rules.specs.Grant.{admits}

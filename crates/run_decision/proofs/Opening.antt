@@ -13,7 +13,8 @@ use lib.Count.{count_trailing_zeros}
 use lib.Pow.{pow_pos, pow_mono}
 use lib.Dec.{eqb, leb, ltb}
 use Rattle.rules.specs.Sizes.{groups_max}
-use Rattle.rules.specs.Basics.{if◌then◌else◌, all}
+use Rattle.std.specs.Prelude.{if◌then◌else◌}
+use Rattle.rules.specs.Basics.{all}
 use Rattle.rules.proofs.Laws.{never, and_left, and_right, and_both}
 use Rattle.run_limits.specs.Rows.{word_left, row_left}
 use Rattle.run_decision.proofs.GroupSets.{two, lowest_out, member_below}

@@ -1,7 +1,7 @@
 -- One request of a run by sets of groups.
-use Rattle.std.specs.Prelude.{ℕ, List, [], ◌≡◌, eqb}
+use Rattle.std.specs.Prelude.{ℕ, List, [], ◌≡◌, eqb, if◌then◌else◌}
 use Rattle.std.proofs.Math.Option.{none}
-use Rattle.rules.specs.Basics.{if◌then◌else◌, Bytes, any, number, set_of, records}
+use Rattle.rules.specs.Basics.{Bytes, any, number, set_of, records}
 use Rattle.rules.specs.Acl.{Group, acl_of, acl_fault}
 use Rattle.rules.specs.Request.{Wanted, wanted_of, request_record_fault}
 use Rattle.rules.specs.Ledger.{Ledger}

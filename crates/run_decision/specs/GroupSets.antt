@@ -1,11 +1,11 @@
 -- How a run judges: by sets of groups, each a number, bit i for group i.
-use Rattle.std.specs.Prelude.{ℕ, zero, suc, ◌/◌, ◌%◌, List, Bool, ◌&&◌, eqb}
+use Rattle.std.specs.Prelude.{ℕ, zero, suc, ◌/◌, ◌%◌, List, Bool, ◌&&◌, eqb, if◌then◌else◌}
 use Rattle.std.proofs.Math.Option.{Option, none, some}
 use Rattle.std.proofs.Math.ListN.{get_elem?}
 use Rattle.std.specs.Int.Bits.{bit_and}
 use Rattle.std.specs.Int.Count.{count_trailing_zeros}
 use Rattle.rules.specs.Sizes.{set_bits}
-use Rattle.rules.specs.Basics.{if◌then◌else◌, holds_at}
+use Rattle.rules.specs.Basics.{holds_at}
 use Rattle.rules.specs.Acl.{Group}
 use Rattle.rules.specs.Request.{Request}
 use Rattle.rules.specs.Ledger.{Ledger}

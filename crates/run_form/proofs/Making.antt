@@ -5,7 +5,6 @@ use native.Mathlib.Numerals.{add-one}
 use native.Mathlib.Nat.{lt_of_lt_of_le, mod-lt}
 use mathlib.Core.Path.{◌≡◌, refl, sym, ◌∙◌, ap, ap₂}
 use mathlib.Core.List.{List, [], ◌∷◌, ◌++◌, append_assoc}
-use mathlib.Core.Option.{none}
 use mathlib.Core.Bool.{Bool, true, false, ◌||◌, false≢true}
 use borrow.Author.Tests.{eq-eqb, ne_eqb}
 use lib.ListN.{length, take, drop, get_or, set, length-set, replicate, drop_of_length-le}
@@ -14,7 +13,8 @@ use lib.Dec.{eqb}
 use lib.Bits.{bit_or}
 use lib.Pow.{pow_mono}
 use Rattle.rules.specs.Sizes.{permissions_max, set_bits}
-use Rattle.rules.specs.Basics.{if◌then◌else◌, Bytes, Every, any, bit, kind, number, set_of, same, records_from}
+use Rattle.std.specs.Prelude.{if◌then◌else◌}
+use Rattle.rules.specs.Basics.{Bytes, Every, any, bit, kind, number, set_of, same, records_from}
 use Rattle.rules.specs.Acl.{Action, permissions, make_blob, make_archive, blobfile_rule_next, action_of, actions_of, Group, group_of, groups_of, acl_of}
 use Rattle.rules.specs.Grant.{admits_use}
 use Rattle.rules.specs.Desk.{is_archive}

@@ -1,9 +1,9 @@
 -- What a table of places in an ACL file says.
-use Rattle.std.specs.Prelude.{ℕ, ◌+◌, ◌-◌, ◌≤◌, ◌<◌, List, [], ◌∷◌, ◌≡◌, length, get_or, set, drop, eqb}
+use Rattle.std.specs.Prelude.{ℕ, ◌+◌, ◌-◌, ◌≤◌, ◌<◌, List, [], ◌∷◌, ◌≡◌, length, get_or, set, drop, eqb, if◌then◌else◌}
 use Rattle.std.proofs.Math.Option.{some}
 use Rattle.std.proofs.Math.ListN.{get_elem?}
 use Rattle.rules.specs.Sizes.{record_bytes, groups_max}
-use Rattle.rules.specs.Basics.{if◌then◌else◌, Bytes, Every, part, kind, records}
+use Rattle.rules.specs.Basics.{Bytes, Every, part, kind, records}
 use Rattle.rules.specs.Acl.{group_of, acl_of}
 
 -- a table in which the places of the groups are put, from number g on, of records of which the first begins at a byte; those past the last group stay

@@ -11,7 +11,8 @@ use lib.ListN.{length, take, drop, get_or, get_elem?, set, length-set, length-dr
 use lib.Seq.{get_or-set_same, get_or-set_other, take-set-le, drop-set-lt, drop-set-add, take-suc-set, get_or-take, take-take}
 use lib.Dec.{eqb}
 use Rattle.rules.specs.Sizes.{limits_max, full_count}
-use Rattle.rules.specs.Basics.{if◌then◌else◌, Bytes, Every, part, records, records_from}
+use Rattle.std.specs.Prelude.{if◌then◌else◌}
+use Rattle.rules.specs.Basics.{Bytes, Every, part, records, records_from}
 use Rattle.rules.specs.Acl.{Limit, limit_of, limits_of, group_of, acl_of, acl_fault}
 use Rattle.rules.specs.Fits.{GroupFits}
 use Rattle.rules.proofs.Laws.{never}

@@ -9,7 +9,8 @@ use borrow.Author.Tests.{eqb-true, eqb-false, ltb-true, ltb-false, lt-ltb, le-lt
 use lib.ListN.{get_or, get_elem?}
 use lib.Dec.{eqb, leb, ltb}
 use Rattle.rules.specs.Sizes.{full_count}
-use Rattle.rules.specs.Basics.{if◌then◌else◌, Every, all}
+use Rattle.std.specs.Prelude.{if◌then◌else◌}
+use Rattle.rules.specs.Basics.{Every, all}
 use Rattle.rules.specs.Acl.{Limit}
 use Rattle.rules.specs.Grant.{counter_left, limit_left, limits_left, unspent_with}
 use Rattle.rules.specs.Ledger.{raised, raised_by}

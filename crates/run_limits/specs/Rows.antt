@@ -1,8 +1,8 @@
 -- The limits of a group as a row of numbers: the bound of its own count, the last second since load at which it grants, how many counters its limits name,
 -- and for each of them a word with its maximum and its number.
-use Rattle.std.specs.Prelude.{ℕ, ◌+◌, ◌-◌, ◌*◌, ◌/◌, ◌%◌, ◌≤◌, ◌<◌, min, List, [], ◌∷◌, ◌≡◌, Bool, ◌&&◌, length, get_or, take, drop, set, eqb, leb, ltb}
+use Rattle.std.specs.Prelude.{ℕ, ◌+◌, ◌-◌, ◌*◌, ◌/◌, ◌%◌, ◌≤◌, ◌<◌, min, List, [], ◌∷◌, ◌≡◌, Bool, ◌&&◌, length, get_or, take, drop, set, eqb, leb, ltb, if◌then◌else◌}
 use Rattle.rules.specs.Sizes.{limits_max, full_count}
-use Rattle.rules.specs.Basics.{if◌then◌else◌, Bytes, Every, all, records}
+use Rattle.rules.specs.Basics.{Bytes, Every, all, records}
 use Rattle.rules.specs.Acl.{Limit, limits_of, acl_of}
 use Rattle.rules.specs.Ledger.{raised}
 

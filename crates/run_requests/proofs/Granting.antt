@@ -13,7 +13,8 @@ use lib.Count.{count_trailing_zeros}
 use lib.Dec.{eqb, ltb}
 use Rattle.rules.specs.Sizes.{full_count, groups_max, set_bits}
 use Rattle.rules.specs.Numbers.{malformed, no_group}
-use Rattle.rules.specs.Basics.{if◌then◌else◌, Bytes, Every, kind, flag, number, holds_at}
+use Rattle.std.specs.Prelude.{if◌then◌else◌}
+use Rattle.rules.specs.Basics.{Bytes, Every, kind, flag, number, holds_at}
 use Rattle.rules.specs.Layout.{use_laid_out}
 use Rattle.rules.specs.Acl.{Group, announces_blobfile, acl_of}
 use Rattle.rules.specs.Request.{wanted_of, request_laid_out, stands_alone, request_record_fault}

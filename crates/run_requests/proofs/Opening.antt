@@ -9,7 +9,8 @@ use borrow.Author.Tests.{ltb-false, leb-true}
 use lib.ListN.{get_or, set}
 use lib.Dec.{eqb, leb, ltb}
 use Rattle.rules.specs.Sizes.{groups_max}
-use Rattle.rules.specs.Basics.{if◌then◌else◌, Bytes, number}
+use Rattle.std.specs.Prelude.{if◌then◌else◌}
+use Rattle.rules.specs.Basics.{Bytes, number}
 use Rattle.rules.specs.Acl.{Limit, Group}
 use Rattle.rules.specs.Request.{request_record_fault, wanted_of}
 use Rattle.rules.specs.Ledger.{Ledger, raised, raised_by, charge}

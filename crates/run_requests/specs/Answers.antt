@@ -1,9 +1,8 @@
 -- What the code's answer says of the outcome of a request.
-use Rattle.std.specs.Prelude.{ℕ, List, ◌≡◌, ltb}
+use Rattle.std.specs.Prelude.{ℕ, List, ◌≡◌, ltb, if◌then◌else◌}
 use Rattle.std.proofs.Math.Option.{Option, none, some}
 use Rattle.rules.specs.Sizes.{groups_max}
 use Rattle.rules.specs.Numbers.{no_group}
-use Rattle.rules.specs.Basics.{if◌then◌else◌}
 use Rattle.rules.specs.Gate.{Outcome}
 use Rattle.rules.specs.Runs.{answer_with, bytes_of_answer}
 use Rattle.refusals.specs.Refusals.{denial_number, denial_group}

@@ -2,10 +2,10 @@
 // bytes.
 #![tactic(auto)]
 
-ghost use Rattle.std.specs.Prelude.{◌≡◌, ◌≤◌, ◌<◌, ◌+◌, ◌-◌, ◌*◌, ◌/◌, length, leb};
+ghost use Rattle.std.specs.Prelude.{◌≡◌, ◌≤◌, ◌<◌, ◌+◌, ◌-◌, ◌*◌, ◌/◌, length, leb, if◌then◌else◌};
 ghost use Rattle.rules.specs.Sizes.{record_bytes, answer_bytes, groups_max, counters_max, prepared_records};
 ghost use Rattle.rules.specs.Numbers.{malformed};
-ghost use Rattle.rules.specs.Basics.{if◌then◌else◌, number, records};
+ghost use Rattle.rules.specs.Basics.{number, records};
 ghost use Rattle.rules.specs.Acl.{acl_of};
 ghost use Rattle.rules.specs.Request.{stands_alone};
 ghost use Rattle.rules.specs.Written.{big_endian};

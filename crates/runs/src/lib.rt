@@ -1,5 +1,5 @@
-// Runs over a lent row of decoded certificates. The entries, which take the row, are proved by hand: each reads the row and leaves the rest to one
-// function with plain parameters.
+// Runs over a lent row of decoded certificates. Each of the entries, which take the row, reads it and leaves the rest to one function with plain
+// parameters.
 #![tactic(auto)]
 
 ghost use Rattle.std.specs.Prelude.{◌≡◌, ◌≤◌, ◌*◌, length, leb};

@@ -204,3 +204,7 @@ module _ (certificate n : ℕ) (hashes buffer : Bytes) where
   pub subject_refused : (f : ℕ) → refuses f ≡ called_for n → between 3 5 certificate ≡ true
       → (unwritten f ≡ subject_reply certificate n hashes buffer) × (buffer ≡ subject_buffer certificate n hashes buffer)
   subject_refused f e b = rw (suite_measured n (refuses f) e) (subject_unknown (sym (suite_found n (refuses f) e)) b)
+
+-- Both clauses of a contract, from a pair of them.
+pub both_clauses : {A B : Type 0} → A × B → record { reply : A; bytes : B }
+both_clauses p = record { reply = p.0; bytes = p.1 }

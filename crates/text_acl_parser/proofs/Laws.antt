@@ -11,7 +11,8 @@ use lib.Seq.{length-take-le, take-append-le, take-take, drop_at}
 use lib.Pow.{pow_pos}
 use borrow.Author.Tests.{eq-eqb, ne_eqb}
 use Rattle.rules.specs.Sizes.{hash_bytes}
-use Rattle.rules.specs.Basics.{if◌then◌else◌, Bytes, ascii}
+use Rattle.std.specs.Prelude.{if◌then◌else◌}
+use Rattle.rules.specs.Basics.{Bytes, ascii}
 use Rattle.text_rules.specs.Decoding.{stands, has_word, after_word, after_hash, after_number, hash_after, number_after, bytes_of, of_bits, headed, sort_of, group_from, limit_from, names_from, permissions_from, blob_from, archive_from, blobfile_from, begins, past, decoded}
 use Rattle.text_rules.specs.Words.{spaced, permission_names}
 use Rattle.text_bytes.specs.Putting.{put, Put}

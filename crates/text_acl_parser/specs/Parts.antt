@@ -1,6 +1,6 @@
 -- The parts of a record that a line tells. `t` is what is left of the line where a part begins.
-use Rattle.std.specs.Prelude.{ℕ, ◌+◌, ◌*◌, ◌%◌, List, [], ◌∷◌, ◌++◌, Bool, replicate, eqb}
-use Rattle.rules.specs.Basics.{if◌then◌else◌, Bytes, ascii}
+use Rattle.std.specs.Prelude.{ℕ, ◌+◌, ◌*◌, ◌%◌, List, [], ◌∷◌, ◌++◌, Bool, replicate, eqb, if◌then◌else◌}
+use Rattle.rules.specs.Basics.{Bytes, ascii}
 use Rattle.text_rules.specs.Decoding.{stands, has_word, after_word, after_hash, after_number, hash_after, number_after, bytes_of}
 use Rattle.text_lexer.specs.Telling.{past_word, past_hash, past_number, hash_in, number_in}
 use Rattle.text_lexer.specs.Taking.{one}

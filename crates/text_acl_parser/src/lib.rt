@@ -1,8 +1,7 @@
 // The record that a line tells, put into a buffer from a place on. Reading goes from word to word without a look back, and takes any line.
 #![tactic(auto)]
 
-ghost use Rattle.std.specs.Prelude.{◌≡◌, ◌∷◌, ◌+◌, ◌*◌, ◌^◌, ◌≤◌, length, drop};
-ghost use Rattle.rules.specs.Basics.{if◌then◌else◌};
+ghost use Rattle.std.specs.Prelude.{◌≡◌, ◌∷◌, ◌+◌, ◌*◌, ◌^◌, ◌≤◌, length, drop, if◌then◌else◌};
 ghost use Rattle.text_rules.specs.Decoding.{has_word, number_after, bytes_of, of_bits, limit_from, permissions_from, blob_from, blobfile_from, decoded};
 ghost use Rattle.text_bytes.specs.Putting.{Put};
 ghost use Rattle.text_bytes.specs.Names.{words_of};

@@ -9,7 +9,8 @@ use lib.ListN.{length, take, drop, get_or, get_or-eq_default}
 use lib.Seq.{get_or-drop}
 use lib.Dec.{leb}
 use borrow.Author.Tests.{le-leb, lt-leb}
-use Rattle.rules.specs.Basics.{if◌then◌else◌, Bytes}
+use Rattle.std.specs.Prelude.{if◌then◌else◌}
+use Rattle.rules.specs.Basics.{Bytes}
 use Rattle.text_rules.specs.Words.{space}
 use Rattle.text_rules.specs.Listing.{onto_first}
 use Rattle.text_bytes.specs.Names.{words_of, NameEnds}

@@ -1,6 +1,6 @@
 -- Names in a row, each with a space before it: ` DuplicateHandle GetAppData ..`.
-use Rattle.std.specs.Prelude.{ℕ, ◌-◌, ◌/◌, ◌%◌, ◌≤◌, ◌<◌, ◌≡◌, List, [], ◌∷◌, ◌++◌, length, take, drop, get_or, eqb, leb}
-use Rattle.rules.specs.Basics.{if◌then◌else◌, Bytes}
+use Rattle.std.specs.Prelude.{ℕ, ◌-◌, ◌/◌, ◌%◌, ◌≤◌, ◌<◌, ◌≡◌, List, [], ◌∷◌, ◌++◌, length, take, drop, get_or, eqb, leb, if◌then◌else◌}
+use Rattle.rules.specs.Basics.{Bytes}
 use Rattle.text_rules.specs.Words.{space}
 use Rattle.text_rules.specs.Listing.{onto_first}
 use Rattle.text_bytes.specs.Putting.{text_if}

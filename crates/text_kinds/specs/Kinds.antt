@@ -1,8 +1,8 @@
 -- The kinds of file by their numbers in the header and in replay scripts, and what the entry points for texts answer for a number.
-use Rattle.std.specs.Prelude.{ℕ, eqb}
+use Rattle.std.specs.Prelude.{ℕ, eqb, if◌then◌else◌}
 use Rattle.std.proofs.Math.Option.{Option, none, some}
 use Rattle.rules.specs.Numbers.{out_of_range}
-use Rattle.rules.specs.Basics.{if◌then◌else◌, Bytes}
+use Rattle.rules.specs.Basics.{Bytes}
 use Rattle.text_rules.specs.Listing.{Listed, refused_with}
 use Rattle.text_files.specs.Entries.{written_as, read_as}
 use Rattle.text_files.specs.declared.Kind.{Kind}

@@ -1,6 +1,6 @@
 -- Words of a line read: from a cursor to the next.
-use Rattle.std.specs.Prelude.{◌≡◌, ℕ, ◌+◌, ◌≤◌, Bool, drop}
-use Rattle.rules.specs.Basics.{if◌then◌else◌, Bytes}
+use Rattle.std.specs.Prelude.{◌≡◌, ℕ, ◌+◌, ◌≤◌, Bool, drop, if◌then◌else◌}
+use Rattle.rules.specs.Basics.{Bytes}
 use Rattle.text_bytes.specs.Putting.{Put}
 use Rattle.text_lexer.specs.declared.Cursor.{Cursor}
 

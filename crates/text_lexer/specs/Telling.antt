@@ -1,7 +1,7 @@
 -- What stands in a text, by places and bytes. With the bytes of a name after a space these are the definitions of the crate listings.
-use Rattle.std.specs.Prelude.{◌≡◌, ℕ, suc, ◌+◌, ◌-◌, ◌*◌, ◌%◌, ◌^◌, ◌<◌, ◌≤◌, Bool, ◌||◌, List, [], ◌∷◌, length, take, drop, replicate, ◌==◌, slice_index, slice_range}
+use Rattle.std.specs.Prelude.{◌≡◌, ℕ, suc, ◌+◌, ◌*◌, ◌%◌, ◌^◌, ◌<◌, ◌≤◌, Bool, ◌||◌, List, [], ◌∷◌, length, take, drop, replicate, ◌==◌, slice_index, slice_range, if◌then◌else◌}
 use Rattle.rules.specs.Sizes.{hash_bytes}
-use Rattle.rules.specs.Basics.{if◌then◌else◌, Bytes}
+use Rattle.rules.specs.Basics.{Bytes}
 use Rattle.text_rules.specs.Decoding.{stands, unhex, digits_max, digits_of, decimal_from}
 use Rattle.text_rules.specs.Words.{newline}
 use Rattle.text_rules.specs.Listing.{lines_of, line_length}

@@ -1,7 +1,7 @@
 -- The parts of a line, by the bytes of its words.
-use Rattle.std.specs.Prelude.{ℕ, [], ◌∷◌, ◌++◌, true, length, ltb}
+use Rattle.std.specs.Prelude.{ℕ, [], ◌∷◌, ◌++◌, true, length, ltb, if◌then◌else◌}
 use Rattle.rules.specs.Sizes.{hash_bytes}
-use Rattle.rules.specs.Basics.{if◌then◌else◌, Bytes, ascii, bit, part, number, byte, flag}
+use Rattle.rules.specs.Basics.{Bytes, ascii, bit, part, number, byte, flag}
 use Rattle.rules.specs.Day.{decimal}
 use Rattle.text_rules.specs.Words.{space, hex}
 use Rattle.text_bytes.specs.Putting.{text_if}

@@ -7,7 +7,8 @@ use mathlib.Core.List.{List, [], ◌∷◌, ◌++◌, append_assoc, append-nil, 
 use mathlib.Core.Bool.{Bool, true, false}
 use lib.ListN.{length, drop, replicate}
 use Rattle.rules.specs.Sizes.{hash_bytes}
-use Rattle.rules.specs.Basics.{if◌then◌else◌, Bytes}
+use Rattle.std.specs.Prelude.{if◌then◌else◌}
+use Rattle.rules.specs.Basics.{Bytes}
 use Rattle.text_rules.specs.Words.{spaced, permission_names}
 use Rattle.text_rules.specs.OtherWords.{field_names, signature_names}
 use Rattle.text_rules.specs.Decoding.{has_word, after_word, after_hash, after_number, hash_after, number_after, bytes_of, of_bits, headed, begins, past, decoded}

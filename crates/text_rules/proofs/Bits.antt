@@ -8,7 +8,8 @@ use mathlib.Core.List.{List, [], ◌∷◌}
 use mathlib.Core.Bool.{Bool, true, false}
 use lib.Dec.{eqb}
 use borrow.Author.Tests.{eqb-true, eqb-false}
-use Rattle.rules.specs.Basics.{if◌then◌else◌, implies, within, bit}
+use Rattle.std.specs.Prelude.{if◌then◌else◌}
+use Rattle.rules.specs.Basics.{implies, within, bit}
 use Rattle.rules.proofs.Laws.{implied, not_both, all_below_at}
 use Rattle.text_rules.specs.Decoding.{of_bits}
 

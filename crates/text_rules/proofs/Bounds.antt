@@ -10,7 +10,8 @@ use lib.Dec.{eqb, leb, ltb}
 use borrow.Author.Tests.{eqb-true, leb-true, ltb-true, le-ltb, lt-ltb, eq-eqb, ne_eqb}
 use Rattle.rules.specs.Sizes.{certificates_max, delegations_max, listed_max}
 use Rattle.rules.specs.Numbers.{malformed, too_many}
-use Rattle.rules.specs.Basics.{if◌then◌else◌, Bytes, implies, byte, kind, record_fault}
+use Rattle.std.specs.Prelude.{if◌then◌else◌}
+use Rattle.rules.specs.Basics.{Bytes, implies, byte, kind, record_fault}
 use Rattle.rules.specs.Layout.{between, certificate_laid_out, delegation_laid_out, blobfile_request_laid_out, fact_laid_out, signature_laid_out}
 use Rattle.rules.specs.Acl.{announces_blobfile}
 use Rattle.rules.specs.Request.{request_laid_out, blobfile_request_record, certificate_record, delegation_record, PresentedCounts, presented_start, certificate_fault, delegation_fault, presented_record_fault, after_presented}

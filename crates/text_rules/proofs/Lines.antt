@@ -10,7 +10,8 @@ use lib.ListN.{length, take, drop}
 use lib.Dec.{eqb, leb}
 use borrow.Author.Tests.{leb-true, le-leb, ne_eqb, lt-ltb, le-ltb}
 use Rattle.rules.specs.Sizes.{hash_bytes}
-use Rattle.rules.specs.Basics.{if◌then◌else◌, Bytes, Every, all, ascii, part, number, byte, kind}
+use Rattle.std.specs.Prelude.{if◌then◌else◌}
+use Rattle.rules.specs.Basics.{Bytes, Every, all, ascii, part, number, byte, kind}
 use Rattle.rules.specs.Day.{decimal}
 use Rattle.rules.proofs.Laws.{and_left, and_right, and_both}
 use Rattle.text_rules.specs.Words.{newline, space, hex_digit, hex, Word, spaced, words_text, limit_unit, group_words, limit_words, permission_names, permission_words, blob_words, archive_words, blobfile_words, line_of}

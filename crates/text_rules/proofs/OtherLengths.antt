@@ -10,7 +10,8 @@ use lib.ListN.{length, drop, length-append}
 use lib.Dec.{eqb, leb}
 use borrow.Author.Tests.{eqb-true, leb-true}
 use Rattle.rules.specs.Sizes.{hash_bytes}
-use Rattle.rules.specs.Basics.{if◌then◌else◌, Bytes, Every, all, ascii, bit, part, number, byte, kind, flag}
+use Rattle.std.specs.Prelude.{if◌then◌else◌}
+use Rattle.rules.specs.Basics.{Bytes, Every, all, ascii, bit, part, number, byte, kind, flag}
 use Rattle.rules.specs.Layout.{between, token_parameters_if, blob_request_laid_out, policy_laid_out}
 use Rattle.rules.specs.Request.{request_laid_out}
 use Rattle.rules.specs.Day.{decimal}

@@ -8,7 +8,8 @@ use lib.ListN.{length, take, drop}
 use lib.Dec.{eqb, leb, ltb}
 use borrow.Author.Tests.{eqb-true, eqb-false, leb-true, ltb-true}
 use Rattle.rules.specs.Sizes.{hash_bytes}
-use Rattle.rules.specs.Basics.{if◌then◌else◌, Bytes, all, ascii, bit, within, part, number, byte, blank, kind, flag}
+use Rattle.std.specs.Prelude.{if◌then◌else◌}
+use Rattle.rules.specs.Basics.{Bytes, all, ascii, bit, within, part, number, byte, blank, kind, flag}
 use Rattle.rules.specs.Layout.{header, zero_unless, between, token_parameters_at, token_parameters_if, use_laid_out, blob_request_laid_out, recovery_laid_out, certificate_laid_out, fact_laid_out, signature_laid_out, policy_laid_out, hint_laid_out, delegation_laid_out, blobfile_laid_out}
 use Rattle.rules.proofs.Laws.{and_left, and_right, and_both}
 use Rattle.text_rules.specs.Words.{hex, Word, bare, with_number, words_text, permission_names, permission_words, blobfile_words, line_of}

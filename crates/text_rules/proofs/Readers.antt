@@ -10,7 +10,8 @@ use lib.Dec.{eqb, leb}
 use borrow.Author.Tests.{leb-true, lt-ltb}
 use Rattle.rules.specs.Sizes.{record_bytes, request_records, bundle_records, hint_records, day_records}
 use Rattle.rules.specs.Numbers.{bad_length, malformed}
-use Rattle.rules.specs.Basics.{if◌then◌else◌, Bytes, implies, chunks, records, fits, unless, or_next, first_fault, record_fault, each_fault, scan, file_fault}
+use Rattle.std.specs.Prelude.{if◌then◌else◌}
+use Rattle.rules.specs.Basics.{Bytes, implies, chunks, records, fits, unless, or_next, first_fault, record_fault, each_fault, scan, file_fault}
 use Rattle.rules.specs.Acl.{announces_blobfile, acl_fault_under, acl_file_fault}
 use Rattle.rules.specs.Request.{request_laid_out, stands_alone, request_record_fault, PresentedCounts, presented_start, presented_record_fault, after_presented, presented_end, presented_fault, blobfile_request_record, blobfile_follows, request_fault, hint_record, hint_fault, hints_fault, hints_file_fault}
 use Rattle.rules.specs.Bundle.{bundle_fault}

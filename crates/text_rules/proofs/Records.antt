@@ -10,7 +10,8 @@ use lib.ListN.{length, drop, replicate, length-append, length-replicate}
 use lib.Dec.{eqb, leb, ltb}
 use borrow.Author.Tests.{eqb-true, eqb-false, leb-true}
 use Rattle.rules.specs.Sizes.{record_bytes, hash_bytes, counters_max}
-use Rattle.rules.specs.Basics.{if◌then◌else◌, Bytes, implies, Every, all, ascii, bit, all_below, within, part, number, byte, blank, kind, flag}
+use Rattle.std.specs.Prelude.{if◌then◌else◌}
+use Rattle.rules.specs.Basics.{Bytes, implies, Every, all, ascii, bit, all_below, within, part, number, byte, blank, kind, flag}
 use Rattle.rules.specs.Layout.{header, zero_unless, mechanism_at, between, token_parameters_at, token_parameters_if, certifier_mechanism, counter_under, counter_of_sort, group_laid_out, limit_under, limit_laid_out, permissions_laid_out, blob_action_laid_out, archive_action_laid_out, blobfile_laid_out}
 use Rattle.rules.specs.Acl.{AclState, limit_key, limit_in_place, action_in_place, action_laid_out, placed_under, placed_by_kind, in_place}
 use Rattle.rules.proofs.Laws.{and_left, and_right, and_both, not_both, implied, all_below_at}

@@ -11,7 +11,8 @@ use lib.Dec.{eqb, ltb}
 use borrow.Author.Tests.{eqb-true, ltb-true, lt-ltb}
 use Rattle.rules.specs.Sizes.{groups_max, limits_max, actions_max, acl_records}
 use Rattle.rules.specs.Numbers.{malformed, too_many}
-use Rattle.rules.specs.Basics.{if◌then◌else◌, Bytes, kind, record_fault, scan}
+use Rattle.std.specs.Prelude.{if◌then◌else◌}
+use Rattle.rules.specs.Basics.{Bytes, kind, record_fault, scan}
 use Rattle.rules.specs.Layout.{limit_laid_out}
 use Rattle.rules.specs.Acl.{AclState, acl_start, announces_blobfile, limit_key, limit_in_place, action_in_place, action_laid_out, placed_under, in_place, has_room_under, has_room, after_record, record_fault_under, acl_record_fault}
 use Rattle.rules.proofs.Laws.{and_left, and_right, and_both, unless_passed, or_next_first, or_next_next, fault_none_every}

@@ -11,7 +11,8 @@ use lib.Dec.{eqb, leb, ltb}
 use borrow.Author.Tests.{eqb-true, leb-true, le-ltb, lt-ltb, not-true}
 use Rattle.rules.specs.Sizes.{request_records, bundle_records, day_records, hint_records, certificates_max, delegations_max}
 use Rattle.rules.specs.Numbers.{malformed}
-use Rattle.rules.specs.Basics.{if◌then◌else◌, Bytes, Every, ascii, byte, kind, records, unless, each_fault, file_fault}
+use Rattle.std.specs.Prelude.{if◌then◌else◌}
+use Rattle.rules.specs.Basics.{Bytes, Every, ascii, byte, kind, records, unless, each_fault, file_fault}
 use Rattle.rules.specs.Layout.{between, certificate_laid_out, delegation_laid_out, blobfile_laid_out, blobfile_request_laid_out, hint_laid_out, fact_laid_out, signature_laid_out, policy_laid_out}
 use Rattle.rules.specs.Acl.{announces_blobfile, acl_file_fault}
 use Rattle.rules.specs.Request.{request_laid_out, stands_alone, blobfile_request_record, request_record_fault, request_fault, hint_record, hints_file_fault}

@@ -10,7 +10,8 @@ use lib.Seq.{drop_at, drop-append_seam}
 use lib.Dec.{eqb, leb}
 use borrow.Author.Tests.{leb-true, lt-leb, eq-eqb, not-true}
 use Rattle.rules.specs.Sizes.{hash_bytes}
-use Rattle.rules.specs.Basics.{if◌then◌else◌, Bytes, Every, all, bit}
+use Rattle.std.specs.Prelude.{if◌then◌else◌}
+use Rattle.rules.specs.Basics.{Bytes, Every, all, bit}
 use Rattle.rules.specs.Layout.{between}
 use Rattle.rules.specs.Day.{decimal}
 use Rattle.rules.proofs.Laws.{and_left, and_right, and_both}

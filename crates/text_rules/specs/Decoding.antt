@@ -1,10 +1,10 @@
 -- The record that a line tells. It is found word by word, from the left, without a look back, and always has 64 bytes; whether the line is the
 -- written form of that record is asked afterwards.
-use Rattle.std.specs.Prelude.{ℕ, zero, suc, ◌+◌, ◌-◌, ◌*◌, ◌/◌, ◌%◌, ◌^◌, Bool, false, ◌&&◌, length, get_or, take, drop, replicate, eqb, leb}
+use Rattle.std.specs.Prelude.{ℕ, zero, suc, ◌+◌, ◌-◌, ◌*◌, ◌/◌, ◌%◌, ◌^◌, Bool, false, ◌&&◌, length, get_or, take, drop, replicate, eqb, leb, if◌then◌else◌}
 use Prim.Native.String.{String}
 use mathlib.Core.List.{List, [], ◌∷◌, flatten}
 use Rattle.rules.specs.Sizes.{hash_bytes}
-use Rattle.rules.specs.Basics.{if◌then◌else◌, Bytes, ascii}
+use Rattle.rules.specs.Basics.{Bytes, ascii}
 use Rattle.rules.specs.Layout.{between}
 use Rattle.text_rules.specs.Words.{space, spaced, permission_names}
 

@@ -1,10 +1,10 @@
 -- The five kinds of file that have a text form: an ACL, a request with what is presented, requests that stand alone, a bundle, hints. Each is told by the
 -- reader that finds its faults: what is wrong with a record in a state, the state after it, what is wrong with an end, the greatest number of records.
-use Rattle.std.specs.Prelude.{ℕ, ◌+◌, List, Bool, ltb}
+use Rattle.std.specs.Prelude.{ℕ, ◌+◌, List, Bool, ltb, if◌then◌else◌}
 use Rattle.std.proofs.Math.Option.{Option, none, some}
 use Rattle.rules.specs.Sizes.{acl_records, request_records, bundle_records, hint_records, day_records}
 use Rattle.rules.specs.Numbers.{malformed}
-use Rattle.rules.specs.Basics.{if◌then◌else◌, Bytes, unless, record_fault, scan, file_fault}
+use Rattle.rules.specs.Basics.{Bytes, unless, record_fault, scan, file_fault}
 use Rattle.rules.specs.Acl.{AclState, acl_start, after_record, acl_record_fault, acl_end, announces_blobfile}
 use Rattle.rules.specs.Request.{request_laid_out, stands_alone, blobfile_request_record, PresentedCounts, presented_start, presented_record_fault, after_presented, hint_record}
 use Rattle.rules.specs.Bundle.{BundleState, bundle_start, bundle_record_fault, after_bundle_record, bundle_end}

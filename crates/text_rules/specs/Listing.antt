@@ -1,11 +1,11 @@
 -- A file's text: its lines, which of them are bad, what is read and written, and the two entry points. Document 02, requests b and i. All of it is said
 -- once, over a kind of file (Kinds); an ACL's text is its listing, and has names of its own.
-use Rattle.std.specs.Prelude.{ℕ, suc, ◌+◌, ◌<◌, ◌≡◌, Bool, true, false, not, ◌&&◌, length, eqb, leb}
+use Rattle.std.specs.Prelude.{ℕ, suc, ◌+◌, ◌<◌, ◌≡◌, Bool, true, false, not, ◌&&◌, length, eqb, leb, if◌then◌else◌}
 use mathlib.Core.List.{List, [], ◌∷◌, ◌++◌, map, flatten}
 use Rattle.std.proofs.Math.Option.{Option, none, some}
 use Rattle.rules.specs.Sizes.{record_bytes}
 use Rattle.rules.specs.Numbers.{malformed, short_buffer, not_listing}
-use Rattle.rules.specs.Basics.{if◌then◌else◌, Bytes, Every, same, present, unless, first_fault, scan}
+use Rattle.rules.specs.Basics.{Bytes, Every, same, present, unless, first_fault, scan}
 use Rattle.rules.specs.Acl.{AclState}
 use Rattle.rules.specs.Subject.{written_over}
 use Rattle.text_rules.specs.Words.{newline, text_by}

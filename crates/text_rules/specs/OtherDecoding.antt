@@ -1,9 +1,9 @@
 -- The record that a line tells, for the kinds 6 to 14: found as those of an ACL are (Decoding), word by word, without a look back.
-use Rattle.std.specs.Prelude.{ℕ, zero, suc, ◌+◌, ◌*◌, false, length, take, drop, replicate}
+use Rattle.std.specs.Prelude.{ℕ, zero, suc, ◌+◌, ◌*◌, false, length, take, drop, replicate, if◌then◌else◌}
 use Prim.Native.String.{String}
 use mathlib.Core.List.{List, [], ◌∷◌, ◌++◌, flatten}
 use Rattle.rules.specs.Sizes.{hash_bytes}
-use Rattle.rules.specs.Basics.{if◌then◌else◌, Bytes}
+use Rattle.rules.specs.Basics.{Bytes}
 use Rattle.text_rules.specs.Words.{spaced, permission_names}
 use Rattle.text_rules.specs.OtherWords.{field_names, signature_names}
 use Rattle.text_rules.specs.Decoding.{has_word, after_word, unhex, hash_after, after_hash, digits_of, digits_max, decimal_from, number_up_to, number_after, after_number, bytes_of, of_bits, headed, names_from, begins, past, decoded}

@@ -1,9 +1,9 @@
 -- The lines of the records that stand in requests, bundles and hints: the kinds 6 to 14. They are written as those of an ACL are (Words): one line per
 -- record, words in a fixed order. The words are those of docs/TEXT.md.
-use Rattle.std.specs.Prelude.{ℕ, zero, suc, ◌+◌, ◌-◌, ◌*◌, List, [], ◌∷◌, ◌++◌, Bool, true, eqb}
+use Rattle.std.specs.Prelude.{ℕ, zero, suc, ◌+◌, ◌-◌, ◌*◌, List, [], ◌∷◌, ◌++◌, Bool, true, eqb, if◌then◌else◌}
 use Prim.Native.String.{String}
 use Rattle.rules.specs.Sizes.{hash_bytes, certificates_max, delegations_max, hint_records, day_records}
-use Rattle.rules.specs.Basics.{if◌then◌else◌, Bytes, ascii, bit, part, number, byte, kind, flag}
+use Rattle.rules.specs.Basics.{Bytes, ascii, bit, part, number, byte, kind, flag}
 use Rattle.rules.specs.Day.{decimal}
 use Rattle.text_rules.specs.Words.{space, hex, Word, bare, with_number, with_hash, words_text, permission_names, permission_words, line_of, blobfile_line_max}
 

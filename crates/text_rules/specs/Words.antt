@@ -1,10 +1,10 @@
 -- The line of a record: document 02, requests b and i, "one line per record, each ended by one byte 10, fields in a fixed order, numbers in decimal,
 -- permissions by name and hashes as 40 lower-case digits". The words and their order are those of docs/TEXT.md.
-use Rattle.std.specs.Prelude.{ℕ, ◌+◌, ◌*◌, ◌/◌, ◌%◌, Bool, true, eqb, ltb}
+use Rattle.std.specs.Prelude.{ℕ, ◌+◌, ◌*◌, ◌/◌, ◌%◌, Bool, true, eqb, ltb, if◌then◌else◌}
 use Prim.Native.String.{String}
 use mathlib.Core.List.{List, [], ◌∷◌, ◌++◌, map, flatten}
 use Rattle.rules.specs.Sizes.{hash_bytes, groups_max, limits_max, actions_max}
-use Rattle.rules.specs.Basics.{if◌then◌else◌, Bytes, ascii, bit, part, number, byte, kind, flag, records}
+use Rattle.rules.specs.Basics.{Bytes, ascii, bit, part, number, byte, kind, flag, records}
 use Rattle.rules.specs.Day.{decimal}
 
 -- "each ended by one byte 10"

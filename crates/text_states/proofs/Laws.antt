@@ -9,7 +9,8 @@ use lib.Dec.{eqb, ltb}
 use borrow.Author.Tests.{eq-eqb, ne_eqb, lt-ltb, le-ltb, not-true, not-false}
 use Rattle.rules.specs.Numbers.{malformed, too_many}
 use Rattle.rules.specs.Sizes.{certificates_max, delegations_max, day_records, hint_records, listed_max}
-use Rattle.rules.specs.Basics.{if◌then◌else◌, Bytes, flag, present, record_fault}
+use Rattle.std.specs.Prelude.{if◌then◌else◌}
+use Rattle.rules.specs.Basics.{Bytes, flag, present, record_fault}
 use Rattle.rules.specs.Request.{request_laid_out, blobfile_request_record, stands_alone, hint_record, certificate_record, delegation_record, certificate_fault, delegation_fault, presented_record_fault, after_presented}
 use Rattle.rules.specs.Bundle.{order_of, listed_order, bundle_in_place, bundle_has_room, bundle_record_fault, listed_after}
 use Rattle.rules.proofs.Rows.{bad_record, full_record, sound_record}

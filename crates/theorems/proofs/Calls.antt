@@ -12,7 +12,8 @@ use lib.Dec.{ltb}
 use borrow.Author.Tests.{ltb-false, ne_eqb}
 use Rattle.rules.specs.Sizes.{groups_max, counters_max, acl_records, hint_records}
 use Rattle.rules.specs.Numbers.{bad_length, not_narrower, out_of_range}
-use Rattle.rules.specs.Basics.{if◌then◌else◌, Bytes, first_fault, records, fits, file_fault}
+use Rattle.std.specs.Prelude.{if◌then◌else◌}
+use Rattle.rules.specs.Basics.{Bytes, first_fault, records, fits, file_fault}
 use Rattle.rules.specs.Acl.{Group, acl_of, acl_fault, acl_file_fault}
 use Rattle.rules.specs.Request.{operation, reduce_acl, expand_acl, request_of, hints_of}
 use Rattle.rules.specs.Ledger.{Ledger, charge, loaded_at, cleared, recounted, carried}

@@ -12,7 +12,8 @@ use lib.Dec.{eqb, ltb}
 use borrow.Author.Tests.{eqb-true, ltb-true, lt-ltb}
 use Rattle.rules.specs.Sizes.{Capacity, today, acl_records_under}
 use Rattle.rules.specs.Numbers.{bad_length, malformed, too_many}
-use Rattle.rules.specs.Basics.{if◌then◌else◌, Bytes, all, Every, byte, kind, scan, records, fits, file_fault}
+use Rattle.std.specs.Prelude.{if◌then◌else◌}
+use Rattle.rules.specs.Basics.{Bytes, all, Every, byte, kind, scan, records, fits, file_fault}
 use Rattle.rules.specs.Layout.{counter_under, limit_under}
 use Rattle.rules.specs.Acl.{Limit, limit_of, limits_of, Group, groups_of, acl_of, AclState, acl_start, blobfile_record, placed_under, in_place_under, has_room_under, after_record, record_fault_under, acl_end, acl_fault_under, acl_file_fault_under}
 use Rattle.rules.specs.Request.{Request, request_of, Hint, hints_of}

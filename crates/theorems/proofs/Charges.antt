@@ -13,7 +13,8 @@ use lib.Seq.{get_or-set_same, get_or-set_other}
 use lib.Dec.{eqb, ltb}
 use borrow.Author.Tests.{eqb-true, eqb-false, ltb-true, ltb-false, lt-ltb}
 use Rattle.rules.specs.Sizes.{today, groups_max, counters_max}
-use Rattle.rules.specs.Basics.{if◌then◌else◌, Bytes, records}
+use Rattle.std.specs.Prelude.{if◌then◌else◌}
+use Rattle.rules.specs.Basics.{Bytes, records}
 use Rattle.rules.specs.Acl.{Group, acl_of, acl_fault}
 use Rattle.rules.specs.Request.{request_of, Hint, hints_of}
 use Rattle.rules.specs.Ledger.{Ledger, raised, raised_by, charge, recounted, carried}

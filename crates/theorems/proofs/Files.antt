@@ -10,7 +10,8 @@ use mathlib.Core.Bool.{Bool, true, false, false≢true}
 use lib.Dec.{eqb}
 use borrow.Author.Tests.{eqb-true}
 use Rattle.rules.specs.Numbers.{malformed}
-use Rattle.rules.specs.Basics.{if◌then◌else◌, Bytes, kind, scan, records}
+use Rattle.std.specs.Prelude.{if◌then◌else◌}
+use Rattle.rules.specs.Basics.{Bytes, kind, scan, records}
 use Rattle.rules.specs.Layout.{blobfile_laid_out}
 use Rattle.rules.specs.Acl.{blobfile_rule_of, blobfile_rule_next, AclState, acl_start, action_laid_out, announces_blobfile, blobfile_record, placed_under, placed_by_kind, in_place_under, in_place, action_added, after_record, record_fault_under, acl_record_fault, acl_end, acl_fault_under, acl_fault}
 use Rattle.rules.proofs.Laws.{never, and_left, unless_passed, or_next_first, or_next_next, fault_none_every}

@@ -10,7 +10,7 @@ use lib.Dec.{ltb}
 use borrow.Author.Tests.{eqb-true, ltb-true, ltb-false}
 use Rattle.rules.specs.Sizes.{slots_max}
 use Rattle.rules.specs.Numbers.{no_slot}
-use Rattle.rules.specs.Basics.{if◌then◌else◌}
+use Rattle.std.specs.Prelude.{if◌then◌else◌}
 use Rattle.rules.specs.Ledger.{Ledger}
 use Rattle.rules.specs.Gate.{Answer, refuse}
 use Rattle.rules.specs.Cabinet.{Slot, Cabinet, counts_and_times, ledger_with, slot_at, CabinetOutcome}

@@ -1,5 +1,5 @@
 -- "Files accepted before must be read unchanged.", their acceptance: an ACL file that has no fault under some sizes of the tables has none under larger ones; so one that
--- had none under document 01's sizes has none now. What a file says (aclOf) does not depend on the sizes. Two wrong products that this rules out: one
+-- had none under document 01's sizes has none now. What a file says (acl_of) does not depend on the sizes. Two wrong products that this rules out: one
 -- whose longest ACL did not grow with its groups, and one that takes a counter's number for another's.
 use Prim.Native.Nat.{ℕ, ◌*◌, ◌/◌, ◌%◌, ◌≤◌}
 use native.Mathlib.Omega.{arith}
@@ -12,7 +12,8 @@ use lib.Dec.{eqb, leb, ltb}
 use borrow.Author.Tests.{leb-true, le-leb, ltb-true, lt-ltb}
 use Rattle.rules.specs.Sizes.{record_bytes, Capacity, today, acl_records_under}
 use Rattle.rules.specs.Numbers.{bad_length, malformed, too_many, open_archive}
-use Rattle.rules.specs.Basics.{if◌then◌else◌, Bytes, kind, byte, fits, unless, or_next, first_fault, scan, file_fault, records}
+use Rattle.std.specs.Prelude.{if◌then◌else◌}
+use Rattle.rules.specs.Basics.{Bytes, kind, byte, fits, unless, or_next, first_fault, scan, file_fault, records}
 use Rattle.rules.specs.Layout.{counter_under, limit_under}
 use Rattle.rules.specs.Acl.{AclState, acl_start, limit_key, limit_in_place, blobfile_record, placed_under, in_place_under, has_room_under, keyed, after_record, record_fault_under, acl_end, acl_fault_under, acl_file_fault_under, acl_file_fault}
 use Rattle.rules.specs.Request.{hint_of, hints_of, hints_fault, hints_file_fault}

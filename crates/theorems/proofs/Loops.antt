@@ -10,7 +10,8 @@ use mathlib.Core.List.{List, [], ◌∷◌}
 use mathlib.Core.Option.{Option, none}
 use mathlib.Core.Bool.{Bool, true, false, ◌&&◌}
 use lib.ListN.{length}
-use Rattle.rules.specs.Basics.{if◌then◌else◌, Bytes, Every, same, bit}
+use Rattle.std.specs.Prelude.{if◌then◌else◌}
+use Rattle.rules.specs.Basics.{Bytes, Every, same, bit}
 use Rattle.rules.specs.Acl.{Group, acl_of}
 use Rattle.rules.specs.Request.{Certificate, Delegation, Request, request_of, hints_of}
 use Rattle.rules.specs.Ledger.{Ledger}

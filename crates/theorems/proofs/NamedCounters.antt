@@ -10,7 +10,8 @@ use mathlib.Core.Bool.{Bool, true, false, ◌&&◌, ◌||◌}
 use lib.ListN.{get_or}
 use lib.Dec.{eqb, ltb}
 use Rattle.rules.specs.Sizes.{full_count}
-use Rattle.rules.specs.Basics.{if◌then◌else◌, Bytes, any, all, Every}
+use Rattle.std.specs.Prelude.{if◌then◌else◌}
+use Rattle.rules.specs.Basics.{Bytes, any, all, Every}
 use Rattle.rules.specs.Acl.{Limit, Group, acl_of}
 use Rattle.rules.specs.Request.{Request}
 use Rattle.rules.specs.Ledger.{Ledger, charge}

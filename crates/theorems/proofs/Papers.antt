@@ -10,7 +10,8 @@ use lib.Dec.{eqb}
 use lib.ListN.{drop, get_or, get_elem?, length, replicate, take}
 use Rattle.rules.proofs.Samples.{blob, bundle, hash, open_group}
 use Rattle.rules.specs.Acl.{Action, Group, acl_fault, acl_file_fault, acl_file_fault_under, acl_of, announces_blobfile, blobfile_record, blobfile_rule_next, blobfile_rule_of}
-use Rattle.rules.specs.Basics.{Bytes, Every, any, bit, file_fault, first_fault, fits, holds_at, if◌then◌else◌, records, unless}
+use Rattle.std.specs.Prelude.{if◌then◌else◌}
+use Rattle.rules.specs.Basics.{Bytes, Every, any, bit, file_fault, first_fault, fits, holds_at, records, unless}
 use Rattle.rules.specs.Bundle.{field, policy_of, reported}
 use Rattle.rules.specs.Cabinet.{Cabinet, Slot, fresh_cabinet, ledger_at, ledger_with, slot_at}
 use Rattle.rules.specs.CabinetRuns.{cabinet_prepared_run, cabinet_run}

@@ -10,7 +10,8 @@ use lib.ListN.{length, take, drop}
 use lib.Dec.{eqb, ltb}
 use borrow.Author.Tests.{eqb-true, eq-eqb, ltb-true, lt-ltb, not-true}
 use Rattle.rules.specs.Sizes.{groups_max, actions_max}
-use Rattle.rules.specs.Basics.{if◌then◌else◌, Bytes, implies, Every, number, kind, flag, unless, scan}
+use Rattle.std.specs.Prelude.{if◌then◌else◌}
+use Rattle.rules.specs.Basics.{Bytes, implies, Every, number, kind, flag, unless, scan}
 use Rattle.rules.specs.Numbers.{malformed}
 use Rattle.rules.specs.Layout.{group_laid_out, limit_laid_out}
 use Rattle.rules.specs.Acl.{BlobfileRule, action_of, blobfile_rule_next, announces_blobfile, limits_of, actions_of, group_of, groups_of, AclState, acl_start, limit_key, among, limit_in_place, action_laid_out, blobfile_record, placed_under, placed_by_kind, in_place_under, in_place, has_room_under, keyed, after_record, acl_record_fault, acl_end, acl_fault_under, acl_fault}

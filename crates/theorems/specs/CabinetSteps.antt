@@ -1,9 +1,9 @@
 -- What a host does with a cabinet: its calls, and runs in its slots. As Steps has it for one key: a run comes to calls, its requests one by one, so that what is
 -- said of every sequence of cabinet calls speaks of runs too. The theorems are in proofs/CabinetRuns.antt.
-use Rattle.std.specs.Prelude.{ℕ, List, [], ◌∷◌, ◌++◌, map, ltb}
+use Rattle.std.specs.Prelude.{ℕ, List, [], ◌∷◌, ◌++◌, map, ltb, if◌then◌else◌}
 use Rattle.std.proofs.Math.Option.{Option, none, some}
 use Rattle.rules.specs.Sizes.{slots_max, run_records}
-use Rattle.rules.specs.Basics.{if◌then◌else◌, Bytes, records}
+use Rattle.rules.specs.Basics.{Bytes, records}
 use Rattle.rules.specs.Request.{Certificate}
 use Rattle.rules.specs.Runs.{with_row, bytes_of_answer, run_fault}
 use Rattle.rules.specs.Prepared.{Form, prepared_fault}

@@ -1,8 +1,8 @@
 -- Sequences of calls of the cabinet, and the words of the promises about them: document 02, request h. The theorems are in proofs/Slots.antt,
 -- proofs/SharedCounters.antt, proofs/Isolation.antt and proofs/SlotDemand3.antt.
-use Rattle.std.specs.Prelude.{ℕ, ◌+◌, List, [], ◌∷◌, ◌++◌, map, ◌≡◌, Bool, false, get_or, eqb}
+use Rattle.std.specs.Prelude.{ℕ, ◌+◌, List, [], ◌∷◌, ◌++◌, map, ◌≡◌, Bool, false, get_or, eqb, if◌then◌else◌}
 use Rattle.std.proofs.Math.Option.{Option, none, some}
-use Rattle.rules.specs.Basics.{if◌then◌else◌, Bytes}
+use Rattle.rules.specs.Basics.{Bytes}
 use Rattle.rules.specs.Acl.{Limit, Group, acl_of, acl_file_fault}
 use Rattle.rules.specs.Ledger.{Ledger}
 use Rattle.rules.specs.Gate.{Answer, permit, Outcome}

@@ -2,11 +2,11 @@
 -- Files accepted before must be read unchanged." The reader of ACLs (crates/rules/specs/Acl.antt) is defined over the sizes; the definitions here are those of
 -- crates/rules/specs/Gate.antt and of crates/text_rules/specs/Listing.antt with the sizes as a parameter, and at today's sizes they are the same. The theorems
 -- are in proofs/Larger.antt, proofs/CarriedOver.antt and proofs/OldListings.antt.
-use Rattle.std.specs.Prelude.{ℕ, ◌-◌, ◌≤◌, ◌<◌, ◌≡◌, List, [], ◌∷◌, ◌++◌, map, Bool, true, ◌&&◌, length, get_or, replicate, eqb, ltb}
+use Rattle.std.specs.Prelude.{ℕ, ◌-◌, ◌≤◌, ◌<◌, ◌≡◌, List, [], ◌∷◌, ◌++◌, map, Bool, true, ◌&&◌, length, get_or, replicate, eqb, ltb, if◌then◌else◌}
 use Rattle.std.proofs.Math.Option.{Option, none}
 use Rattle.rules.specs.Sizes.{Capacity, hash_bytes, request_records, acl_records_under}
 use Rattle.rules.specs.Numbers.{bad_length, not_narrower, out_of_range}
-use Rattle.rules.specs.Basics.{if◌then◌else◌, Bytes, Every, unless, first_fault, records, fits}
+use Rattle.rules.specs.Basics.{Bytes, Every, unless, first_fault, records, fits}
 use Rattle.rules.specs.Acl.{Limit, Group, acl_of, AclState, acl_start, after_record, acl_end, record_fault_under, acl_fault_under, acl_file_fault_under}
 use Rattle.rules.specs.Request.{Hint, request_of, request_laid_out, request_fault, use_of, reduce_acl, expand_acl, hints_of, hints_fault}
 use Rattle.rules.specs.Ledger.{Ledger, cleared, recounted}

@@ -1,10 +1,9 @@
 -- What a permit, a load and a clear do to the ledger, entry by entry: document 01, "When a group grants" and "The ledger". The theorems are in
 -- proofs/Charges.antt.
-use Rattle.std.specs.Prelude.{ℕ, ◌+◌, ◌≤◌, ◌<◌, ◌≡◌, List, Bool, length, get_or, eqb}
+use Rattle.std.specs.Prelude.{ℕ, ◌+◌, ◌≤◌, ◌<◌, ◌≡◌, List, Bool, length, get_or, eqb, if◌then◌else◌}
 use Rattle.std.proofs.Math.Option.{some}
 use Rattle.std.proofs.Math.ListN.{get_elem?}
 use Rattle.rules.specs.Sizes.{groups_max, counters_max}
-use Rattle.rules.specs.Basics.{if◌then◌else◌}
 use Rattle.rules.specs.Acl.{Group}
 use Rattle.rules.specs.Request.{Hint}
 use Rattle.rules.specs.Ledger.{Ledger}

@@ -1,9 +1,9 @@
 -- The words of request n (document 02): the ACLs that it speaks of, and the certificates that serve an ACL's groups.
-use Rattle.std.specs.Prelude.{ℕ, ◌≤◌, ◌<◌, ◌^◌, ◌≡◌, ◌⊎◌, ◌≢◌, List, [], ◌∷◌, Bool, true, false, ◌&&◌, ◌||◌, length}
+use Rattle.std.specs.Prelude.{ℕ, ◌≤◌, ◌<◌, ◌^◌, ◌≡◌, ◌⊎◌, ◌≢◌, List, [], ◌∷◌, Bool, true, false, ◌&&◌, ◌||◌, length, if◌then◌else◌}
 use Rattle.std.proofs.Math.Option.{Option, none, some}
 use Rattle.rules.specs.Sizes.{hash_bytes, certificates_max}
 use Rattle.rules.specs.Numbers.{by_cardset}
-use Rattle.rules.specs.Basics.{if◌then◌else◌, Bytes, Every, any, present, records}
+use Rattle.rules.specs.Basics.{Bytes, Every, any, present, records}
 use Rattle.rules.specs.Acl.{BlobRule, BlobfileRule, Action, permissions, make_blob, make_archive, Group, acl_of}
 use Rattle.rules.specs.Request.{WorkingBlob, working_blob, Certificate, request_of}
 use Rattle.rules.specs.Ledger.{Ledger}

@@ -10,7 +10,8 @@ use lib.ListN.{length, take, drop, get_or, set, replicate, length-append, length
 use lib.Seq.{set_at, append_snoc}
 use lib.Dec.{eqb}
 use Rattle.rules.specs.Sizes.{record_bytes, groups_max, actions_max}
-use Rattle.rules.specs.Basics.{if◌then◌else◌, Bytes, kind, scan, records, joined, records_from}
+use Rattle.std.specs.Prelude.{if◌then◌else◌}
+use Rattle.rules.specs.Basics.{Bytes, kind, scan, records, joined, records_from}
 use Rattle.rules.specs.Acl.{AclState, acl_start, has_room_under, after_record, acl_record_fault, acl_fault_under, acl_fault}
 use Rattle.rules.specs.Trim.{is_checked, stays, kept_indices, hints_from, trim_hints}
 use Rattle.rules.specs.Written.{hint_bytes}

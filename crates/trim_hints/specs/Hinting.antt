@@ -1,8 +1,8 @@
 -- A hint as far as it is written, and what is asked of an ACL from an offset on.
-use Rattle.std.specs.Prelude.{ℕ, ◌+◌, ◌≡◌, List, [], Bool, drop, set, eqb}
+use Rattle.std.specs.Prelude.{ℕ, ◌+◌, ◌≡◌, List, [], Bool, drop, set, eqb, if◌then◌else◌}
 use Rattle.std.proofs.Math.Option.{none}
 use Rattle.rules.specs.Sizes.{record_bytes}
-use Rattle.rules.specs.Basics.{if◌then◌else◌, Bytes, part, kind, scan, records}
+use Rattle.rules.specs.Basics.{Bytes, part, kind, scan, records}
 use Rattle.rules.specs.Acl.{AclState, acl_record_fault, after_record, acl_end}
 use Rattle.rules.specs.Trim.{is_checked, kept_indices}
 use Rattle.rules.specs.Written.{hint_bytes}

@@ -13,7 +13,8 @@ use lib.Dec.{eqb}
 use lib.Arith.{mod-mul}
 use lib.Pow.{pow_pos}
 use Rattle.rules.specs.Sizes.{record_bytes}
-use Rattle.rules.specs.Basics.{if◌then◌else◌, Bytes, implies, bit, number, kind, joined}
+use Rattle.std.specs.Prelude.{if◌then◌else◌}
+use Rattle.rules.specs.Basics.{Bytes, implies, bit, number, kind, joined}
 use Rattle.rules.specs.Bundle.{Policy, policy_of}
 use Rattle.rules.specs.Acl.{Action, action_of}
 use Rattle.rules.specs.Desk.{Step, failure_under, action_failure, class_of, policy_admits, module_key, recovery_key}

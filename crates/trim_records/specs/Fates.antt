@@ -1,7 +1,7 @@
 -- What becomes of one record of an ACL, by a bundle's list of records b. proofs/Laws.antt says that this is what the trimmed ACL is made of.
-use Rattle.std.specs.Prelude.{ℕ, List, [], Bool, true, false, not, ◌&&◌, eqb}
+use Rattle.std.specs.Prelude.{ℕ, List, [], Bool, true, false, not, ◌&&◌, eqb, if◌then◌else◌}
 use Rattle.rules.specs.Sizes.{record_bytes}
-use Rattle.rules.specs.Basics.{if◌then◌else◌, Bytes, bit, number, kind}
+use Rattle.rules.specs.Basics.{Bytes, bit, number, kind}
 use Rattle.rules.specs.Bundle.{Policy, policy_of}
 use Rattle.rules.specs.Desk.{class_of, policy_admits}
 use Rattle.rules.specs.Trim.{kept_bits, with_bits, is_checked, action_passes}

@@ -48,11 +48,11 @@ room_hints bundle acl read m most e l = let d = hints_length (records bundle) ac
 module _ (bundle acl new hints : Bytes) where
   -- the reply, and what both buffers hold afterwards
   abbrev pub Ends : TrimReply → Bytes → Bytes → Type 0
-  Ends reply x y = (reply ≡ trim_reply bundle acl new hints) × ((x ≡ trim_acl_buffer bundle acl new hints) × (y ≡ trim_hint_buffer bundle acl new hints))
+  Ends reply x y = record { reply : reply ≡ trim_reply bundle acl new hints; trimmed : x ≡ trim_acl_buffer bundle acl new hints; hinted : y ≡ trim_hint_buffer bundle acl new hints }
 
   end_fault : (f : TrimReply) → trim_fault bundle acl new hints ≡ some f → Ends f new hints
   unfolding trim_reply trim_acl_buffer trim_hint_buffer
-  end_fault f e = rw e (refl, (refl, refl))
+  end_fault f e = rw e record { reply = refl; trimmed = refl; hinted = refl }
 
   pub ends_refused : (f : ℕ) → desk_fault bundle acl ≡ some f → Ends (unread f) new hints
   ends_refused f e = end_fault (unread f) (fault_refused bundle acl new hints f e)
@@ -79,4 +79,4 @@ module _ (bundle acl new hints : Bytes) where
       unfolding trim_reply trim_acl_buffer trim_hint_buffer overwritten
       ends_written x y l h p q =
           let e = fault_none bundle acl new hints read passed (and_both _ _ (le-leb (length (trimmed_acl (records bundle) acl)) (length new) (omega (arith, is.0))) (le-leb (length (trim_hints (records bundle) acl)) (length hints) (omega (arith, hints_is)))) in
-          rw e (ap₂ trimmed is.0 hints_is, (p, q))
+          rw e record { reply = ap₂ trimmed is.0 hints_is; trimmed = p; hinted = q }

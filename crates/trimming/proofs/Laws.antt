@@ -8,7 +8,8 @@ use lib.ListN.{length, take, drop, set, length-append, length-drop}
 use lib.Seq.{length-take-le}
 use lib.Dec.{eqb}
 use Rattle.rules.specs.Sizes.{record_bytes}
-use Rattle.rules.specs.Basics.{if◌then◌else◌, Bytes, number, kind, records, joined, records_from}
+use Rattle.std.specs.Prelude.{if◌then◌else◌}
+use Rattle.rules.specs.Basics.{Bytes, number, kind, records, joined, records_from}
 use Rattle.rules.specs.Bundle.{Policy, policy_of}
 use Rattle.rules.specs.Trim.{kept_bits, with_bits, trimmed_from, hints_from, trimmed_acl}
 use Rattle.rules.specs.Written.{big_endian}

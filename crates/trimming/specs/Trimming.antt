@@ -1,7 +1,7 @@
 -- The tool's answers in the definitions' terms.
-use Rattle.std.specs.Prelude.{ℕ, eqb}
+use Rattle.std.specs.Prelude.{ℕ, eqb, if◌then◌else◌}
 use Rattle.rules.specs.Sizes.{record_bytes}
-use Rattle.rules.specs.Basics.{if◌then◌else◌, Bytes, kind}
+use Rattle.rules.specs.Basics.{Bytes, kind}
 use Rattle.rules.specs.Trim as rules
 use Rattle.refusals.specs.Refusals.{refusal_number}
 use Rattle.desk_steps.specs.Steps.{step_as}

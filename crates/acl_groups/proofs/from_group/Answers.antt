@@ -1,5 +1,4 @@
 use Rattle.acl_groups.proofs.Laws.{from_place}
-use borrow.Author.Rules.{rules}
 use Rattle.acl_groups.proofs.from_group.Goals as goal
 
 pub returns : goal.returns

@@ -1,10 +1,6 @@
-use Prim.Native.Nat.{◌≤◌, ◌-◌}
-use mathlib.Core.Path.{◌≡◌, refl}
-use lib.ListN.{length, drop}
-use Rattle.rules.specs.Basics.{records, records_from}
-use Rattle.rules.specs.Acl.{groups_of}
+use mathlib.Core.Path.{refl}
+use Rattle.rules.specs.Basics.{records_from}
 use Rattle.acl_groups.proofs.Laws.{from_skip, from_next, place_skip, place_next, place_here, place_none, found_here, found_none}
-use Rattle.acl_groups.specs.Parts.{group_offset}
 use borrow.Author.Rules.{rules}
 use Rattle.acl_groups.proofs.group_at.Goals as goal
 

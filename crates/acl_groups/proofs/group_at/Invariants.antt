@@ -1,11 +1,9 @@
 use Prim.Native.Nat.{◌≤◌, ◌-◌}
-use mathlib.Core.Path.{◌≡◌, refl}
+use mathlib.Core.Path.{◌≡◌}
 use lib.ListN.{length, drop}
 use Rattle.rules.specs.Basics.{records, records_from}
 use Rattle.rules.specs.Acl.{groups_of}
-use Rattle.acl_groups.proofs.Laws.{from_skip, from_next, place_skip, place_next, place_here, place_none, found_here, found_none}
 use Rattle.acl_groups.specs.Parts.{group_offset}
-use borrow.Author.Rules.{rules}
 use Rattle.acl_groups.proofs.group_at.Given as goal
 
 abbrev pub invariant-loop-i : goal.invariant-loop-i

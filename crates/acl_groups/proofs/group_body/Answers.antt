@@ -1,5 +1,4 @@
 use Rattle.acl_groups.proofs.Laws.{body_none, body_some}
-use borrow.Author.Rules.{rules}
 use Rattle.acl_groups.proofs.group_body.Goals as goal
 
 pub returns-then-rest-lt-RECORD : goal.returns-then-rest-lt-RECORD

@@ -1,6 +1,4 @@
-use Prim.Native.Nat.{◌≤◌, ◌-◌}
-use lib.ListN.{length}
-use Rattle.acl_groups.proofs.Laws.{Passed, passed_none, passed_more, part_here, part_none}
+use Rattle.acl_groups.proofs.Laws.{passed_none, passed_more, part_here, part_none}
 use borrow.Author.Rules.{rules}
 use Rattle.acl_groups.proofs.next_part.Goals as goal
 

@@ -1,7 +1,6 @@
 use Prim.Native.Nat.{◌≤◌, ◌-◌}
 use lib.ListN.{length}
-use Rattle.acl_groups.proofs.Laws.{Passed, passed_none, passed_more, part_here, part_none}
-use borrow.Author.Rules.{rules}
+use Rattle.acl_groups.proofs.Laws.{Passed}
 use Rattle.acl_groups.proofs.next_part.Given as goal
 
 abbrev pub invariant-loop-i : goal.invariant-loop-i

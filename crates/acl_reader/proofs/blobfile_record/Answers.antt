@@ -1,5 +1,4 @@
 use Rattle.rules.specs.Acl.{blobfile_record}
-use borrow.Author.Rules.{rules}
 use Rattle.acl_reader.proofs.blobfile_record.Goals as goal
 
 pub returns : goal.returns

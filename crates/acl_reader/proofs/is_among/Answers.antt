@@ -1,6 +1,4 @@
-use mathlib.Core.Path.{◌≡◌, refl}
-use Rattle.rules.specs.Acl.{among}
-use Rattle.acl_reader.specs.Places.{keys_of}
+use mathlib.Core.Path.{refl}
 use Rattle.acl_reader.proofs.Laws.{among_stop, among_next, among_done}
 use borrow.Author.Rules.{rules}
 use Rattle.acl_reader.proofs.is_among.Goals as goal

@@ -1,8 +1,6 @@
-use mathlib.Core.Path.{◌≡◌, refl}
+use mathlib.Core.Path.{◌≡◌}
 use Rattle.rules.specs.Acl.{among}
 use Rattle.acl_reader.specs.Places.{keys_of}
-use Rattle.acl_reader.proofs.Laws.{among_stop, among_next, among_done}
-use borrow.Author.Rules.{rules}
 use Rattle.acl_reader.proofs.is_among.Given as goal
 
 abbrev pub invariant-loop-i : goal.invariant-loop-i

@@ -1,8 +1,3 @@
-use Prim.Native.Nat.{◌≤◌, ◌-◌}
-use mathlib.Core.Path.{◌≡◌}
-use lib.ListN.{length}
-use Rattle.rules.specs.Basics.{records_from}
-use Rattle.bundle_facts.specs.Places.{entries, noted_from, offsets_of, Filling}
 use Rattle.bundle_facts.proofs.Places.{entry_below, filling_start, filling_kept, filling_put, filling_done, noted_start, noted_kept, noted_put, noted_done}
 use borrow.Author.Rules.{rules}
 use Rattle.bundle_facts.proofs.find_offsets.Goals as goal

@@ -1,8 +1,6 @@
-use Prim.Native.Nat.{◌≤◌, ◌-◌}
-use mathlib.Core.Path.{◌≡◌, refl}
-use lib.ListN.{length}
-use Rattle.rules.specs.Basics.{any, records, records_from}
-use Rattle.rules.specs.Bundle.{lists, listed}
+use mathlib.Core.Path.{refl}
+use Rattle.rules.specs.Basics.{records_from}
+use Rattle.rules.specs.Bundle.{listed}
 use Rattle.bundle_facts.proofs.Laws.{any_found, any_next, any_none}
 use borrow.Author.Rules.{rules}
 use Rattle.bundle_facts.proofs.is_listed.Goals as goal

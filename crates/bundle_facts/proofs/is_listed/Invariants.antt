@@ -1,10 +1,8 @@
 use Prim.Native.Nat.{◌≤◌, ◌-◌}
-use mathlib.Core.Path.{◌≡◌, refl}
+use mathlib.Core.Path.{◌≡◌}
 use lib.ListN.{length}
 use Rattle.rules.specs.Basics.{any, records, records_from}
 use Rattle.rules.specs.Bundle.{lists, listed}
-use Rattle.bundle_facts.proofs.Laws.{any_found, any_next, any_none}
-use borrow.Author.Rules.{rules}
 use Rattle.bundle_facts.proofs.is_listed.Given as goal
 
 abbrev pub invariant-loop-at : goal.invariant-loop-at

@@ -1,9 +1,7 @@
-use Prim.Native.Nat.{◌≤◌, ◌-◌}
-use mathlib.Core.Path.{◌≡◌, refl}
-use lib.ListN.{length}
-use Rattle.rules.specs.Sizes.{listed_max}
-use Rattle.rules.specs.Basics.{records, scan, records_from}
-use Rattle.rules.specs.Bundle.{bundle_record_fault, after_bundle_record, bundle_end, bundle_fault}
+use mathlib.Core.Bool.{not}
+use mathlib.Core.Path.{refl, ap}
+use Rattle.rules.specs.Basics.{records_from}
+use Rattle.rules.specs.Bundle.{bundle_fault}
 use Rattle.rules.proofs.Rows.{scan_stop, scan_next, scan_done}
 use Rattle.bundle_reader.proofs.Laws.{bundle_bad, bundle_full, bundle_sound, bundle_next, listed_is, end_bad, end_sound}
 use borrow.Author.Rules.{rules}
@@ -20,10 +18,10 @@ pub returns-then-listed-gt-LISTED : goal.returns-then-listed-gt-LISTED
 returns-then-listed-gt-LISTED c = search (rules, scan_stop, bundle_full)
 
 pub loop-at-preserved : goal.loop-at-preserved
-loop-at-preserved c =    let i = c.loop-at.invariant in
+loop-at-preserved c = let i = c.loop-at.invariant in
     let o = c.record_order-here.ensures in
     let a = c.repeats-again.ensures in
-    let s = bundle_sound _ _ _ o a _ _ _ c.in_place.ensures i.1.0 c.if-not-in_place.false c.if-listed-gt-LISTED.false in
+    let s = bundle_sound _ _ _ o a _ _ _ c.in_place.ensures i.1.0 (ap not c.if-not-in_place.false) c.if-listed-gt-LISTED.false in
     let n = bundle_next (record { last = c.loop-at.last; listed_count = c.loop-at.listed }) _ _ _ o (listed_is _ _ _ o a _) in
     (search rules, (search rules, scan_next _ _ _ _ _ _ _ i.1.1 _ c.loop-at-test.true s n))
 

@@ -1,16 +1,13 @@
 use Prim.Native.Nat.{◌≤◌, ◌-◌}
-use mathlib.Core.Path.{◌≡◌, refl}
+use mathlib.Core.Path.{◌≡◌}
 use lib.ListN.{length}
 use Rattle.rules.specs.Sizes.{listed_max}
 use Rattle.rules.specs.Basics.{records, scan, records_from}
 use Rattle.rules.specs.Bundle.{bundle_record_fault, after_bundle_record, bundle_end, bundle_fault}
-use Rattle.rules.proofs.Rows.{scan_stop, scan_next, scan_done}
-use Rattle.bundle_reader.proofs.Laws.{bundle_bad, bundle_full, bundle_sound, bundle_next, listed_is, end_bad, end_sound}
-use borrow.Author.Rules.{rules}
 use Rattle.bundle_reader.proofs.bundle_records.Given as goal
 
 abbrev pub invariant-loop-at : goal.invariant-loop-at
-invariant-loop-at l = (l.at ≤ length l.bundle) × ((l.listed ≤ listed_max) × (scan bundle_record_fault after_bundle_record bundle_end (record { l.last = l.last; listed_count = l.listed }) (records_from l.bundle l.at) ≡ bundle_fault (records l.bundle)))
+invariant-loop-at l = (l.at ≤ length l.bundle) × ((l.listed ≤ listed_max) × (scan bundle_record_fault after_bundle_record bundle_end (record { last = l.last; listed_count = l.listed }) (records_from l.bundle l.at) ≡ bundle_fault (records l.bundle)))
 
 abbrev pub decreases-loop-at : goal.decreases-loop-at
 decreases-loop-at l = length l.bundle - l.at

@@ -1,4 +1,3 @@
-use borrow.Author.Rules.{rules}
 use Rattle.c_answers.proofs.host_outcome.Goals as goal
 
 pub returns : goal.returns

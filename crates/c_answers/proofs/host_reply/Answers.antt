@@ -1,4 +1,3 @@
-use borrow.Author.Rules.{rules}
 use Rattle.c_answers.proofs.host_reply.Goals as goal
 
 pub returns : goal.returns

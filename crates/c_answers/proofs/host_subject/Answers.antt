@@ -1,19 +1,17 @@
-use mathlib.Core.Path.{sym, ◌∙◌, ap}
-use Prim.Native.Nat.{ℕ}
+use Rattle.std.proofs.Common.{ℕ, sym, ◌∙◌, ap}
 use Rattle.subject.specs.declared.Written.{Written}
 use Rattle.subject.specs.Writing.{subject_reply_as}
 use Rattle.c_answers.specs.Surface.{SubjectInNumbers, host_subject_for}
-use borrow.Author.Rules.{rules}
 use Rattle.c_answers.proofs.host_subject.Goals as goal
 
-abbrev wroteAs : Written → SubjectInNumbers
-wroteAs w = host_subject_for (subject_reply_as w)
+abbrev wrote_as : Written → SubjectInNumbers
+wrote_as w = host_subject_for (subject_reply_as w)
 
 abbrev refused : ℕ → SubjectInNumbers
 refused n = record { refusal = n; length = 0 }
 
 pub returns-in-Length : goal.returns-in-Length
-returns-in-Length c = sym (ap wroteAs c.w-1.given.1)
+returns-in-Length c = sym (ap wrote_as c.in-Length.is)
 
 pub returns-in-Refused : goal.returns-in-Refused
-returns-in-Refused c = ap refused c.number.ensures ∙ sym (ap wroteAs c.w-in-Refused-1.given.1)
+returns-in-Refused c = ap refused c.number.ensures ∙ sym (ap wrote_as c.in-Refused.is)

@@ -1,9 +1,7 @@
-use Prim.Native.Nat.{ℕ}
-use mathlib.Core.Path.{sym, ◌∙◌, ap}
+use Rattle.std.proofs.Common.{ℕ, sym, ◌∙◌, ap}
 use Rattle.desk.specs.declared.Verdict.{Verdict}
 use Rattle.desk.specs.Replies.{verdict_as}
 use Rattle.c_answers.specs.Surface.{VerdictInNumbers, host_verdict_for, not_accepted}
-use borrow.Author.Rules.{rules}
 use Rattle.c_answers.proofs.host_verdict.Goals as goal
 
 abbrev judged_for : Verdict → VerdictInNumbers
@@ -13,10 +11,10 @@ abbrev refused : ℕ → VerdictInNumbers
 refused n = not_accepted n 0
 
 pub returns-in-Accepted : goal.returns-in-Accepted
-returns-in-Accepted c = c.acceptance.ensures ∙ sym (ap judged_for c.v-1.given.1)
+returns-in-Accepted c = c.acceptance.ensures ∙ sym (ap judged_for c.in-Accepted.is)
 
 pub returns-in-Failed : goal.returns-in-Failed
-returns-in-Failed c = c.not_accepted.ensures ∙ ap (not_accepted 0) c.step_number.ensures ∙ sym (ap judged_for c.v-in-Failed-1.given.1)
+returns-in-Failed c = c.not_accepted.ensures ∙ ap (not_accepted 0) c.step_number.ensures ∙ sym (ap judged_for c.in-Failed.is)
 
 pub returns-in-Refused : goal.returns-in-Refused
-returns-in-Refused c = c.not_accepted-in-Refused.ensures ∙ ap refused c.number.ensures ∙ sym (ap judged_for c.v-in-Refused-1.given.1)
+returns-in-Refused c = c.not_accepted-in-Refused.ensures ∙ ap refused c.number.ensures ∙ sym (ap judged_for c.in-Refused.is)

@@ -1,6 +1,5 @@
 use mathlib.Core.Path.{◌∙◌, ap}
 use Rattle.c_answers.specs.Surface.{host_cabinet_outcome_for}
-use borrow.Author.Rules.{rules}
 use Rattle.c_cabinet.proofs.akubolinfe_cabinet_expand.Goals as goal
 
 pub returns : goal.returns

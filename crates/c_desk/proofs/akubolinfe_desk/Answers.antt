@@ -1,6 +1,5 @@
 use mathlib.Core.Path.{◌∙◌, ap}
 use Rattle.c_answers.specs.Surface.{host_verdict_for}
-use borrow.Author.Rules.{rules}
 use Rattle.c_desk.proofs.akubolinfe_desk.Goals as goal
 
 pub returns : goal.returns

@@ -1,7 +1,6 @@
 use mathlib.Core.Path.{◌∙◌, ap}
 use Rattle.c_answers.specs.Surface.{host_text_for}
-use borrow.Author.Rules.{rules}
 use Rattle.c_desk.proofs.akubolinfe_read_text.Goals as goal
 
 pub returns : goal.returns
-returns c = let w = c.read in (c.host_text.ensures ∙ ap host_text_for w.ensures.reply, w.ensures.buffer)
+returns c = let w = c.read in record { reply = c.host_text.ensures ∙ ap host_text_for w.ensures.reply; bytes = w.ensures.buffer }

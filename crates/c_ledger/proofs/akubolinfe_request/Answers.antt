@@ -1,6 +1,5 @@
 use mathlib.Core.Path.{◌∙◌, ap}
 use Rattle.c_answers.specs.Surface.{host_outcome_for}
-use borrow.Author.Rules.{rules}
 use Rattle.c_ledger.proofs.akubolinfe_request.Goals as goal
 
 pub returns : goal.returns

@@ -1,6 +1,5 @@
 use mathlib.Core.Path.{◌∙◌, ap}
 use Rattle.c_reasons.specs.Reasons.{host_call_for}
-use borrow.Author.Rules.{rules}
 use Rattle.c_reasons.proofs.akubolinfe_locate_narrow.Goals as goal
 
 pub returns : goal.returns

@@ -1,4 +1,3 @@
-use borrow.Author.Rules.{rules}
 use Rattle.c_run_answers.proofs.run.Goals as goal
 
 pub returns : goal.returns

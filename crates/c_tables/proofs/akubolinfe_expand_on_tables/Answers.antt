@@ -1,5 +1,4 @@
 use Rattle.c_tables.proofs.Tables.{outcome_on}
-use borrow.Author.Rules.{rules}
 use Rattle.c_tables.proofs.akubolinfe_expand_on_tables.Goals as goal
 
 pub returns : goal.returns

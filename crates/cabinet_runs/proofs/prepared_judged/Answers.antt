@@ -11,6 +11,6 @@ pub returns-then-slot-ge-SLOTS : goal.returns-then-slot-ge-SLOTS
 returns-then-slot-ge-SLOTS c = c.no_slot.ensures _ ∙ slot_missing _ _ _ _ c.if-slot-ge-SLOTS.true
 
 pub returns : goal.returns
-returns c =    let a = c.args in
+returns c = let a = c.args in
     slot_there (cabinet_as a.cabinet) a.slot a.answers.now _ _ _ c.if-slot-ge-SLOTS.false (c.put_back.ensures _)
     (c.prepared_judged-o.ensures ∙ ap (λ (m : rules.Ledger). prepared_seen m a.km0.now a.acl.now a.seen (form_as a.form) a.requests.now a.answers.now) c.slot_ledger.ensures)

@@ -1,8 +1,7 @@
-use borrow.Author.Rules.{rules}
 use Rattle.cabinet.proofs.Laws.{ledger_handed}
 use Rattle.cabinet_runs.proofs.with_ledger.Goals as goal
 
 pub returns : goal.returns
-returns c =    let a = c.args in
+returns c = let a = c.args in
     let l = a.l in
-    ledger_handed a.t1.slots a.t1.counters l.counters a.slot (record { counts = l.counts; loaded = l.loaded; last = l.last })
+    ledger_handed a.cabinet.slots a.cabinet.counters l.counters a.slot (record { counts = l.counts; loaded = l.loaded; last = l.last })

@@ -1,8 +1,5 @@
-use Prim.Native.Nat.{◌≤◌, ◌-◌}
-use mathlib.Core.Path.{◌≡◌, refl}
-use lib.ListN.{length}
-use Rattle.rules.specs.Basics.{records, each_fault, records_from}
-use Rattle.rules.specs.Request.{request_record_fault}
+use mathlib.Core.Path.{refl}
+use Rattle.rules.specs.Basics.{records_from}
 use Rattle.rules.proofs.Rows.{each_stop, each_next, each_done}
 use Rattle.day_records.proofs.Laws.{request_bad, request_sound}
 use borrow.Author.Rules.{rules}

@@ -1,4 +1,3 @@
-use borrow.Author.Rules.{rules}
 use Rattle.desk.proofs.acl_steps.Goals as goal
 
 pub returns : goal.returns

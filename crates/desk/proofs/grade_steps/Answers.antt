@@ -1,5 +1,4 @@
 use Rattle.desk.proofs.Laws.{grade_fails, grade_passes}
-use borrow.Author.Rules.{rules}
 use Rattle.desk.proofs.grade_steps.Goals as goal
 
 pub returns-then-protection-policy : goal.returns-then-protection-policy

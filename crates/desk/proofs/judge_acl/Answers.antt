@@ -11,7 +11,7 @@ pub protection_of-requires : goal.protection_of-requires
 protection_of-requires c = let bounds = protection_bounds _ _ _ c.acl_grade-grade.ensures in search rules
 
 pub returns : goal.returns
-returns c =    let b = records c.args.bundle.now in
+returns c = let b = records c.args.bundle.now in
     let gs = acl_of c.args.acl.now in
     let e = c.acl_grade-grade.ensures in
     ap verdict_as c.unless_failed.ensures

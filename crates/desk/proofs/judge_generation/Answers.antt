@@ -2,7 +2,6 @@ use mathlib.Core.Path.{refl, ◌∙◌, ap}
 use Rattle.rules.specs.Desk.{approach1}
 use Rattle.desk.specs.Replies.{verdict_as}
 use Rattle.desk.proofs.Laws.{verdict_of}
-use borrow.Author.Rules.{rules}
 use Rattle.desk.proofs.judge_generation.Goals as goal
 
 pub returns : goal.returns

@@ -1,5 +1,4 @@
 use Rattle.desk.proofs.Laws.{approach_two, approach_one}
-use borrow.Author.Rules.{rules}
 use Rattle.desk.proofs.judge_read.Goals as goal
 
 pub returns-then-policy-eq2 : goal.returns-then-policy-eq2

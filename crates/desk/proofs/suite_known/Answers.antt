@@ -1,11 +1,10 @@
 use mathlib.Core.Path.{sym, ap}
 use Rattle.suites.specs.Calls.{lookup_as}
 use Rattle.desk.proofs.Laws.{suite_unknown, suite_sound}
-use borrow.Author.Rules.{rules}
 use Rattle.desk.proofs.suite_known.Goals as goal
 
 pub returns-in-Refused : goal.returns-in-Refused
-returns-in-Refused c =    suite_unknown _ _ c.policy_of-policy.ensures _ c.suite_of-found.ensures _ (sym (ap lookup_as c.found-1.given.1))
+returns-in-Refused c = suite_unknown _ _ c.policy_of-policy.ensures _ c.suite_of-found.ensures _ (sym (ap lookup_as c.in-Refused.is))
 
 pub returns-in-Known : goal.returns-in-Known
-returns-in-Known c =    suite_sound _ _ c.policy_of-policy.ensures _ c.suite_of-found.ensures _ (sym (ap lookup_as c.enum_told-1.given.1))
+returns-in-Known c = suite_sound _ _ c.policy_of-policy.ensures _ c.suite_of-found.ensures _ (sym (ap lookup_as c.in-Known.is))

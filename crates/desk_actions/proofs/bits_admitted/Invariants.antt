@@ -3,8 +3,6 @@ use mathlib.Core.Path.{◌≡◌}
 use Rattle.rules.specs.Basics.{all_below}
 use Rattle.bundle_facts.specs.Found.{policy_as}
 use Rattle.desk_actions.specs.Classes.{admitted_bit}
-use Rattle.desk_actions.proofs.Laws.{below_none, below_next, left_below, left_room, left_next, left_none}
-use borrow.Author.Rules.{rules}
 use Rattle.desk_actions.proofs.bits_admitted.Given as goal
 
 abbrev pub invariant-loop-left : goal.invariant-loop-left

@@ -1,5 +1,4 @@
 use Rattle.desk_evidence.proofs.Laws.{policy_asks}
-use borrow.Author.Rules.{rules}
 use Rattle.desk_evidence.proofs.csr_linked.Goals as goal
 
 pub returns : goal.returns

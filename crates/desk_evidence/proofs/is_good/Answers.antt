@@ -1,6 +1,5 @@
 use mathlib.Core.Path.{◌∙◌, ap}
 use Rattle.rules.specs.Bundle.{is_good}
-use borrow.Author.Rules.{rules}
 use Rattle.desk_evidence.proofs.is_good.Goals as goal
 
 pub returns : goal.returns

@@ -2,7 +2,6 @@ use mathlib.Core.Path.{◌∙◌, ap}
 use mathlib.Core.Option.{Option}
 use mathlib.Core.Bool.{Bool}
 use Rattle.rules.specs.Basics.{present}
-use borrow.Author.Rules.{rules}
 use Rattle.desk_evidence.proofs.is_signed.Goals as goal
 
 pub returns : goal.returns

@@ -1,7 +1,6 @@
 use Rattle.desk_grading.proofs.Laws.{acl_from_lem}
-use borrow.Author.Rules.{rules}
 use Rattle.desk_grading.proofs.acl_grade.Goals as goal
 
 pub returns : goal.returns
-returns c =    acl_from_lem _ _ _ _ _ _ _ c.field_of-officer.ensures c.requires.0 c.module_key-hkm.ensures
+returns c = acl_from_lem _ _ _ _ _ _ _ c.field_of-officer.ensures c.requires.0 c.module_key-hkm.ensures
     c.recovery_key-hkre.ensures c.groups_grade.ensures

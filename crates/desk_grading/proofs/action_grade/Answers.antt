@@ -1,5 +1,4 @@
 use Rattle.desk_grading.proofs.Laws.{graded_permissions, graded_blob, graded_archive}
-use borrow.Author.Rules.{rules}
 use Rattle.desk_grading.proofs.action_grade.Goals as goal
 
 pub returns-then-kind-eq-OP_PERMISSIONS : goal.returns-then-kind-eq-OP_PERMISSIONS

@@ -1,14 +1,6 @@
-use Prim.Native.Nat.{◌≤◌, ◌-◌}
-use mathlib.Core.Path.{◌≡◌}
-use mathlib.Core.Bool.{false}
-use lib.ListN.{length, get_or}
-use Rattle.rules.specs.Basics.{records}
-use Rattle.rules.specs.Acl.{groups_of}
-use Rattle.bundle_facts.specs.Found.{policy_as}
-use Rattle.desk_evidence.specs.Given.{given}
-use Rattle.acl_groups.specs.Parts.{passed_over}
-use Rattle.desk_grading.specs.Grades.{graded_as, graded_together, groups_graded}
-use Rattle.desk_grading.proofs.Laws.{join_most, first_most, left, left_begun, left_group, left_past, left_action, left_done}
+use mathlib.Core.Path.{ap}
+use mathlib.Core.Bool.{false, not}
+use Rattle.desk_grading.proofs.Laws.{join_most, first_most, left_begun, left_group, left_past, left_action, left_done}
 use borrow.Author.Rules.{rules}
 use Rattle.desk_grading.proofs.groups_grade.Goals as goal
 
@@ -19,7 +11,7 @@ pub loop-at-smaller-then-acl-at-eq-GROUP : goal.loop-at-smaller-then-acl-at-eq-G
 loop-at-smaller-then-acl-at-eq-GROUP c = let q = c.next_part-at-then-acl-at-eq-GROUP.ensures.later in search rules
 
 pub loop-at-preserved-then-acl-at-eq-GROUP : goal.loop-at-preserved-then-acl-at-eq-GROUP
-loop-at-preserved-then-acl-at-eq-GROUP c =    let q = c.next_part-at-then-acl-at-eq-GROUP.ensures in
+loop-at-preserved-then-acl-at-eq-GROUP c = let q = c.next_part-at-then-acl-at-eq-GROUP.ensures in
     let i = c.loop-at.invariant in
     let e = c.joined-found.ensures in
     (q.inside, (join_most _ _ _ e i.1.0, (q.stands, left_group _ _ _ _ _ _ _ _ _ i.1.1.1 _ _ _ c.loop-at-test.true c.if-acl-at-eq-GROUP.true c.names_key-officers.ensures c.no_actions.ensures e _ q)))
@@ -28,18 +20,18 @@ pub loop-at-smaller-then-not-checked : goal.loop-at-smaller-then-not-checked
 loop-at-smaller-then-not-checked c = let q = c.next_part-at-then-not-checked.ensures.later in search rules
 
 pub loop-at-preserved-then-not-checked : goal.loop-at-preserved-then-not-checked
-loop-at-preserved-then-not-checked c =    let q = c.next_part-at-then-not-checked.ensures in
+loop-at-preserved-then-not-checked c = let q = c.next_part-at-then-not-checked.ensures in
     let i = c.loop-at.invariant in
-    (q.inside, (i.1.0, (q.stands, left_past _ _ _ _ _ _ _ _ _ i.1.1.1 c.loop-at-test.true c.if-acl-at-eq-GROUP.false c.if-not-checked.true _ q)))
+    (q.inside, (i.1.0, (q.stands, left_past _ _ _ _ _ _ _ _ _ i.1.1.1 c.loop-at-test.true c.if-acl-at-eq-GROUP.false (ap not c.if-not-checked.true) _ q)))
 
 pub loop-at-smaller : goal.loop-at-smaller
 loop-at-smaller c = let q = c.next_part-at-in-loop-at.ensures.later in search rules
 
 pub loop-at-preserved : goal.loop-at-preserved
-loop-at-preserved c =    let q = c.next_part-at-in-loop-at.ensures in
+loop-at-preserved c = let q = c.next_part-at-in-loop-at.ensures in
     let i = c.loop-at.invariant in
     let e = c.joined-found-in-loop-at.ensures in
-    (q.inside, (join_most _ _ _ e i.1.0, (q.stands, left_action _ _ _ _ _ _ _ _ _ i.1.1.1 _ _ c.loop-at-test.true c.if-acl-at-eq-GROUP.false c.if-not-checked.false i.1.1.0 c.action_grade.ensures e _ q)))
+    (q.inside, (join_most _ _ _ e i.1.0, (q.stands, left_action _ _ _ _ _ _ _ _ _ i.1.1.1 _ _ c.loop-at-test.true c.if-acl-at-eq-GROUP.false (ap not c.if-not-checked.false) i.1.1.0 c.action_grade.ensures e _ q)))
 
 pub returns : goal.returns
 returns c = search (rules, left_done)

@@ -8,8 +8,7 @@ use Rattle.bundle_facts.specs.Found.{policy_as}
 use Rattle.desk_evidence.specs.Given.{given}
 use Rattle.acl_groups.specs.Parts.{passed_over}
 use Rattle.desk_grading.specs.Grades.{graded_as, graded_together, groups_graded}
-use Rattle.desk_grading.proofs.Laws.{join_most, first_most, left, left_begun, left_group, left_past, left_action, left_done}
-use borrow.Author.Rules.{rules}
+use Rattle.desk_grading.proofs.Laws.{left}
 use Rattle.desk_grading.proofs.groups_grade.Given as goal
 
 abbrev pub invariant-loop-at : goal.invariant-loop-at

@@ -1,5 +1,4 @@
 use Rattle.desk_grading.specs.Grades.{graded_together}
-use borrow.Author.Rules.{rules}
 use Rattle.desk_grading.proofs.joined.Goals as goal
 
 pub returns : goal.returns

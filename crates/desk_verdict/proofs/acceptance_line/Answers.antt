@@ -1,7 +1,6 @@
 use Rattle.rules.specs.Basics.{ascii}
 use Rattle.text_bytes.proofs.Laws.{put_on, put_as}
 use Rattle.desk_verdict.proofs.Laws.{acceptance_short, acceptance_long}
-use borrow.Author.Rules.{rules}
 use Rattle.desk_verdict.proofs.acceptance_line.Goals as goal
 
 pub returns-then-a-ne2 : goal.returns-then-a-ne2

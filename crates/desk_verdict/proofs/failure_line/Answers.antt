@@ -1,7 +1,6 @@
 use Rattle.rules.specs.Basics.{ascii}
 use Rattle.text_bytes.proofs.Laws.{put_on, put_as}
 use Rattle.desk_verdict.proofs.Laws.{failure_text}
-use borrow.Author.Rules.{rules}
 use Rattle.desk_verdict.proofs.failure_line.Goals as goal
 
 pub returns : goal.returns

@@ -6,8 +6,6 @@ use Rattle.rules.specs.Acl.{actions_of}
 use Rattle.rules.specs.Request.{blobfile_next, wanted_of}
 use Rattle.rules.specs.Grant.{admits}
 use Rattle.acl_groups.specs.Parts.{actions_from}
-use Rattle.gate_admission.proofs.Laws.{acts_first, acts_found, acts_next, acts_none}
-use borrow.Author.Rules.{rules}
 use Rattle.gate_admission.proofs.admits_some_blob.Given as goal
 
 abbrev pub invariant-loop-at : goal.invariant-loop-at

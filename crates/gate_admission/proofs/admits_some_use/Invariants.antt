@@ -1,11 +1,9 @@
 use Prim.Native.Nat.{◌≤◌, ◌-◌}
-use mathlib.Core.Path.{◌≡◌, refl}
+use mathlib.Core.Path.{◌≡◌}
 use lib.ListN.{length}
 use Rattle.rules.specs.Basics.{any, records, records_from}
 use Rattle.rules.specs.Acl.{actions_of}
 use Rattle.rules.specs.Grant.{admits_use}
-use Rattle.gate_admission.proofs.Laws.{uses_found, uses_next, acts_stop, acts_none}
-use borrow.Author.Rules.{rules}
 use Rattle.gate_admission.proofs.admits_some_use.Given as goal
 
 abbrev pub invariant-loop-at : goal.invariant-loop-at

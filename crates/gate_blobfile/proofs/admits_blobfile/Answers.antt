@@ -1,5 +1,4 @@
 use mathlib.Core.Path.{◌∙◌}
-use borrow.Author.Rules.{rules}
 use Rattle.gate_blobfile.proofs.admits_blobfile.Goals as goal
 
 pub admits_file-requires : goal.admits_file-requires

@@ -1,5 +1,4 @@
 use mathlib.Core.Path.{◌∙◌}
-use borrow.Author.Rules.{rules}
 use Rattle.gate_blobfile.proofs.blobfile_no_wider.Goals as goal
 
 pub rule_no_wider-requires : goal.rule_no_wider-requires

@@ -1,7 +1,4 @@
-use Prim.Native.Nat.{◌≤◌, ◌-◌, ◌%◌}
-use mathlib.Core.Path.{◌≡◌}
-use lib.ListN.{length}
-use Rattle.gate_certification.proofs.Links.{LinksTo, links_none, links_next, links_done, links_sized}
+use Rattle.gate_certification.proofs.Links.{links_none, links_next, links_done, links_sized}
 use borrow.Author.Rules.{rules}
 use Rattle.gate_certification.proofs.fill_links.Goals as goal
 

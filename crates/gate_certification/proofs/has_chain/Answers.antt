@@ -1,9 +1,3 @@
-use Prim.Native.Nat.{◌≤◌, ◌-◌}
-use mathlib.Core.Path.{◌≡◌}
-use Rattle.rules.specs.Sizes.{chain_max}
-use Rattle.rules.specs.Basics.{records}
-use Rattle.rules.specs.Request.{delegations_of}
-use Rattle.gate_certification.specs.Levels.{level}
 use Rattle.gate_certification.proofs.Levels.{chained_none, level_first, level_next, chained_last}
 use borrow.Author.Rules.{rules}
 use Rattle.gate_certification.proofs.has_chain.Goals as goal

@@ -4,8 +4,6 @@ use Rattle.rules.specs.Sizes.{chain_max}
 use Rattle.rules.specs.Basics.{records}
 use Rattle.rules.specs.Request.{delegations_of}
 use Rattle.gate_certification.specs.Levels.{level}
-use Rattle.gate_certification.proofs.Levels.{chained_none, level_first, level_next, chained_last}
-use borrow.Author.Rules.{rules}
 use Rattle.gate_certification.proofs.has_chain.Given as goal
 
 abbrev pub invariant-loop-links : goal.invariant-loop-links

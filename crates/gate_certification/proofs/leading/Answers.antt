@@ -1,10 +1,4 @@
-use Prim.Native.Nat.{◌≤◌, ◌%◌}
 use native.Mathlib.Omega.{arith}
-use mathlib.Core.Path.{◌≡◌}
-use lib.ListN.{length}
-use Rattle.rules.specs.Basics.{set_of, records_from}
-use Rattle.rules.specs.Request.{delegations_of}
-use Rattle.gate_certification.specs.Levels.{leads_to}
 use Rattle.gate_certification.proofs.Sets.{set_start, set_skip, set_more, set_whole, set_doubled}
 use Rattle.gate_certification.proofs.Links.{leads_small}
 use borrow.Author.Rules.{rules}
@@ -17,12 +11,12 @@ pub loop-at-preserved-then-dels-at-ne14 : goal.loop-at-preserved-then-dels-at-ne
 loop-at-preserved-then-dels-at-ne14 c = (search rules, (search rules, (search rules, search (rules, set_skip))))
 
 pub overflow_mul-set : goal.overflow_mul-set
-overflow_mul-set c =    let v = c.loop-at.invariant in
+overflow_mul-set c = let v = c.loop-at.invariant in
     let b = set_doubled _ _ _ _ v.1.1.1 v.0 in
     omega (arith, b)
 
 pub overflow_add-set : goal.overflow_add-set
-overflow_add-set c =    let v = c.loop-at.invariant in
+overflow_add-set c = let v = c.loop-at.invariant in
     let b = set_doubled _ _ _ _ v.1.1.1 v.0 in
     let m = leads_small _ _ _ c.leads_bit.ensures in
     omega (arith, b, m)

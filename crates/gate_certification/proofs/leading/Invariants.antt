@@ -1,13 +1,9 @@
 use Prim.Native.Nat.{◌≤◌, ◌%◌}
-use native.Mathlib.Omega.{arith}
 use mathlib.Core.Path.{◌≡◌}
 use lib.ListN.{length}
 use Rattle.rules.specs.Basics.{set_of, records_from}
 use Rattle.rules.specs.Request.{delegations_of}
 use Rattle.gate_certification.specs.Levels.{leads_to}
-use Rattle.gate_certification.proofs.Sets.{set_start, set_skip, set_more, set_whole, set_doubled}
-use Rattle.gate_certification.proofs.Links.{leads_small}
-use borrow.Author.Rules.{rules}
 use Rattle.gate_certification.proofs.leading.Given as goal
 
 abbrev pub invariant-loop-at : goal.invariant-loop-at

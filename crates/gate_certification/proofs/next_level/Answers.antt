@@ -1,10 +1,5 @@
-use Prim.Native.Nat.{◌≤◌, ◌%◌}
 use native.Mathlib.Omega.{arith}
-use mathlib.Core.Path.{◌≡◌}
-use lib.ListN.{length}
-use Rattle.rules.specs.Basics.{set_of, records, records_from}
-use Rattle.rules.specs.Request.{delegations_of}
-use Rattle.gate_certification.specs.Levels.{continues, next_level}
+use Rattle.gate_certification.specs.Levels.{next_level}
 use Rattle.gate_certification.proofs.Sets.{set_start, set_skip, set_whole, set_doubled}
 use Rattle.gate_certification.proofs.Links.{level_more, mark_small}
 use borrow.Author.Rules.{rules}
@@ -17,12 +12,12 @@ pub loop-at-preserved-then-dels-at-ne14 : goal.loop-at-preserved-then-dels-at-ne
 loop-at-preserved-then-dels-at-ne14 c = (search rules, (search rules, (search rules, search (rules, set_skip))))
 
 pub overflow_mul-next : goal.overflow_mul-next
-overflow_mul-next c =    let v = c.loop-at.invariant in
+overflow_mul-next c = let v = c.loop-at.invariant in
     let b = set_doubled _ _ _ _ v.1.1.1 v.0 in
     omega (arith, b)
 
 pub overflow_add-next : goal.overflow_add-next
-overflow_add-next c =    let v = c.loop-at.invariant in
+overflow_add-next c = let v = c.loop-at.invariant in
     let b = set_doubled _ _ _ _ v.1.1.1 v.0 in
     let m = mark_small _ _ _ _ _ _ c.mark.ensures in
     omega (arith, b, m)

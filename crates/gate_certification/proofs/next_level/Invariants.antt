@@ -1,13 +1,9 @@
 use Prim.Native.Nat.{◌≤◌, ◌%◌}
-use native.Mathlib.Omega.{arith}
 use mathlib.Core.Path.{◌≡◌}
 use lib.ListN.{length}
 use Rattle.rules.specs.Basics.{set_of, records, records_from}
 use Rattle.rules.specs.Request.{delegations_of}
-use Rattle.gate_certification.specs.Levels.{continues, next_level}
-use Rattle.gate_certification.proofs.Sets.{set_start, set_skip, set_whole, set_doubled}
-use Rattle.gate_certification.proofs.Links.{level_more, mark_small}
-use borrow.Author.Rules.{rules}
+use Rattle.gate_certification.specs.Levels.{continues}
 use Rattle.gate_certification.proofs.next_level.Given as goal
 
 abbrev pub invariant-loop-at : goal.invariant-loop-at

@@ -1,9 +1,4 @@
-use Prim.Native.Nat.{◌≤◌, ◌-◌, ◌%◌}
-use mathlib.Core.Path.{◌≡◌}
-use lib.ListN.{length}
-use Rattle.rules.specs.Basics.{any, number, flag, optional, records, records_from}
-use Rattle.rules.specs.Request.{certificates_of, delegations_of}
-use Rattle.gate_certification.specs.Levels.{any_in, leads_to_presented, ends_at}
+use Rattle.rules.specs.Basics.{records_from}
 use Rattle.gate_certification.proofs.Laws.{certs_skip, certs_found, certs_next, certs_none}
 use Rattle.gate_certification.proofs.Links.{ends_are, end_at}
 use borrow.Author.Rules.{rules}

@@ -4,9 +4,6 @@ use lib.ListN.{length}
 use Rattle.rules.specs.Basics.{any, number, flag, optional, records, records_from}
 use Rattle.rules.specs.Request.{certificates_of, delegations_of}
 use Rattle.gate_certification.specs.Levels.{any_in, leads_to_presented, ends_at}
-use Rattle.gate_certification.proofs.Laws.{certs_skip, certs_found, certs_next, certs_none}
-use Rattle.gate_certification.proofs.Links.{ends_are, end_at}
-use borrow.Author.Rules.{rules}
 use Rattle.gate_certification.proofs.one_leads_to_presented.Given as goal
 
 abbrev pub invariant-loop-at : goal.invariant-loop-at

@@ -1,11 +1,9 @@
 use Prim.Native.Nat.{◌≤◌, ◌-◌}
-use mathlib.Core.Path.{◌≡◌, refl}
+use mathlib.Core.Path.{◌≡◌}
 use lib.ListN.{length}
 use Rattle.rules.specs.Basics.{records_from, any, number, flag, optional, records}
 use Rattle.rules.specs.Request.{certificates_of}
 use Rattle.rules.specs.Chain.{serves}
-use Rattle.gate_certification.proofs.Laws.{certs_skip, certs_found, certs_next, certs_none}
-use borrow.Author.Rules.{rules}
 use Rattle.gate_certification.proofs.some_serves.Given as goal
 
 abbrev pub invariant-loop-at : goal.invariant-loop-at

@@ -1,8 +1,4 @@
-use Prim.Native.Nat.{◌≤◌, ◌-◌}
-use mathlib.Core.Path.{◌≡◌}
-use lib.ListN.{length}
-use Rattle.rules.specs.Sizes.{counters_max}
-use Rattle.gate_charge.proofs.Laws.{raised_length, Raising, raising_start, raising_stop, raising_done, raising_room, raising_next}
+use Rattle.gate_charge.proofs.Laws.{raised_length, raising_start, raising_stop, raising_done, raising_room, raising_next}
 use borrow.Author.Rules.{rules}
 use Rattle.gate_charge.proofs.raise_named.Goals as goal
 

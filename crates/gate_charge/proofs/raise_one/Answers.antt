@@ -9,7 +9,7 @@ pub returns-then-i-ge-COUNTERS : goal.returns-then-i-ge-COUNTERS
 returns-then-i-ge-COUNTERS c = search (rules, raise_past)
 
 pub overflow_add-table : goal.overflow_add-table
-overflow_add-table c =    let h = room_left c.args.table.now _ _ c.requires.1 c.if-sort-ne2.false in
+overflow_add-table c = let h = room_left c.args.table.now _ _ c.requires.1 c.if-sort-ne2.false in
     search rules
 
 pub returns : goal.returns

@@ -1,7 +1,6 @@
 use mathlib.Core.Path.{ap}
 use Prim.Native.Nat.{ℕ}
 use Rattle.rules.specs.Grant.{counter_left}
-use borrow.Author.Rules.{rules}
 use Rattle.gate_decision.proofs.counter_left.Goals as goal
 
 pub returns : goal.returns

@@ -2,7 +2,6 @@ use mathlib.Core.Path.{ap}
 use mathlib.Core.Bool.{Bool, ◌&&◌}
 use lib.Dec.{ltb}
 use Rattle.rules.specs.Sizes.{full_count}
-use borrow.Author.Rules.{rules}
 use Rattle.gate_decision.proofs.is_unspent.Goals as goal
 
 pub returns : goal.returns

@@ -1,6 +1,5 @@
 use Prim.Native.Nat.{◌≤◌, ◌-◌}
-use native.Mathlib.Omega.{arith}
-use mathlib.Core.Path.{◌≡◌, ap}
+use mathlib.Core.Path.{◌≡◌}
 use lib.ListN.{length, get_or}
 use Rattle.rules.specs.Acl.{groups_of, acl_of}
 use Rattle.rules.specs.Request.{request_of}
@@ -8,8 +7,6 @@ use Rattle.rules.specs.Basics.{records_from}
 use Rattle.rules.proofs.Rows.{lent_record}
 use Rattle.gate_decision.specs.declared.Nearest.TheVariants.{Nothing}
 use Rattle.gate_decision.specs.Standings.{judged_from, group_result, Remembered}
-use Rattle.gate_decision.proofs.Laws.{groups_grant, groups_next, groups_done, standing_at, told_none, told_next, seen_before}
-use borrow.Author.Rules.{rules}
 use Rattle.gate_decision.proofs.judge_groups.Given as goal
 
 abbrev pub invariant-loop-at : goal.invariant-loop-at

@@ -1,8 +1,6 @@
-use Prim.Native.Nat.{◌≤◌, ◌-◌}
-use mathlib.Core.Path.{◌≡◌, refl}
-use lib.ListN.{length}
-use Rattle.rules.specs.Basics.{records_from, all, records}
-use Rattle.rules.specs.Acl.{limits_of}
+use mathlib.Core.Bool.{not}
+use mathlib.Core.Path.{refl, ap}
+use Rattle.rules.specs.Basics.{records_from}
 use Rattle.rules.specs.Grant.{limit_left}
 use Rattle.acl_groups.proofs.Laws.{all_stop, all_failed, all_next, all_done}
 use borrow.Author.Rules.{rules}
@@ -19,7 +17,7 @@ pub returns-then-not-limit_left : goal.returns-then-not-limit_left
 returns-then-not-limit_left c = search (rules, all_failed)
 
 pub loop-at-preserved : goal.loop-at-preserved
-loop-at-preserved c =    (search rules, all_next _ _ _ _ c.loop-at.invariant.1 _ c.loop-at-test.true c.if-body-at-ne2.false c.limit_left.ensures c.if-not-limit_left.false)
+loop-at-preserved c = (search rules, all_next _ _ _ _ c.loop-at.invariant.1 _ c.loop-at-test.true c.if-body-at-ne2.false c.limit_left.ensures (ap not c.if-not-limit_left.false))
 
 pub returns : goal.returns
 returns c = search (rules, all_done)

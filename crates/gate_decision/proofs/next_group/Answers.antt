@@ -1,8 +1,5 @@
-use Prim.Native.Nat.{◌≤◌, ◌-◌}
-use mathlib.Core.Path.{◌≡◌, refl}
-use lib.ListN.{length, drop}
-use Rattle.rules.specs.Basics.{records, records_from}
-use Rattle.rules.specs.Acl.{groups_of}
+use mathlib.Core.Path.{refl}
+use Rattle.rules.specs.Basics.{records_from}
 use Rattle.gate_decision.proofs.Laws.{group_here, group_skip, group_none}
 use borrow.Author.Rules.{rules}
 use Rattle.gate_decision.proofs.next_group.Goals as goal

@@ -1,10 +1,8 @@
 use Prim.Native.Nat.{◌≤◌, ◌-◌}
-use mathlib.Core.Path.{◌≡◌, refl}
+use mathlib.Core.Path.{◌≡◌}
 use lib.ListN.{length, drop}
 use Rattle.rules.specs.Basics.{records, records_from}
 use Rattle.rules.specs.Acl.{groups_of}
-use Rattle.gate_decision.proofs.Laws.{group_here, group_skip, group_none}
-use borrow.Author.Rules.{rules}
 use Rattle.gate_decision.proofs.next_group.Given as goal
 
 abbrev pub invariant-loop-i : goal.invariant-loop-i

@@ -1,6 +1,4 @@
-use Prim.Native.Nat.{◌≤◌, ◌-◌}
-use lib.ListN.{length}
-use Rattle.gate_narrowing.proofs.Laws.{resumed_below, resumed_inside, Sought, sought_from, sought_more, sought_found, sought_none}
+use Rattle.gate_narrowing.proofs.Laws.{resumed_below, resumed_inside, sought_from, sought_more, sought_found, sought_none}
 use borrow.Author.Rules.{rules}
 use Rattle.gate_narrowing.proofs.action_at.Goals as goal
 

@@ -1,8 +1,6 @@
 use Prim.Native.Nat.{◌≤◌, ◌-◌}
-use borrow.Author.Tests.{not-false}
 use lib.ListN.{length}
-use Rattle.gate_narrowing.proofs.Laws.{Comparing, compare_first, hints_short, action_wider, action_kept, hints_over}
-use borrow.Author.Rules.{rules}
+use Rattle.gate_narrowing.proofs.Laws.{Comparing}
 use Rattle.gate_narrowing.proofs.actions_no_wider.Given as goal
 
 abbrev pub invariant-loop-at : goal.invariant-loop-at

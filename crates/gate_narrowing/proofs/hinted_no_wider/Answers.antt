@@ -1,5 +1,4 @@
 use Rattle.gate_narrowing.proofs.Laws.{hint_nothing, hint_compared}
-use borrow.Author.Rules.{rules}
 use Rattle.gate_narrowing.proofs.hinted_no_wider.Goals as goal
 
 pub returns-then-old-place-lt-RECORD : goal.returns-then-old-place-lt-RECORD

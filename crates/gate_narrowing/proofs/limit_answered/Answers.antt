@@ -1,9 +1,6 @@
-use Prim.Native.Nat.{◌≤◌, ◌-◌}
-use mathlib.Core.Path.{◌≡◌, refl}
-use lib.ListN.{length}
-use Rattle.rules.specs.Basics.{records_from, any, records}
-use Rattle.rules.specs.Acl.{limit_of, limits_of}
-use Rattle.rules.specs.Narrow.{answers, is_answered}
+use mathlib.Core.Path.{refl}
+use Rattle.rules.specs.Basics.{records_from}
+use Rattle.rules.specs.Narrow.{is_answered}
 use Rattle.gate_narrowing.proofs.Laws.{any_stop, any_found, any_next, any_done}
 use borrow.Author.Rules.{rules}
 use Rattle.gate_narrowing.proofs.limit_answered.Goals as goal
@@ -19,7 +16,7 @@ pub returns-then-limit_answers : goal.returns-then-limit_answers
 returns-then-limit_answers c = search (rules, any_found)
 
 pub loop-at-preserved : goal.loop-at-preserved
-loop-at-preserved c =    (search rules, any_next _ _ _ _ c.loop-at.invariant.1 _ c.loop-at-test.true c.if-new-at-ne-LIMIT.false c.limit_answers.ensures c.if-limit_answers.false)
+loop-at-preserved c = (search rules, any_next _ _ _ _ c.loop-at.invariant.1 _ c.loop-at-test.true c.if-new-at-ne-LIMIT.false c.limit_answers.ensures c.if-limit_answers.false)
 
 pub returns : goal.returns
 returns c = search (rules, any_done)

@@ -1,11 +1,9 @@
 use Prim.Native.Nat.{◌≤◌, ◌-◌}
-use mathlib.Core.Path.{◌≡◌, refl}
+use mathlib.Core.Path.{◌≡◌}
 use lib.ListN.{length}
 use Rattle.rules.specs.Basics.{records_from, any, records}
 use Rattle.rules.specs.Acl.{limit_of, limits_of}
 use Rattle.rules.specs.Narrow.{answers, is_answered}
-use Rattle.gate_narrowing.proofs.Laws.{any_stop, any_found, any_next, any_done}
-use borrow.Author.Rules.{rules}
 use Rattle.gate_narrowing.proofs.limit_answered.Given as goal
 
 abbrev pub invariant-loop-at : goal.invariant-loop-at

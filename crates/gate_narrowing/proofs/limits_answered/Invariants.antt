@@ -1,11 +1,9 @@
 use Prim.Native.Nat.{◌≤◌, ◌-◌}
-use mathlib.Core.Path.{◌≡◌, refl}
+use mathlib.Core.Path.{◌≡◌}
 use lib.ListN.{length}
 use Rattle.rules.specs.Basics.{records_from, all, records}
 use Rattle.rules.specs.Acl.{limits_of}
 use Rattle.rules.specs.Narrow.{is_answered}
-use Rattle.acl_groups.proofs.Laws.{all_stop, all_failed, all_next, all_done}
-use borrow.Author.Rules.{rules}
 use Rattle.gate_narrowing.proofs.limits_answered.Given as goal
 
 abbrev pub invariant-loop-at : goal.invariant-loop-at

@@ -1,14 +1,11 @@
 use Prim.Native.Nat.{◌≤◌, ◌-◌}
-use mathlib.Core.Path.{◌≡◌, ap}
+use mathlib.Core.Path.{◌≡◌}
 use lib.ListN.{length, get_or, drop}
 use Rattle.rules.specs.Acl.{groups_of, acl_of}
 use Rattle.rules.specs.Request.{hints_of}
 use Rattle.rules.specs.Narrow.{narrows_from, narrows}
-use Rattle.rules.proofs.Rows.{rows_start}
 use Rattle.rules.specs.Basics.{records_from}
-use Rattle.acl_groups.proofs.Laws.{begins}
-use Rattle.gate_narrowing.proofs.Sources.{hints_from, hints_start, group_later, groups_on, hint_lacking, source_falls, source_found, source_wider, source_kept, left_next, hints_spent}
-use borrow.Author.Rules.{rules}
+use Rattle.gate_narrowing.proofs.Sources.{hints_from}
 use Rattle.gate_narrowing.proofs.shows_narrowing.Given as goal
 
 abbrev pub invariant-loop-at : goal.invariant-loop-at

@@ -1,5 +1,4 @@
 use Rattle.gate_narrowing.proofs.Sources.{source_missing, source_there}
-use borrow.Author.Rules.{rules}
 use Rattle.gate_narrowing.proofs.source_narrows.Goals as goal
 
 pub returns-then-rest-lt-RECORD : goal.returns-then-rest-lt-RECORD

@@ -1,4 +1,3 @@
-use borrow.Author.Rules.{rules}
 use Rattle.gate_restrictions.proofs.archive_no_wider.Goals as goal
 
 pub returns : goal.returns

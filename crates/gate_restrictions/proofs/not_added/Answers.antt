@@ -1,5 +1,4 @@
 use Rattle.gate_restrictions.proofs.Laws.{allowed_is}
-use borrow.Author.Rules.{rules}
 use Rattle.gate_restrictions.proofs.not_added.Goals as goal
 
 pub returns : goal.returns

@@ -1,5 +1,4 @@
 use Rattle.reason_actions.proofs.Laws.{fault_graded, fault_step}
-use borrow.Author.Rules.{rules}
 use Rattle.reason_actions.proofs.at_fault.Goals as goal
 
 pub returns-then-graded : goal.returns-then-graded

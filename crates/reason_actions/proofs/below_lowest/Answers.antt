@@ -1,5 +1,4 @@
 use Rattle.reason_actions.proofs.Laws.{below_other, below_blob}
-use borrow.Author.Rules.{rules}
 use Rattle.reason_actions.proofs.below_lowest.Goals as goal
 
 pub returns-then-rec-ne4 : goal.returns-then-rec-ne4

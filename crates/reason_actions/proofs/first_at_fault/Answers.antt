@@ -1,14 +1,7 @@
-use Prim.Native.Nat.{◌≤◌, ◌-◌}
-use mathlib.Core.Path.{◌≡◌}
-use mathlib.Core.Bool.{false}
-use lib.ListN.{length, get_or}
-use Rattle.rules.specs.Basics.{records}
-use Rattle.rules.specs.Acl.{groups_of}
-use Rattle.bundle_facts.specs.Found.{policy_as}
-use Rattle.desk_evidence.specs.Given.{given}
-use Rattle.acl_groups.specs.Parts.{passed_over}
-use Rattle.reason_actions.specs.Spots.{at_fault, skipped, in_groups}
-use Rattle.reason_actions.proofs.Laws.{left, left_begun, left_group, left_past, left_next, left_found, left_done}
+use mathlib.Core.Path.{ap}
+use mathlib.Core.Bool.{false, not}
+use Rattle.reason_actions.specs.Spots.{at_fault}
+use Rattle.reason_actions.proofs.Laws.{left_begun, left_group, left_past, left_next, left_found, left_done}
 use borrow.Author.Rules.{rules}
 use Rattle.reason_actions.proofs.first_at_fault.Goals as goal
 
@@ -19,7 +12,7 @@ pub loop-at-smaller-then-acl-at-eq1 : goal.loop-at-smaller-then-acl-at-eq1
 loop-at-smaller-then-acl-at-eq1 c = let q = c.next_part-at-then-acl-at-eq1.ensures.later in search rules
 
 pub loop-at-preserved-then-acl-at-eq1 : goal.loop-at-preserved-then-acl-at-eq1
-loop-at-preserved-then-acl-at-eq1 c =    let q = c.next_part-at-then-acl-at-eq1.ensures in
+loop-at-preserved-then-acl-at-eq1 c = let q = c.next_part-at-then-acl-at-eq1.ensures in
     let later = q.later in
     let i = c.loop-at.invariant in
     (q.inside, (search rules, (search rules, (q.stands, left_group _ _ _ _ _ _ _ _ _ i.1.1.1.1 _ c.loop-at-test.true c.if-acl-at-eq1.true c.names_key-checked.ensures _ q))))
@@ -28,23 +21,23 @@ pub loop-at-smaller-then-not-checked : goal.loop-at-smaller-then-not-checked
 loop-at-smaller-then-not-checked c = let q = c.next_part-at-then-not-checked.ensures.later in search rules
 
 pub loop-at-preserved-then-not-checked : goal.loop-at-preserved-then-not-checked
-loop-at-preserved-then-not-checked c =    let q = c.next_part-at-then-not-checked.ensures in
+loop-at-preserved-then-not-checked c = let q = c.next_part-at-then-not-checked.ensures in
     let later = q.later in
     let i = c.loop-at.invariant in
-    (q.inside, (search rules, (search rules, (q.stands, left_past _ _ _ _ _ _ _ _ _ i.1.1.1.1 c.loop-at-test.true c.if-acl-at-eq1.false c.if-not-checked.true _ q))))
+    (q.inside, (search rules, (search rules, (q.stands, left_past _ _ _ _ _ _ _ _ _ i.1.1.1.1 c.loop-at-test.true c.if-acl-at-eq1.false (ap not c.if-not-checked.true) _ q))))
 
 pub returns-then-at_fault : goal.returns-then-at_fault
-returns-then-at_fault c =    let i = c.loop-at.invariant in
-    left_found _ _ _ _ _ _ _ _ _ i.1.1.1.1 c.loop-at-test.true c.if-acl-at-eq1.false c.if-not-checked.false i.1.1.1.0 _ c.at_fault.ensures c.if-at_fault.true _ _ c.permission_of.ensures
+returns-then-at_fault c = let i = c.loop-at.invariant in
+    left_found _ _ _ _ _ _ _ _ _ i.1.1.1.1 c.loop-at-test.true c.if-acl-at-eq1.false (ap not c.if-not-checked.false) i.1.1.1.0 _ c.at_fault.ensures c.if-at_fault.true _ _ c.permission_of.ensures
 
 pub loop-at-smaller : goal.loop-at-smaller
 loop-at-smaller c = let q = c.next_part-at-in-loop-at.ensures.later in search rules
 
 pub loop-at-preserved : goal.loop-at-preserved
-loop-at-preserved c =    let q = c.next_part-at-in-loop-at.ensures in
+loop-at-preserved c = let q = c.next_part-at-in-loop-at.ensures in
     let later = q.later in
     let i = c.loop-at.invariant in
-    (q.inside, (search rules, (search rules, (q.stands, left_next _ _ _ _ _ _ _ _ _ i.1.1.1.1 c.loop-at-test.true c.if-acl-at-eq1.false c.if-not-checked.false i.1.1.1.0 _ c.at_fault.ensures c.if-at_fault.false _ q))))
+    (q.inside, (search rules, (search rules, (q.stands, left_next _ _ _ _ _ _ _ _ _ i.1.1.1.1 c.loop-at-test.true c.if-acl-at-eq1.false (ap not c.if-not-checked.false) i.1.1.1.0 _ c.at_fault.ensures c.if-at_fault.false _ q))))
 
 pub returns : goal.returns
-returns c =    left_done _ _ _ _ _ _ _ _ _ c.loop-at.invariant.1.1.1.1 c.loop-at-test.false _ _ c.nowhere.ensures
+returns c = left_done _ _ _ _ _ _ _ _ _ c.loop-at.invariant.1.1.1.1 c.loop-at-test.false _ _ c.nowhere.ensures

@@ -8,8 +8,7 @@ use Rattle.bundle_facts.specs.Found.{policy_as}
 use Rattle.desk_evidence.specs.Given.{given}
 use Rattle.acl_groups.specs.Parts.{passed_over}
 use Rattle.reason_actions.specs.Spots.{at_fault, skipped, in_groups}
-use Rattle.reason_actions.proofs.Laws.{left, left_begun, left_group, left_past, left_next, left_found, left_done}
-use borrow.Author.Rules.{rules}
+use Rattle.reason_actions.proofs.Laws.{left}
 use Rattle.reason_actions.proofs.first_at_fault.Given as goal
 
 abbrev pub invariant-loop-at : goal.invariant-loop-at

@@ -1,7 +1,4 @@
-use Prim.Native.Nat.{◌+◌}
-use mathlib.Core.Path.{◌≡◌, refl}
-use Rattle.bundle_facts.specs.Found.{policy_as}
-use Rattle.reason_actions.specs.Spots.{unadmitted_from}
+use mathlib.Core.Path.{refl}
 use Rattle.reason_actions.proofs.Laws.{unadmitted_here, unadmitted_later, unadmitted_none}
 use borrow.Author.Rules.{rules}
 use Rattle.reason_actions.proofs.lowest_unadmitted.Goals as goal

@@ -1,9 +1,7 @@
 use Prim.Native.Nat.{◌+◌}
-use mathlib.Core.Path.{◌≡◌, refl}
+use mathlib.Core.Path.{◌≡◌}
 use Rattle.bundle_facts.specs.Found.{policy_as}
 use Rattle.reason_actions.specs.Spots.{unadmitted_from}
-use Rattle.reason_actions.proofs.Laws.{unadmitted_here, unadmitted_later, unadmitted_none}
-use borrow.Author.Rules.{rules}
 use Rattle.reason_actions.proofs.lowest_unadmitted.Given as goal
 
 abbrev pub invariant-loop-left : goal.invariant-loop-left

@@ -1,5 +1,4 @@
 use Rattle.reason_calls.proofs.Laws.{request_bad, request_ready, request_judged}
-use borrow.Author.Rules.{rules}
 use Rattle.reason_calls.proofs.locate_request.Goals as goal
 
 pub returns-then-is_fault : goal.returns-then-is_fault
@@ -9,5 +8,5 @@ pub locate_judged-requires : goal.locate_judged-requires
 locate_judged-requires c = let a = c.args in request_ready a.km0.now a.acl.now a.req.now _ _ c.request_inputs-bad.ensures c.is_fault.ensures c.if-is_fault.false
 
 pub returns : goal.returns
-returns c =    let a = c.args in
+returns c = let a = c.args in
     request_judged a.km0.now a.acl.now a.req.now _ _ c.request_inputs-bad.ensures c.is_fault.ensures _ _ c.if-is_fault.false c.locate_judged.ensures

@@ -1,8 +1,3 @@
-use Prim.Native.Nat.{◌≤◌, ◌-◌}
-use mathlib.Core.Path.{◌≡◌}
-use lib.ListN.{length}
-use Rattle.rules.specs.Basics.{records, records_from}
-use Rattle.reason_desk.specs.VerdictPlaces.{policy_index}
 use Rattle.reason_desk.proofs.Laws.{policy_start, policy_here, policy_later, policy_none}
 use borrow.Author.Rules.{rules}
 use Rattle.reason_desk.proofs.policy_index.Goals as goal

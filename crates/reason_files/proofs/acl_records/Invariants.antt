@@ -7,8 +7,6 @@ use Rattle.rules.specs.Acl.{acl_start}
 use Rattle.acl_reader.specs.Places.{acl_state_as}
 use Rattle.text_rules.specs.Kinds.{acl_kind}
 use Rattle.reason_files.specs.Places.{records_place}
-use Rattle.reason_files.proofs.Laws.{acl_start_lem, acl_stop, acl_next, acl_due, acl_sound_lem}
-use borrow.Author.Rules.{rules}
 use Rattle.reason_files.proofs.acl_records.Given as goal
 
 abbrev pub invariant-loop-at : goal.invariant-loop-at

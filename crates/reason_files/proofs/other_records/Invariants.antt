@@ -1,11 +1,9 @@
 use Prim.Native.Nat.{◌-◌, ◌≤◌}
-use mathlib.Core.Path.{◌≡◌, refl}
+use mathlib.Core.Path.{◌≡◌}
 use lib.ListN.{length}
 use Rattle.rules.specs.Basics.{records, records_from}
 use Rattle.text_states.specs.States.{state_as, kind_from}
 use Rattle.reason_files.specs.Places.{records_place}
-use Rattle.reason_files.proofs.Laws.{place_done, other_stop, other_next}
-use borrow.Author.Rules.{rules}
 use Rattle.reason_files.proofs.other_records.Given as goal
 
 abbrev pub invariant-loop-at : goal.invariant-loop-at

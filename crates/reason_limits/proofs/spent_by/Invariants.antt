@@ -1,12 +1,10 @@
 use Prim.Native.Nat.{◌≤◌, ◌-◌}
-use mathlib.Core.Path.{◌≡◌, refl, ap}
+use mathlib.Core.Path.{◌≡◌}
 use lib.ListN.{length}
 use Rattle.rules.specs.Basics.{records_from, records}
 use Rattle.rules.specs.Acl.{limits_of}
 use Rattle.rules.specs.Grant.{limit_left}
-use Rattle.reason_limits.specs.Limits.{first_failing, spent_limit, spent_with}
-use Rattle.reason_limits.proofs.Laws.{lent_kind, failing_stop, failing_here, failing_next, failing_done}
-use borrow.Author.Rules.{rules}
+use Rattle.reason_limits.specs.Limits.{first_failing}
 use Rattle.reason_limits.proofs.spent_by.Given as goal
 
 abbrev pub invariant-loop-at : goal.invariant-loop-at

@@ -1,11 +1,9 @@
 use Prim.Native.Nat.{◌-◌, ◌≤◌}
-use mathlib.Core.Path.{refl}
 use lib.ListN.{length}
 use Rattle.rules.specs.Basics.{records}
 use Rattle.rules.specs.Acl.{actions_of}
 use Rattle.reason_narrowing.specs.Breaches.{first_wider, wider_breach}
-use Rattle.reason_narrowing.proofs.Laws.{Walking, wider, wider_first, wider_short_here, wider_found, wider_more, wider_none}
-use borrow.Author.Rules.{rules}
+use Rattle.reason_narrowing.proofs.Laws.{Walking, wider}
 use Rattle.reason_narrowing.proofs.action_breach.Given as goal
 
 abbrev pub invariant-loop-at : goal.invariant-loop-at

@@ -1,8 +1,4 @@
-use Prim.Native.Nat.{◌-◌, ◌≤◌}
-use lib.ListN.{length}
-use Rattle.rules.specs.Basics.{records}
-use Rattle.rules.specs.Acl.{actions_of}
-use Rattle.reason_narrowing.proofs.Laws.{Walking, counted, counted_first, counted_more, counted_all}
+use Rattle.reason_narrowing.proofs.Laws.{counted_first, counted_more, counted_all}
 use borrow.Author.Rules.{rules}
 use Rattle.reason_narrowing.proofs.action_count.Goals as goal
 
@@ -13,7 +9,7 @@ pub loop-at-smaller : goal.loop-at-smaller
 loop-at-smaller c = let e = c.next_action-at-in-loop-at.ensures.later in search rules
 
 pub loop-at-preserved : goal.loop-at-preserved
-loop-at-preserved c =    let e = c.next_action-at-in-loop-at.ensures in
+loop-at-preserved c = let e = c.next_action-at-in-loop-at.ensures in
     let d = e.later in
     (e.inside, (search rules, counted_more _ _ _ _ c.loop-at.invariant.1.1 c.loop-at-test.true _ e))
 

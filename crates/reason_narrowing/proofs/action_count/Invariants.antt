@@ -2,8 +2,7 @@ use Prim.Native.Nat.{◌-◌, ◌≤◌}
 use lib.ListN.{length}
 use Rattle.rules.specs.Basics.{records}
 use Rattle.rules.specs.Acl.{actions_of}
-use Rattle.reason_narrowing.proofs.Laws.{Walking, counted, counted_first, counted_more, counted_all}
-use borrow.Author.Rules.{rules}
+use Rattle.reason_narrowing.proofs.Laws.{Walking, counted}
 use Rattle.reason_narrowing.proofs.action_count.Given as goal
 
 abbrev pub invariant-loop-at : goal.invariant-loop-at

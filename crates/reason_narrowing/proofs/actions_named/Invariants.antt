@@ -4,8 +4,7 @@ use lib.ListN.{length}
 use Rattle.rules.specs.Basics.{records}
 use Rattle.rules.specs.Acl.{actions_of}
 use Rattle.reason_narrowing.specs.Breaches.{actions_named}
-use Rattle.reason_narrowing.proofs.Laws.{Walking, named, named_first, named_short_here, named_nothing_here, named_more, named_end}
-use borrow.Author.Rules.{rules}
+use Rattle.reason_narrowing.proofs.Laws.{Walking, named}
 use Rattle.reason_narrowing.proofs.actions_named.Given as goal
 
 abbrev pub invariant-loop-at : goal.invariant-loop-at

@@ -1,10 +1,6 @@
-use Prim.Native.Nat.{◌-◌, ◌≤◌}
-use mathlib.Core.Path.{◌≡◌, refl}
-use lib.ListN.{length}
-use Rattle.rules.specs.Basics.{records, records_from}
-use Rattle.rules.specs.Acl.{limits_of}
-use Rattle.rules.specs.Narrow.{is_answered}
-use Rattle.reason_limits.specs.Limits.{first_failing}
+use mathlib.Core.Bool.{not}
+use mathlib.Core.Path.{refl, ap}
+use Rattle.rules.specs.Basics.{records_from}
 use Rattle.reason_limits.proofs.Laws.{failing_stop, failing_here, failing_next, failing_done}
 use Rattle.reason_narrowing.proofs.Laws.{limit_none, limit_some}
 use borrow.Author.Rules.{rules}
@@ -15,13 +11,13 @@ unfolding records_from
 loop-at-init c = (search rules, (search rules, refl))
 
 pub returns-then-old-at-ne2 : goal.returns-then-old-at-ne2
-returns-then-old-at-ne2 c =    limit_none _ (failing_stop _ _ _ _ _ c.loop-at.invariant.1.1 c.loop-at-test.true c.if-old-at-ne2.true)
+returns-then-old-at-ne2 c = limit_none _ (failing_stop _ _ _ _ _ c.loop-at.invariant.1.1 c.loop-at-test.true c.if-old-at-ne2.true)
 
 pub returns-then-not-limit_answered : goal.returns-then-not-limit_answered
-returns-then-not-limit_answered c =    limit_some _ _ (failing_here _ _ _ _ _ c.loop-at.invariant.1.1 _ c.loop-at-test.true c.if-old-at-ne2.false c.limit_answered.ensures c.if-not-limit_answered.true)
+returns-then-not-limit_answered c = limit_some _ _ (failing_here _ _ _ _ _ c.loop-at.invariant.1.1 _ c.loop-at-test.true c.if-old-at-ne2.false c.limit_answered.ensures (ap not c.if-not-limit_answered.true))
 
 pub loop-at-preserved : goal.loop-at-preserved
-loop-at-preserved c =    (search rules, (search rules, failing_next _ _ _ _ _ c.loop-at.invariant.1.1 _ c.loop-at-test.true c.if-old-at-ne2.false c.limit_answered.ensures c.if-not-limit_answered.false))
+loop-at-preserved c = (search rules, (search rules, failing_next _ _ _ _ _ c.loop-at.invariant.1.1 _ c.loop-at-test.true c.if-old-at-ne2.false c.limit_answered.ensures (ap not c.if-not-limit_answered.false)))
 
 pub returns : goal.returns
 returns c = limit_none _ (failing_done _ _ _ _ _ c.loop-at.invariant.1.1 c.loop-at-test.false)

@@ -1,13 +1,10 @@
 use Prim.Native.Nat.{◌-◌, ◌≤◌}
-use mathlib.Core.Path.{◌≡◌, refl}
+use mathlib.Core.Path.{◌≡◌}
 use lib.ListN.{length}
 use Rattle.rules.specs.Basics.{records, records_from}
 use Rattle.rules.specs.Acl.{limits_of}
 use Rattle.rules.specs.Narrow.{is_answered}
 use Rattle.reason_limits.specs.Limits.{first_failing}
-use Rattle.reason_limits.proofs.Laws.{failing_stop, failing_here, failing_next, failing_done}
-use Rattle.reason_narrowing.proofs.Laws.{limit_none, limit_some}
-use borrow.Author.Rules.{rules}
 use Rattle.reason_narrowing.proofs.limit_breach.Given as goal
 
 abbrev pub invariant-loop-at : goal.invariant-loop-at

@@ -1,14 +1,11 @@
 use Prim.Native.Nat.{◌≤◌, ◌-◌}
-use mathlib.Core.Path.{◌≡◌, ap}
+use mathlib.Core.Path.{◌≡◌}
 use lib.ListN.{length, get_or}
 use Rattle.rules.specs.Basics.{records_from}
 use Rattle.rules.specs.Acl.{groups_of, acl_of}
 use Rattle.rules.specs.Request.{hints_of}
-use Rattle.acl_groups.proofs.Laws.{begins}
-use Rattle.gate_narrowing.proofs.Sources.{hints_from, hints_start, group_later}
+use Rattle.gate_narrowing.proofs.Sources.{hints_from}
 use Rattle.reason_narrowing.specs.Breaches.{narrowing_from, narrowing_of}
-use Rattle.reason_narrowing.proofs.Sources.{groups_on, hint_lacking, source_falls, source_found, source_breaks, source_kept, hints_left_lem, hints_done}
-use borrow.Author.Rules.{rules}
 use Rattle.reason_narrowing.proofs.locate_breach.Given as goal
 
 abbrev pub invariant-loop-at : goal.invariant-loop-at

@@ -1,5 +1,4 @@
 use Rattle.reason_narrowing.proofs.Sources.{breach_missing, breach_there}
-use borrow.Author.Rules.{rules}
 use Rattle.reason_narrowing.proofs.source_breach.Goals as goal
 
 pub returns-then-rest-lt-RECORD : goal.returns-then-rest-lt-RECORD

@@ -1,6 +1,5 @@
 use Rattle.reason_steps.specs.Defects.{step_tests}
 use Rattle.reason_steps.proofs.Laws.{after_named}
-use borrow.Author.Rules.{rules}
 use Rattle.reason_steps.proofs.fips_defect.Goals as goal
 
 pub returns : goal.returns

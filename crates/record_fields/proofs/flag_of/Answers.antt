@@ -1,4 +1,3 @@
-use borrow.Author.Rules.{rules}
 use Rattle.record_fields.proofs.flag_of.Goals as goal
 
 pub returns : goal.returns

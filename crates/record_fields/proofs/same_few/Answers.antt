@@ -1,8 +1,4 @@
-use Prim.Native.Nat.{◌≤◌, ◌-◌}
-use mathlib.Core.Path.{◌≡◌, refl}
-use mathlib.Core.Bool.{◌&&◌}
-use lib.ListN.{length, drop}
-use Rattle.rules.specs.Basics.{same}
+use mathlib.Core.Path.{refl}
 use Rattle.record_fields.proofs.Laws.{same_next, same_done}
 use borrow.Author.Rules.{rules}
 use Rattle.record_fields.proofs.same_few.Goals as goal

@@ -3,8 +3,7 @@ use mathlib.Core.Path.{◌≡◌}
 use mathlib.Core.Bool.{◌&&◌}
 use lib.ListN.{length, drop}
 use Rattle.rules.specs.Basics.{same}
-use Rattle.record_fields.proofs.Words.{same_last, same_words_start, same_words_low, same_words_next, same_words_lower, same_words_done}
-use borrow.Author.Rules.{rules}
+use Rattle.record_fields.proofs.Words.{same_last}
 use Rattle.record_fields.proofs.same_words.Given as goal
 
 abbrev pub invariant-loop-i : goal.invariant-loop-i

@@ -1,5 +1,4 @@
 use Rattle.rules.specs.Layout.{token_parameters_at}
-use borrow.Author.Rules.{rules}
 use Rattle.record_fields.proofs.token_parameters.Goals as goal
 
 pub returns : goal.returns

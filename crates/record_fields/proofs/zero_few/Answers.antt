@@ -1,8 +1,4 @@
-use Prim.Native.Nat.{◌≤◌, ◌-◌}
-use mathlib.Core.Path.{◌≡◌, refl}
-use mathlib.Core.Bool.{◌&&◌}
-use lib.ListN.{length, drop}
-use Rattle.rules.specs.Basics.{all_zero}
+use mathlib.Core.Path.{refl}
 use Rattle.record_fields.proofs.Laws.{zero_next, zero_done}
 use borrow.Author.Rules.{rules}
 use Rattle.record_fields.proofs.zero_few.Goals as goal

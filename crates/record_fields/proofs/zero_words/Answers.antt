@@ -1,8 +1,3 @@
-use Prim.Native.Nat.{◌≤◌, ◌-◌}
-use mathlib.Core.Path.{◌≡◌}
-use mathlib.Core.Bool.{◌&&◌}
-use lib.ListN.{length, drop}
-use Rattle.rules.specs.Basics.{all_zero, blank}
 use Rattle.record_fields.proofs.Words.{zero_words_start, zero_words_low, zero_words_next, zero_words_lower, zero_words_done}
 use borrow.Author.Rules.{rules}
 use Rattle.record_fields.proofs.zero_words.Goals as goal

@@ -1,5 +1,4 @@
 use Rattle.rules.specs.Layout.{delegation_laid_out}
-use borrow.Author.Rules.{rules}
 use Rattle.record_layout.proofs.delegation.Goals as goal
 
 pub returns : goal.returns

@@ -1,5 +1,4 @@
 use Rattle.rules.specs.Layout.{blobfile_request_laid_out}
-use borrow.Author.Rules.{rules}
 use Rattle.record_layout.proofs.file_request.Goals as goal
 
 pub returns : goal.returns

@@ -1,5 +1,4 @@
 use Rattle.rules.specs.Layout.{mechanism_at}
-use borrow.Author.Rules.{rules}
 use Rattle.record_layout.proofs.mechanism_at.Goals as goal
 
 pub returns : goal.returns

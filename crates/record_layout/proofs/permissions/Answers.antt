@@ -1,6 +1,5 @@
 use Rattle.rules.proofs.Choices.{and_is}
 use Rattle.rules.specs.Layout.{permissions_laid_out}
-use borrow.Author.Rules.{rules}
 use Rattle.record_layout.proofs.permissions.Goals as goal
 
 pub returns : goal.returns

@@ -4,7 +4,7 @@ use borrow.Author.Rules.{rules}
 use Rattle.record_layout.proofs.plain_header.Goals as goal
 
 pub returns : goal.returns
-returns c =    let given = c.shared_slice_known-2-1.given in
+returns c = let given = c.type_inv.s in
     header_bytes_lem
     c.args.s.now
     c.args.listed

@@ -1,7 +1,4 @@
-use Prim.Native.Nat.{◌-◌, ◌/◌, ◌≤◌}
-use mathlib.Core.Path.{◌≡◌, refl}
-use lib.ListN.{length, take}
-use Rattle.run_certificates.specs.Rows.{row_as}
+use mathlib.Core.Path.{refl}
 use Rattle.replay_rows.specs.Given.{first_given}
 use borrow.Author.Rules.{rules}
 use Rattle.replay_rows.proofs.Decoding.{given_next, given_all, given_most}

@@ -1,10 +1,8 @@
 use Prim.Native.Nat.{◌-◌, ◌/◌, ◌≤◌}
-use mathlib.Core.Path.{◌≡◌, refl}
+use mathlib.Core.Path.{◌≡◌}
 use lib.ListN.{length, take}
 use Rattle.run_certificates.specs.Rows.{row_as}
 use Rattle.replay_rows.specs.Given.{first_given}
-use borrow.Author.Rules.{rules}
-use Rattle.replay_rows.proofs.Decoding.{given_next, given_all, given_most}
 use Rattle.replay_rows.proofs.decoded.Given as goal
 
 abbrev pub invariant-loop-i : goal.invariant-loop-i

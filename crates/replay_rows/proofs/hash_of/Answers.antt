@@ -1,6 +1,4 @@
-use Prim.Native.Nat.{◌-◌, ◌≤◌}
-use mathlib.Core.Path.{◌≡◌, refl}
-use lib.ListN.{length, take}
+use mathlib.Core.Path.{refl}
 use borrow.Author.Rules.{rules}
 use Rattle.replay_rows.proofs.Decoding.{hash_next, hash_done}
 use Rattle.replay_rows.proofs.hash_of.Goals as goal

@@ -1,5 +1,4 @@
 use Rattle.rules.specs.Request.{blobfile_request_record}
-use borrow.Author.Rules.{rules}
 use Rattle.request_reader.proofs.blobfile_record.Goals as goal
 
 pub returns : goal.returns

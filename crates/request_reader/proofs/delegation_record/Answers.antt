@@ -1,5 +1,4 @@
 use Rattle.rules.specs.Request.{delegation_record}
-use borrow.Author.Rules.{rules}
 use Rattle.request_reader.proofs.delegation_record.Goals as goal
 
 pub returns : goal.returns

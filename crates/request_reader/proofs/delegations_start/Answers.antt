@@ -1,9 +1,3 @@
-use Prim.Native.Nat.{◌≤◌, ◌%◌}
-use mathlib.Core.Path.{◌≡◌}
-use mathlib.Core.List.{[]}
-use lib.ListN.{length}
-use Rattle.rules.specs.Request.{certificates_of}
-use Rattle.rules.specs.Basics.{records_from}
 use Rattle.request_reader.proofs.Laws.{none_past, none_earlier, parted_here, parted_all}
 use borrow.Author.Rules.{rules}
 use Rattle.request_reader.proofs.delegations_start.Goals as goal

@@ -4,8 +4,6 @@ use mathlib.Core.List.{[]}
 use lib.ListN.{length}
 use Rattle.rules.specs.Request.{certificates_of}
 use Rattle.rules.specs.Basics.{records_from}
-use Rattle.request_reader.proofs.Laws.{none_past, none_earlier, parted_here, parted_all}
-use borrow.Author.Rules.{rules}
 use Rattle.request_reader.proofs.delegations_start.Given as goal
 
 abbrev pub invariant-loop-at : goal.invariant-loop-at

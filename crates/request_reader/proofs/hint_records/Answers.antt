@@ -1,8 +1,6 @@
-use Prim.Native.Nat.{◌≤◌, ◌-◌}
-use mathlib.Core.Path.{◌≡◌, refl}
-use lib.ListN.{length}
-use Rattle.rules.specs.Basics.{records, each_fault, records_from}
-use Rattle.rules.specs.Request.{hint_fault, hints_fault}
+use mathlib.Core.Path.{refl}
+use Rattle.rules.specs.Basics.{records_from}
+use Rattle.rules.specs.Request.{hints_fault}
 use Rattle.rules.proofs.Rows.{each_stop, each_next, each_done}
 use Rattle.request_reader.proofs.Laws.{hint_bad, hint_sound}
 use borrow.Author.Rules.{rules}

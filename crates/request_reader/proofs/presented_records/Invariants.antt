@@ -1,11 +1,8 @@
 use Prim.Native.Nat.{◌≤◌, ◌-◌}
-use mathlib.Core.Path.{◌≡◌, refl}
+use mathlib.Core.Path.{◌≡◌}
 use lib.ListN.{length}
 use Rattle.rules.specs.Basics.{records, scan, records_from}
 use Rattle.rules.specs.Request.{presented_record_fault, after_presented, presented_end, presented_fault}
-use Rattle.rules.proofs.Rows.{scan_done}
-use Rattle.request_reader.proofs.Laws.{certificate_bad, certificate_full, certificate_sound, delegation_bad, delegation_full, delegation_sound}
-use borrow.Author.Rules.{rules}
 use Rattle.request_reader.proofs.presented_records.Given as goal
 
 abbrev pub invariant-loop-at : goal.invariant-loop-at

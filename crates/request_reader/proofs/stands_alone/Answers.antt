@@ -1,5 +1,4 @@
 use Rattle.rules.specs.Request.{stands_alone}
-use borrow.Author.Rules.{rules}
 use Rattle.request_reader.proofs.stands_alone.Goals as goal
 
 pub returns : goal.returns

@@ -1,5 +1,4 @@
 use Rattle.run_certificates.specs.Rows.{record_before}
-use borrow.Author.Rules.{rules}
 use Rattle.run_certificates.proofs.is_certified.Goals as goal
 
 pub returns : goal.returns

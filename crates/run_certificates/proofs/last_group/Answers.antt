@@ -1,6 +1,4 @@
-use Prim.Native.Nat.{◌≤◌}
-use lib.ListN.{length}
-use Rattle.run_certificates.proofs.Marks.{Passing, pass_start, pass_found, pass_next, pass_none}
+use Rattle.run_certificates.proofs.Marks.{pass_start, pass_found, pass_next, pass_none}
 use borrow.Author.Rules.{rules}
 use Rattle.run_certificates.proofs.last_group.Goals as goal
 

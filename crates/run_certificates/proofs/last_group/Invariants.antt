@@ -1,7 +1,6 @@
 use Prim.Native.Nat.{◌≤◌}
 use lib.ListN.{length}
-use Rattle.run_certificates.proofs.Marks.{Passing, pass_start, pass_found, pass_next, pass_none}
-use borrow.Author.Rules.{rules}
+use Rattle.run_certificates.proofs.Marks.{Passing}
 use Rattle.run_certificates.proofs.last_group.Given as goal
 
 abbrev pub invariant-loop-end : goal.invariant-loop-end

@@ -1,9 +1,4 @@
-use Prim.Native.Nat.{◌<◌, ◌^◌}
-use mathlib.Core.Option.{none}
-use Rattle.rules.specs.Sizes.{groups_max}
-use Rattle.rules.specs.Request.{wanted_of}
-use Rattle.run_decision.specs.Members.{admits_at}
-use Rattle.run_decision.proofs.Laws.{lowest_group_lem, walk_less, walk_within, Keeping, keeping_start, keeping_done, keeping_skip, keeping_room, keeping_next, rest_less}
+use Rattle.run_decision.proofs.Laws.{lowest_group_lem, walk_less, walk_within, keeping_start, keeping_done, keeping_skip, keeping_room, keeping_next, rest_less}
 use borrow.Author.Rules.{rules}
 use Rattle.run_decision.proofs.admitting_of.Goals as goal
 

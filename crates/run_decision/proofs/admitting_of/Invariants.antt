@@ -3,8 +3,7 @@ use mathlib.Core.Option.{none}
 use Rattle.rules.specs.Sizes.{groups_max}
 use Rattle.rules.specs.Request.{wanted_of}
 use Rattle.run_decision.specs.Members.{admits_at}
-use Rattle.run_decision.proofs.Laws.{lowest_group_lem, walk_less, walk_within, Keeping, keeping_start, keeping_done, keeping_skip, keeping_room, keeping_next, rest_less}
-use borrow.Author.Rules.{rules}
+use Rattle.run_decision.proofs.Laws.{Keeping}
 use Rattle.run_decision.proofs.admitting_of.Given as goal
 
 abbrev pub invariant-loop-left : goal.invariant-loop-left

@@ -1,11 +1,6 @@
-use Prim.Native.Nat.{◌<◌, ◌^◌}
-use mathlib.Core.Path.{◌≡◌, refl}
-use Rattle.rules.specs.Sizes.{groups_max}
-use Rattle.run_decision.specs.GroupSets.{first_in}
-use Rattle.run_decision.specs.Members.{left_at}
+use mathlib.Core.Path.{refl}
 use Rattle.run_decision.proofs.Laws.{lowest_group_lem, walk_stop, walk_next, walk_done, walk_less, walk_within, rest_less}
 use borrow.Author.Rules.{rules}
-use Rattle.run_decision.specs.Opening.{Closes}
 use Rattle.run_decision.proofs.Opening.{closes_start, closes_next, open_word}
 use Rattle.run_decision.proofs.first_unspent.Goals as goal
 

@@ -1,7 +1,4 @@
-use Prim.Native.Nat.{◌<◌, ◌^◌}
-use Rattle.rules.specs.Sizes.{groups_max}
-use Rattle.run_decision.specs.Members.{left_at}
-use Rattle.run_decision.proofs.Laws.{lowest_group_lem, walk_less, walk_within, Keeping, keeping_start, keeping_done, keeping_skip, keeping_room, keeping_next, rest_less}
+use Rattle.run_decision.proofs.Laws.{lowest_group_lem, walk_less, walk_within, keeping_start, keeping_done, keeping_skip, keeping_room, keeping_next, rest_less}
 use borrow.Author.Rules.{rules}
 use Rattle.run_decision.proofs.unspent_of.Goals as goal
 

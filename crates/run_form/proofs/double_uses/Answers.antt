@@ -1,8 +1,4 @@
-use mathlib.Core.Path.{◌≡◌}
-use Prim.Native.Nat.{◌≤◌, ◌-◌}
-use lib.ListN.{length}
-use Rattle.rules.specs.Sizes.{permissions_max}
-use Rattle.run_form.proofs.Making.{Doubling, doubling_start, doubling_below, doubling_next, doubling_done}
+use Rattle.run_form.proofs.Making.{doubling_start, doubling_below, doubling_next, doubling_done}
 use borrow.Author.Rules.{rules}
 use Rattle.run_form.proofs.double_uses.Goals as goal
 

@@ -1,10 +1,4 @@
-use mathlib.Core.Path.{◌≡◌}
-use Prim.Native.Nat.{◌≤◌, ◌-◌}
-use lib.ListN.{length}
-use Rattle.rules.specs.Sizes.{groups_max}
-use Rattle.rules.specs.Basics.{records, records_from}
-use Rattle.run_form.specs.Places.{offsets_from}
-use Rattle.run_form.proofs.Placing.{Filling, filling_start, filling_done, filling_count, filling_skip, filling_room, filling_next, filling_sized, put_start, put_skip, put_next, put_done}
+use Rattle.run_form.proofs.Placing.{filling_start, filling_done, filling_count, filling_skip, filling_room, filling_next, filling_sized, put_start, put_skip, put_next, put_done}
 use borrow.Author.Rules.{rules}
 use Rattle.run_form.proofs.fill_offsets.Goals as goal
 

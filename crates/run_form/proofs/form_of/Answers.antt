@@ -1,7 +1,5 @@
 use mathlib.Core.Path.{◌∙◌}
-use Prim.Native.Nat.{◌≤◌, ◌*◌}
-use lib.ListN.{length}
-use Rattle.run_form.proofs.Making.{Made, made_start, made_done, made_sized, made_below, made_working, made_recovery, made_blob_digit, made_archive_digit, made_group, made_over, made_permissions, made_blob, made_archive}
+use Rattle.run_form.proofs.Making.{made_start, made_done, made_sized, made_below, made_working, made_recovery, made_blob_digit, made_archive_digit, made_group, made_over, made_permissions, made_blob, made_archive}
 use borrow.Author.Rules.{rules}
 use Rattle.run_form.proofs.form_of.Goals as goal
 

@@ -1,5 +1,4 @@
 use Rattle.run_form.proofs.Preparing.{no_form}
-use borrow.Author.Rules.{rules}
 use Rattle.run_form.proofs.refused.Goals as goal
 
 pub returns : goal.returns

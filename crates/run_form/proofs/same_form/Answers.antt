@@ -1,5 +1,4 @@
 use Rattle.rules.specs.Prepared.{same_form}
-use borrow.Author.Rules.{rules}
 use Rattle.run_form.proofs.same_form.Goals as goal
 
 pub returns : goal.returns

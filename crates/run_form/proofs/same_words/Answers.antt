@@ -1,8 +1,4 @@
-use mathlib.Core.Path.{◌≡◌, refl}
-use mathlib.Core.Bool.{◌&&◌}
-use Prim.Native.Nat.{◌≤◌, ◌-◌}
-use lib.ListN.{length, drop}
-use Rattle.rules.specs.Basics.{same}
+use mathlib.Core.Path.{refl}
 use Rattle.record_fields.proofs.Laws.{same_length, same_next, same_done}
 use borrow.Author.Rules.{rules}
 use Rattle.run_form.proofs.same_words.Goals as goal

@@ -1,6 +1,4 @@
-use Prim.Native.Nat.{◌≤◌, ◌-◌}
-use lib.ListN.{length}
-use Rattle.run_limits.proofs.Filling.{Filling, filling_start, row_stop, row_end, before_stop, fits_stop, filling_room, filling_next, filling_sized}
+use Rattle.run_limits.proofs.Filling.{filling_start, row_stop, row_end, before_stop, fits_stop, filling_room, filling_next, filling_sized}
 use borrow.Author.Rules.{rules}
 use Rattle.run_limits.proofs.fill_row.Goals as goal
 

@@ -1,5 +1,4 @@
-use Prim.Native.Nat.{◌≤◌, ◌-◌}
-use Rattle.run_limits.proofs.Filling.{RowsTo, rows_none, rows_fit, rows_next, rows_done, body_few, body_inside}
+use Rattle.run_limits.proofs.Filling.{rows_none, rows_fit, rows_next, rows_done, body_few, body_inside}
 use borrow.Author.Rules.{rules}
 use Rattle.run_limits.proofs.fill_rows.Goals as goal
 

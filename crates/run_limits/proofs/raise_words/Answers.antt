@@ -1,8 +1,4 @@
-use Prim.Native.Nat.{◌+◌, ◌≤◌}
-use mathlib.Core.Path.{◌≡◌}
-use lib.ListN.{length, take, drop}
-use Rattle.rules.specs.Sizes.{counters_max}
-use Rattle.run_limits.proofs.Laws.{Raising, raising_start, raising_room, raising_next, raising_done, raised_sized}
+use Rattle.run_limits.proofs.Laws.{raising_start, raising_room, raising_next, raising_done, raised_sized}
 use borrow.Author.Rules.{rules}
 use Rattle.run_limits.proofs.raise_words.Goals as goal
 

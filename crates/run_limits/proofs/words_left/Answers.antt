@@ -1,8 +1,4 @@
-use Prim.Native.Nat.{◌+◌, ◌≤◌}
-use mathlib.Core.Path.{◌≡◌, refl}
-use lib.ListN.{take, drop}
-use Rattle.rules.specs.Basics.{all}
-use Rattle.run_limits.specs.Rows.{word_left}
+use mathlib.Core.Path.{refl}
 use Rattle.run_limits.proofs.Laws.{words_failed, words_next, words_done}
 use borrow.Author.Rules.{rules}
 use Rattle.run_limits.proofs.words_left.Goals as goal

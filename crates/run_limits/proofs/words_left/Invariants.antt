@@ -1,10 +1,8 @@
 use Prim.Native.Nat.{◌+◌, ◌≤◌}
-use mathlib.Core.Path.{◌≡◌, refl}
+use mathlib.Core.Path.{◌≡◌}
 use lib.ListN.{take, drop}
 use Rattle.rules.specs.Basics.{all}
 use Rattle.run_limits.specs.Rows.{word_left}
-use Rattle.run_limits.proofs.Laws.{words_failed, words_next, words_done}
-use borrow.Author.Rules.{rules}
 use Rattle.run_limits.proofs.words_left.Given as goal
 
 abbrev pub invariant-loop-left : goal.invariant-loop-left

@@ -1,13 +1,5 @@
-use Prim.Native.Nat.{◌≤◌, ◌-◌, ◌*◌, ◌/◌}
-use mathlib.Core.Path.{◌≡◌, refl}
-use lib.ListN.{length}
-use Rattle.rules.specs.Basics.{records, records_from}
-use Rattle.run_requests.specs.Written.{writing}
-use Rattle.gate_decision.specs.Standings.{ledger_of_tables}
-use Rattle.run_decision.specs.Deciding.{ask_sets}
-use Rattle.run_decision.specs.Opening.{OpenFrom}
-use Rattle.rules.specs.Sizes.{groups_max, counters_max}
-use Rattle.rules.specs.Acl.{acl_of}
+use mathlib.Core.Path.{refl}
+use Rattle.rules.specs.Basics.{records_from}
 use borrow.Author.Rules.{rules}
 use Rattle.run_requests.proofs.Writing.{writing_next, writing_done, answer_sized, same_lengths, counts_sized, counters_sized}
 use Rattle.run_requests.proofs.Opening.{open_next, open_kept}

@@ -1,5 +1,4 @@
 use borrow.Author.Tests.{ne_eqb}
-use borrow.Author.Rules.{rules}
 use Rattle.subject.proofs.hashes_length.Goals as goal
 
 pub returns-then-certificate-eq4 : goal.returns-then-certificate-eq4

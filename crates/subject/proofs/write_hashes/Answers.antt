@@ -1,9 +1,8 @@
-use Prim.Native.Nat.{◌≤◌, ◌+◌, ◌-◌, ◌%◌}
-use mathlib.Core.Path.{◌≡◌}
+use Prim.Native.Nat.{◌≤◌, ◌+◌}
 use native.Mathlib.Omega.{arith}
 use lib.ListN.{length}
 use Rattle.rules.specs.Sizes.{hash_bytes}
-use Rattle.subject.proofs.Laws.{copied, copied_zero, copied_part, copied_done}
+use Rattle.subject.proofs.Laws.{copied_zero, copied_part, copied_done}
 use borrow.Author.Rules.{rules}
 use Rattle.subject.proofs.write_hashes.Goals as goal
 
@@ -11,7 +10,7 @@ pub loop-at-init : goal.loop-at-init
 loop-at-init c = search (rules, copied_zero)
 
 pub loop-at-preserved : goal.loop-at-preserved
-loop-at-preserved c =    let h : c.loop-at.at + hash_bytes ≤ length c.args.hashes.now = omega arith in
+loop-at-preserved c = let h : c.loop-at.at + hash_bytes ≤ length c.args.hashes.now = omega arith in
     (h, (search rules, (search rules, copied_part _ _ _ _ _ hash_bytes h (search rules) c.loop-at.invariant.1.1.1 c.copy.ensures)))
 
 pub returns : goal.returns

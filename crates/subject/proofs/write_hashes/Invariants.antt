@@ -1,10 +1,8 @@
-use Prim.Native.Nat.{◌≤◌, ◌+◌, ◌-◌, ◌%◌}
+use Prim.Native.Nat.{◌≤◌, ◌-◌, ◌%◌}
 use mathlib.Core.Path.{◌≡◌}
-use native.Mathlib.Omega.{arith}
 use lib.ListN.{length}
 use Rattle.rules.specs.Sizes.{hash_bytes}
-use Rattle.subject.proofs.Laws.{copied, copied_zero, copied_part, copied_done}
-use borrow.Author.Rules.{rules}
+use Rattle.subject.proofs.Laws.{copied}
 use Rattle.subject.proofs.write_hashes.Given as goal
 
 abbrev pub invariant-loop-at : goal.invariant-loop-at

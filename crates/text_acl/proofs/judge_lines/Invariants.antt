@@ -3,9 +3,7 @@ use lib.ListN.{length}
 use Rattle.rules.specs.Sizes.{limits_max}
 use Rattle.text_rules.specs.Kinds.{acl_kind}
 use Rattle.acl_reader.specs.Places.{acl_state_as}
-use Rattle.text_acl.proofs.Within.{within_ends, acl_unended}
-use Rattle.text_acl.proofs.Reading.{good_is, good_place, LinesJudged, judged_none, judged_bad, judged_line, judged_missing, judged_all, end_due, end_sound}
-use borrow.Author.Rules.{rules}
+use Rattle.text_acl.proofs.Reading.{LinesJudged}
 use Rattle.text_acl.proofs.judge_lines.Given as goal
 
 abbrev pub invariant-loop-at : goal.invariant-loop-at

@@ -1,8 +1,7 @@
 use Prim.Native.Nat.{◌*◌, ◌-◌, ◌≤◌}
 use lib.ListN.{length}
 use Rattle.text_rules.specs.Words.{line_of}
-use Rattle.text_acl.proofs.Writing.{Summed, summed_none, summed_line, summed_all}
-use borrow.Author.Rules.{rules}
+use Rattle.text_acl.proofs.Writing.{Summed}
 use Rattle.text_acl.proofs.listing_length.Given as goal
 
 abbrev pub invariant-loop-at : goal.invariant-loop-at

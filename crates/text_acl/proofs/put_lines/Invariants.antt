@@ -2,9 +2,8 @@ use Prim.Native.Nat.{◌-◌, ◌≤◌}
 use mathlib.Core.Path.{◌≡◌}
 use lib.ListN.{length}
 use Rattle.text_rules.specs.Words.{line_of, listing_of}
-use Rattle.text_acl.proofs.Writing.{lines_from, lines_none, line_room, line_put, lines_all}
+use Rattle.text_acl.proofs.Writing.{lines_from}
 use Rattle.text_bytes.proofs.Laws.{Filled}
-use borrow.Author.Rules.{rules}
 use Rattle.text_acl.proofs.put_lines.Given as goal
 
 abbrev pub invariant-loop-at : goal.invariant-loop-at

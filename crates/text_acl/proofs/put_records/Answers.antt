@@ -1,10 +1,4 @@
-use Prim.Native.Nat.{◌-◌, ◌≤◌}
-use mathlib.Core.Path.{◌≡◌}
-use lib.ListN.{length}
-use Rattle.text_rules.specs.Listing.{listed_bytes}
-use Rattle.text_rules.specs.Decoding.{decoded}
-use Rattle.text_bytes.proofs.Laws.{Filled}
-use Rattle.text_acl.proofs.Reading.{decoded_length, records_left, records_filled, record_room, record_filled, records_all}
+use Rattle.text_acl.proofs.Reading.{decoded_length, records_filled, record_room, record_filled, records_all}
 use borrow.Author.Rules.{rules}
 use Rattle.text_acl.proofs.put_records.Goals as goal
 

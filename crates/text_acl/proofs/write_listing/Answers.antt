@@ -1,13 +1,12 @@
-use mathlib.Core.Path.{sym, ◌∙◌, ap}
+use Rattle.std.proofs.Common.{sym, ◌∙◌, ap}
 use Rattle.files.specs.Faults.{fault_as}
 use Rattle.text_rules.specs.Kinds.{acl_kind}
 use Rattle.text_rules.proofs.Readers.{acl_reader}
 use Rattle.text_acl.proofs.Writing.{write_faulty}
-use borrow.Author.Rules.{rules}
 use Rattle.text_acl.proofs.write_listing.Goals as goal
 
 pub write_sound-requires : goal.write_sound-requires
-write_sound-requires c = acl_reader _ ∙ sym c.acl_file-found.ensures ∙ ap fault_as c.enum_told-1.given.1
+write_sound-requires c = acl_reader _ ∙ sym c.acl_file-found.ensures ∙ ap fault_as c.in-Sound.is
 
 pub returns-in-Refused : goal.returns-in-Refused
-returns-in-Refused c = write_faulty acl_kind _ _ _ (sym (ap fault_as c.found-1.given.1) ∙ c.acl_file-found.ensures ∙ sym (acl_reader _))
+returns-in-Refused c = write_faulty acl_kind _ _ _ (sym (ap fault_as c.in-Refused.is) ∙ c.acl_file-found.ensures ∙ sym (acl_reader _))

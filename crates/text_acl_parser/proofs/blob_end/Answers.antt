@@ -2,7 +2,6 @@ use Rattle.rules.specs.Basics.{ascii}
 use Rattle.text_rules.specs.Decoding.{has_word, after_word}
 use Rattle.text_lexer.specs.Telling.{past_word}
 use Rattle.text_acl_parser.proofs.Laws.{end_told}
-use borrow.Author.Rules.{rules}
 use Rattle.text_acl_parser.proofs.blob_end.Goals as goal
 
 pub returns : goal.returns

@@ -1,5 +1,4 @@
 use Rattle.text_acl_parser.proofs.Laws.{blob_put}
-use borrow.Author.Rules.{rules}
 use Rattle.text_acl_parser.proofs.blob_from.Goals as goal
 
 pub returns : goal.returns

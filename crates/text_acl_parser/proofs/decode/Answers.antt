@@ -1,6 +1,5 @@
 use Rattle.rules.specs.Basics.{ascii}
 use Rattle.text_acl_parser.proofs.Laws.{decoded_1, decoded_2, decoded_3, decoded_4, decoded_5, decoded_15}
-use borrow.Author.Rules.{rules}
 use Rattle.text_acl_parser.proofs.decode.Goals as goal
 
 pub returns-then-word_stands : goal.returns-then-word_stands

@@ -2,7 +2,6 @@ use Rattle.rules.specs.Basics.{ascii}
 use Rattle.text_rules.specs.Decoding.{has_word, after_hash, after_number, hash_after, number_after}
 use Rattle.text_lexer.specs.Telling.{past_hash, past_number, hash_in, number_in}
 use Rattle.text_acl_parser.proofs.Laws.{file_put}
-use borrow.Author.Rules.{rules}
 use Rattle.text_acl_parser.proofs.file_from.Goals as goal
 
 pub returns : goal.returns

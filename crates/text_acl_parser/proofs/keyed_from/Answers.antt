@@ -1,6 +1,5 @@
 use Rattle.rules.specs.Basics.{ascii}
 use Rattle.text_acl_parser.proofs.Laws.{keyed_put}
-use borrow.Author.Rules.{rules}
 use Rattle.text_acl_parser.proofs.keyed_from.Goals as goal
 
 pub returns : goal.returns

@@ -3,7 +3,6 @@ use Rattle.rules.specs.Basics.{ascii}
 use Rattle.text_rules.specs.Decoding.{has_word, after_number, number_after}
 use Rattle.text_lexer.specs.Telling.{past_number, number_in}
 use Rattle.text_acl_parser.proofs.Laws.{limit_put}
-use borrow.Author.Rules.{rules}
 use Rattle.text_acl_parser.proofs.limit_from.Goals as goal
 
 pub limit_sort-requires : goal.limit_sort-requires

@@ -2,7 +2,6 @@ use Rattle.rules.specs.Basics.{ascii}
 use Rattle.text_rules.specs.Decoding.{has_word, number_after}
 use Rattle.text_lexer.specs.Telling.{number_in}
 use Rattle.text_acl_parser.proofs.Laws.{maximum_timed, maximum_used}
-use borrow.Author.Rules.{rules}
 use Rattle.text_acl_parser.proofs.limit_maximum.Goals as goal
 
 pub returns-then-word_stands : goal.returns-then-word_stands

@@ -1,6 +1,4 @@
-use Prim.Native.Nat.{◌+◌, ◌≤◌, ◌-◌}
-use lib.ListN.{length}
-use Rattle.text_acl_parser.proofs.Laws.{Bits, bits_none, bits_double, bits_room, bits_word, bits_all}
+use Rattle.text_acl_parser.proofs.Laws.{bits_none, bits_double, bits_room, bits_word, bits_all}
 use borrow.Author.Rules.{rules}
 use Rattle.text_acl_parser.proofs.names_from.Goals as goal
 

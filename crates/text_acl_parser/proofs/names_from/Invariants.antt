@@ -1,7 +1,6 @@
 use Prim.Native.Nat.{◌+◌, ◌≤◌, ◌-◌}
 use lib.ListN.{length}
-use Rattle.text_acl_parser.proofs.Laws.{Bits, bits_none, bits_double, bits_room, bits_word, bits_all}
-use borrow.Author.Rules.{rules}
+use Rattle.text_acl_parser.proofs.Laws.{Bits}
 use Rattle.text_acl_parser.proofs.names_from.Given as goal
 
 abbrev pub invariant-loop-i : goal.invariant-loop-i

@@ -1,7 +1,4 @@
-use Prim.Native.Nat.{◌+◌, ◌≤◌, ◌-◌}
-use mathlib.Core.Path.{◌≡◌}
-use lib.ListN.{length}
-use Rattle.text_bytes.proofs.Laws.{Filled, left, text_none, text_byte, text_all}
+use Rattle.text_bytes.proofs.Laws.{text_none, text_byte, text_all}
 use borrow.Author.Rules.{rules}
 use Rattle.text_bytes.proofs.append.Goals as goal
 

@@ -1,8 +1,7 @@
 use Prim.Native.Nat.{◌+◌, ◌≤◌, ◌-◌}
 use mathlib.Core.Path.{◌≡◌}
 use lib.ListN.{length}
-use Rattle.text_bytes.proofs.Laws.{Filled, left, text_none, text_byte, text_all}
-use borrow.Author.Rules.{rules}
+use Rattle.text_bytes.proofs.Laws.{Filled, left}
 use Rattle.text_bytes.proofs.append.Given as goal
 
 abbrev pub invariant-loop-i : goal.invariant-loop-i

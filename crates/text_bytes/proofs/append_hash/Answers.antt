@@ -1,8 +1,4 @@
-use Prim.Native.Nat.{◌+◌, ◌*◌, ◌≤◌, ◌-◌}
-use mathlib.Core.Path.{◌≡◌}
-use lib.ListN.{length}
-use Rattle.text_bytes.proofs.Laws.{Filled, hex_left, hash_none, hash_byte, byte_end, put_kept, hash_all}
-use Rattle.text_rules.specs.Words.{hex}
+use Rattle.text_bytes.proofs.Laws.{hash_none, hash_byte, byte_end, put_kept, hash_all}
 use borrow.Author.Rules.{rules}
 use Rattle.text_bytes.proofs.append_hash.Goals as goal
 

@@ -1,9 +1,8 @@
 use Prim.Native.Nat.{◌+◌, ◌*◌, ◌≤◌, ◌-◌}
 use mathlib.Core.Path.{◌≡◌}
 use lib.ListN.{length}
-use Rattle.text_bytes.proofs.Laws.{Filled, hex_left, hash_none, hash_byte, byte_end, put_kept, hash_all}
+use Rattle.text_bytes.proofs.Laws.{Filled, hex_left}
 use Rattle.text_rules.specs.Words.{hex}
-use borrow.Author.Rules.{rules}
 use Rattle.text_bytes.proofs.append_hash.Given as goal
 
 abbrev pub invariant-loop-i : goal.invariant-loop-i

@@ -1,6 +1,4 @@
-use Prim.Native.Nat.{◌≤◌, ◌-◌}
-use lib.ListN.{length}
-use Rattle.text_bytes.proofs.Words.{Skipped, skipped_none, skipped_inside, skipped_next, skipped_room, skipped_put}
+use Rattle.text_bytes.proofs.Words.{skipped_none, skipped_inside, skipped_next, skipped_room, skipped_put}
 use borrow.Author.Rules.{rules}
 use Rattle.text_bytes.proofs.append_name.Goals as goal
 

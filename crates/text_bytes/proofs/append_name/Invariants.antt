@@ -1,7 +1,6 @@
 use Prim.Native.Nat.{◌≤◌, ◌-◌}
 use lib.ListN.{length}
-use Rattle.text_bytes.proofs.Words.{Skipped, skipped_none, skipped_inside, skipped_next, skipped_room, skipped_put}
-use borrow.Author.Rules.{rules}
+use Rattle.text_bytes.proofs.Words.{Skipped}
 use Rattle.text_bytes.proofs.append_name.Given as goal
 
 abbrev pub invariant-loop-k : goal.invariant-loop-k

@@ -1,9 +1,4 @@
-use Prim.Native.Nat.{◌+◌, ◌≤◌, ◌-◌}
-use mathlib.Core.Path.{◌≡◌}
-use lib.ListN.{length}
-use Rattle.text_bytes.specs.Names.{words_of, names_text}
-use Rattle.text_bytes.proofs.Laws.{Filled}
-use Rattle.text_bytes.proofs.Words.{names_left, names_none, names_word, names_all}
+use Rattle.text_bytes.proofs.Words.{names_none, names_word, names_all}
 use borrow.Author.Rules.{rules}
 use Rattle.text_bytes.proofs.append_names.Goals as goal
 

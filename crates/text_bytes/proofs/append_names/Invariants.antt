@@ -3,8 +3,7 @@ use mathlib.Core.Path.{◌≡◌}
 use lib.ListN.{length}
 use Rattle.text_bytes.specs.Names.{words_of, names_text}
 use Rattle.text_bytes.proofs.Laws.{Filled}
-use Rattle.text_bytes.proofs.Words.{names_left, names_none, names_word, names_all}
-use borrow.Author.Rules.{rules}
+use Rattle.text_bytes.proofs.Words.{names_left}
 use Rattle.text_bytes.proofs.append_names.Given as goal
 
 abbrev pub invariant-loop-i : goal.invariant-loop-i

@@ -1,7 +1,5 @@
-use Prim.Native.Nat.{◌≤◌, ◌-◌}
-use lib.ListN.{length}
-use Rattle.text_bytes.proofs.Laws.{GoesOn, goes_start}
-use Rattle.text_bytes.proofs.Names.{word_length, name_next, name_end, name_all}
+use Rattle.text_bytes.proofs.Laws.{goes_start}
+use Rattle.text_bytes.proofs.Names.{name_next, name_end, name_all}
 use borrow.Author.Rules.{rules}
 use Rattle.text_bytes.proofs.word_end.Goals as goal
 

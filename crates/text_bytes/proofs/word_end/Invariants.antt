@@ -1,8 +1,7 @@
 use Prim.Native.Nat.{◌≤◌, ◌-◌}
 use lib.ListN.{length}
-use Rattle.text_bytes.proofs.Laws.{GoesOn, goes_start}
-use Rattle.text_bytes.proofs.Names.{word_length, name_next, name_end, name_all}
-use borrow.Author.Rules.{rules}
+use Rattle.text_bytes.proofs.Laws.{GoesOn}
+use Rattle.text_bytes.proofs.Names.{word_length}
 use Rattle.text_bytes.proofs.word_end.Given as goal
 
 abbrev pub invariant-loop-i : goal.invariant-loop-i

@@ -1,11 +1,7 @@
 use Prim.Native.Nat.{◌+◌, ◌-◌, ◌≤◌}
 use lib.ListN.{length}
-use Rattle.text_acl.proofs.Reading.{LinesJudged, judged_bad, judged_line}
-use Rattle.text_acl.proofs.Within.{within_ends}
+use Rattle.text_acl.proofs.Reading.{LinesJudged}
 use Rattle.text_states.specs.States.{state_as, kind_from}
-use Rattle.text_files.proofs.Laws.{good_is, good_state, judged_start, missing_line, none_missing}
-use Rattle.text_files.proofs.Unended.{any_unended}
-use borrow.Author.Rules.{rules}
 use Rattle.text_files.proofs.judge_lines.Given as goal
 
 abbrev pub invariant-loop-at : goal.invariant-loop-at

@@ -1,10 +1,5 @@
-use Prim.Native.Nat.{◌-◌, ◌≤◌}
-use mathlib.Core.Path.{◌≡◌}
-use lib.ListN.{length}
-use Rattle.text_rules.specs.Words.{text_by}
 use Rattle.text_rules.specs.OtherWords.{record_line}
-use Rattle.text_acl.proofs.Writing.{lines_from, lines_none, line_room, line_put, lines_all}
-use Rattle.text_bytes.proofs.Laws.{Filled}
+use Rattle.text_acl.proofs.Writing.{lines_none, line_room, line_put, lines_all}
 use borrow.Author.Rules.{rules}
 use Rattle.text_files.proofs.put_lines.Goals as goal
 

@@ -1,10 +1,5 @@
-use Prim.Native.Nat.{◌-◌, ◌≤◌}
-use mathlib.Core.Path.{◌≡◌}
-use lib.ListN.{length}
 use Rattle.text_rules.specs.OtherDecoding.{record_of}
-use Rattle.text_rules.specs.Listing.{bytes_by}
-use Rattle.text_bytes.proofs.Laws.{Filled}
-use Rattle.text_acl.proofs.Reading.{records_left, records_filled, record_room, record_filled, records_all}
+use Rattle.text_acl.proofs.Reading.{records_filled, record_room, record_filled, records_all}
 use Rattle.text_files.proofs.Laws.{record_length}
 use borrow.Author.Rules.{rules}
 use Rattle.text_files.proofs.put_records.Goals as goal

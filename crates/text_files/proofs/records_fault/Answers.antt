@@ -1,9 +1,8 @@
-use Prim.Native.Nat.{◌-◌, ◌≤◌}
-use mathlib.Core.Path.{◌≡◌, refl}
-use lib.ListN.{length}
-use Rattle.rules.specs.Basics.{records, records_from, scan}
+use mathlib.Core.Bool.{not}
+use mathlib.Core.Path.{refl, ap}
+use Rattle.rules.specs.Basics.{records_from}
 use Rattle.rules.proofs.Rows.{scan_done}
-use Rattle.text_states.specs.States.{state_fault, state_after, state_end, state_as}
+use Rattle.text_states.specs.States.{state_as}
 use Rattle.text_files.proofs.Laws.{records_stop, records_next}
 use borrow.Author.Rules.{rules}
 use Rattle.text_files.proofs.records_fault.Goals as goal
@@ -16,7 +15,7 @@ pub returns-then-not-is_sound : goal.returns-then-not-is_sound
 returns-then-not-is_sound c = search (rules, records_stop)
 
 pub loop-at-preserved : goal.loop-at-preserved
-loop-at-preserved c =    (search rules, records_next _ _ _ (state_as c.next-read.result.state) _ c.next-read.result.found _ c.loop-at.invariant.1 c.loop-at-test.true c.next-read.ensures c.is_sound.ensures c.if-not-is_sound.false)
+loop-at-preserved c = (search rules, records_next _ _ _ (state_as c.next-read.result.state) _ c.next-read.result.found _ c.loop-at.invariant.1 c.loop-at-test.true c.next-read.ensures c.is_sound.ensures (ap not c.if-not-is_sound.false))
 
 pub returns : goal.returns
 returns c = search (rules, scan_done)

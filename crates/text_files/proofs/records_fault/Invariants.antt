@@ -1,11 +1,8 @@
 use Prim.Native.Nat.{◌-◌, ◌≤◌}
-use mathlib.Core.Path.{◌≡◌, refl}
+use mathlib.Core.Path.{◌≡◌}
 use lib.ListN.{length}
 use Rattle.rules.specs.Basics.{records, records_from, scan}
-use Rattle.rules.proofs.Rows.{scan_done}
 use Rattle.text_states.specs.States.{state_fault, state_after, state_end, state_as}
-use Rattle.text_files.proofs.Laws.{records_stop, records_next}
-use borrow.Author.Rules.{rules}
 use Rattle.text_files.proofs.records_fault.Given as goal
 
 abbrev pub invariant-loop-at : goal.invariant-loop-at

@@ -1,5 +1,4 @@
 use Rattle.text_lexer.proofs.Taking.{byte_here}
-use Rattle.std.proofs.Common.{rules}
 use Rattle.text_lexer.proofs.byte_here.Goals as goal
 
 pub returns : goal.returns

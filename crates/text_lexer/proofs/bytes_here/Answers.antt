@@ -1,7 +1,5 @@
-use Rattle.std.proofs.Common.{◌≡◌, ◌+◌, ◌*◌, ◌≤◌, length, drop, rules}
-use Rattle.text_rules.specs.OtherDecoding.{bytes_here}
-use Rattle.text_bytes.proofs.Laws.{Filled}
-use Rattle.text_lexer.proofs.Laws.{bytes_left, here_none, here_byte, here_all}
+use Rattle.std.proofs.Common.{rules}
+use Rattle.text_lexer.proofs.Laws.{here_none, here_byte, here_all}
 use Rattle.text_lexer.proofs.bytes_here.Goals as goal
 
 pub loop-k-init : goal.loop-k-init

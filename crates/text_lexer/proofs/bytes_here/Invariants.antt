@@ -1,7 +1,7 @@
-use Rattle.std.proofs.Common.{◌≡◌, ◌+◌, ◌*◌, ◌≤◌, length, drop, rules}
+use Rattle.std.proofs.Common.{◌≡◌, ◌+◌, ◌*◌, ◌≤◌, length, drop}
 use Rattle.text_rules.specs.OtherDecoding.{bytes_here}
 use Rattle.text_bytes.proofs.Laws.{Filled}
-use Rattle.text_lexer.proofs.Laws.{bytes_left, here_none, here_byte, here_all}
+use Rattle.text_lexer.proofs.Laws.{bytes_left}
 use Rattle.text_lexer.proofs.bytes_here.Given as goal
 
 abbrev pub invariant-loop-k : goal.invariant-loop-k

@@ -1,5 +1,4 @@
 use Rattle.text_lexer.proofs.Taking.{hash_here_lem}
-use Rattle.std.proofs.Common.{rules}
 use Rattle.text_lexer.proofs.hash_here.Goals as goal
 
 pub returns : goal.returns

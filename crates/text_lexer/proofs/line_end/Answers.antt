@@ -1,6 +1,4 @@
-use Rattle.std.proofs.Common.{◌-◌, ◌≤◌, length, rules}
-use Rattle.text_rules.specs.Listing.{line_length}
-use Rattle.text_bytes.proofs.Laws.{GoesOn}
+use Rattle.std.proofs.Common.{rules}
 use Rattle.text_lexer.proofs.Laws.{skipped_goes, line_next, line_end, line_all}
 use Rattle.text_lexer.proofs.line_end.Goals as goal
 

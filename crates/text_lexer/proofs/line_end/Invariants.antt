@@ -1,7 +1,6 @@
-use Rattle.std.proofs.Common.{◌-◌, ◌≤◌, length, rules}
+use Rattle.std.proofs.Common.{◌-◌, ◌≤◌, length}
 use Rattle.text_rules.specs.Listing.{line_length}
 use Rattle.text_bytes.proofs.Laws.{GoesOn}
-use Rattle.text_lexer.proofs.Laws.{skipped_goes, line_next, line_end, line_all}
 use Rattle.text_lexer.proofs.line_end.Given as goal
 
 abbrev pub invariant-loop-i : goal.invariant-loop-i

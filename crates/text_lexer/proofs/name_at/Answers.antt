@@ -1,5 +1,5 @@
-use Rattle.std.proofs.Common.{◌-◌, ◌≤◌, length, rules}
-use Rattle.text_lexer.proofs.Laws.{Searched, searched_none, searched_here, searched_next, searched_all}
+use Rattle.std.proofs.Common.{rules}
+use Rattle.text_lexer.proofs.Laws.{searched_none, searched_here, searched_next, searched_all}
 use Rattle.text_lexer.proofs.name_at.Goals as goal
 
 pub loop-i-init : goal.loop-i-init

@@ -1,5 +1,5 @@
-use Rattle.std.proofs.Common.{◌-◌, ◌≤◌, length, rules}
-use Rattle.text_lexer.proofs.Laws.{Searched, searched_none, searched_here, searched_next, searched_all}
+use Rattle.std.proofs.Common.{◌-◌, ◌≤◌, length}
+use Rattle.text_lexer.proofs.Laws.{Searched}
 use Rattle.text_lexer.proofs.name_at.Given as goal
 
 abbrev pub invariant-loop-i : goal.invariant-loop-i

@@ -1,5 +1,5 @@
-use Rattle.std.proofs.Common.{◌-◌, ◌≤◌, rules}
-use Rattle.text_lexer.proofs.Laws.{Counted, counted_none, counted_low, counted_high, counted_more, counted_all}
+use Rattle.std.proofs.Common.{rules}
+use Rattle.text_lexer.proofs.Laws.{counted_none, counted_low, counted_high, counted_more, counted_all}
 use Rattle.text_lexer.proofs.number_at.Goals as goal
 
 pub loop-i-init : goal.loop-i-init

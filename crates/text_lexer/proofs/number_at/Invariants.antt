@@ -1,5 +1,5 @@
-use Rattle.std.proofs.Common.{◌-◌, ◌≤◌, rules}
-use Rattle.text_lexer.proofs.Laws.{Counted, counted_none, counted_low, counted_high, counted_more, counted_all}
+use Rattle.std.proofs.Common.{◌-◌, ◌≤◌}
+use Rattle.text_lexer.proofs.Laws.{Counted}
 use Rattle.text_lexer.proofs.number_at.Given as goal
 
 abbrev pub invariant-loop-i : goal.invariant-loop-i

@@ -1,7 +1,5 @@
-use Rattle.std.proofs.Common.{◌≡◌, ◌+◌, ◌-◌, ◌≤◌, length, rules}
-use Rattle.text_rules.specs.Decoding.{unhex}
-use Rattle.text_bytes.proofs.Laws.{Filled}
-use Rattle.text_lexer.proofs.Laws.{hash_left, hash_none, hash_byte, hash_all}
+use Rattle.std.proofs.Common.{rules}
+use Rattle.text_lexer.proofs.Laws.{hash_none, hash_byte, hash_all}
 use Rattle.text_lexer.proofs.put_inside.Goals as goal
 
 pub loop-k-init : goal.loop-k-init

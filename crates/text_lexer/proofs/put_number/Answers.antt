@@ -1,7 +1,5 @@
-use Rattle.std.proofs.Common.{◌≡◌, ◌+◌, ◌≤◌, length, rules}
-use Rattle.text_rules.specs.Decoding.{bytes_of}
-use Rattle.text_bytes.proofs.Laws.{Filled}
-use Rattle.text_lexer.proofs.Laws.{number_left, number_none, number_byte, number_all}
+use Rattle.std.proofs.Common.{rules}
+use Rattle.text_lexer.proofs.Laws.{number_none, number_byte, number_all}
 use Rattle.text_lexer.proofs.put_number.Goals as goal
 
 pub loop-k-init : goal.loop-k-init

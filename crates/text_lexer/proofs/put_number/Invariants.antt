@@ -1,7 +1,7 @@
-use Rattle.std.proofs.Common.{◌≡◌, ◌+◌, ◌≤◌, length, rules}
+use Rattle.std.proofs.Common.{◌≡◌, ◌+◌, ◌≤◌, length}
 use Rattle.text_rules.specs.Decoding.{bytes_of}
 use Rattle.text_bytes.proofs.Laws.{Filled}
-use Rattle.text_lexer.proofs.Laws.{number_left, number_none, number_byte, number_all}
+use Rattle.text_lexer.proofs.Laws.{number_left}
 use Rattle.text_lexer.proofs.put_number.Given as goal
 
 abbrev pub invariant-loop-k : goal.invariant-loop-k

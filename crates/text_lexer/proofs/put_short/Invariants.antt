@@ -1,7 +1,7 @@
-use Rattle.std.proofs.Common.{◌≡◌, ◌+◌, ◌-◌, ◌≤◌, length, rules}
+use Rattle.std.proofs.Common.{◌≡◌, ◌+◌, ◌-◌, ◌≤◌, length}
 use Rattle.text_rules.specs.Decoding.{unhex}
 use Rattle.text_bytes.proofs.Laws.{Filled}
-use Rattle.text_lexer.proofs.Laws.{hash_left, hash_none, hash_byte, hash_all}
+use Rattle.text_lexer.proofs.Laws.{hash_left}
 use Rattle.text_lexer.proofs.put_short.Given as goal
 
 abbrev pub invariant-loop-k : goal.invariant-loop-k

@@ -1,5 +1,4 @@
-use Rattle.std.proofs.Common.{◌-◌, length, rules}
-use Rattle.text_lexer.specs.Telling.{Skipped}
+use Rattle.std.proofs.Common.{rules}
 use Rattle.text_lexer.proofs.Laws.{skipped_none, skipped_block}
 use Rattle.text_lexer.proofs.skip_blocks.Goals as goal
 

@@ -1,6 +1,5 @@
-use Rattle.std.proofs.Common.{◌-◌, length, rules}
+use Rattle.std.proofs.Common.{◌-◌, length}
 use Rattle.text_lexer.specs.Telling.{Skipped}
-use Rattle.text_lexer.proofs.Laws.{skipped_none, skipped_block}
 use Rattle.text_lexer.proofs.skip_blocks.Given as goal
 
 abbrev pub invariant-loop-i : goal.invariant-loop-i

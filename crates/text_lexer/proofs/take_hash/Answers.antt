@@ -1,5 +1,4 @@
 use Rattle.text_lexer.proofs.Taking.{hash_told, hash_not}
-use Rattle.std.proofs.Common.{rules}
 use Rattle.text_lexer.proofs.take_hash.Goals as goal
 
 pub returns-then-word_stands : goal.returns-then-word_stands

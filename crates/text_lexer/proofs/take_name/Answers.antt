@@ -1,5 +1,4 @@
 use Rattle.text_lexer.proofs.Taking.{name_told}
-use Rattle.std.proofs.Common.{rules}
 use Rattle.text_lexer.proofs.take_name.Goals as goal
 
 pub returns : goal.returns

@@ -1,5 +1,4 @@
 use Rattle.text_lexer.proofs.Taking.{word_told, word_not}
-use Rattle.std.proofs.Common.{rules}
 use Rattle.text_lexer.proofs.take_word.Goals as goal
 
 pub returns-then-word_stands : goal.returns-then-word_stands

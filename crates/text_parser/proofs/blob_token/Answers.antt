@@ -3,7 +3,6 @@ use Rattle.rules.specs.Basics.{ascii}
 use Rattle.text_rules.specs.Decoding.{has_word, after_word, after_hash, hash_after}
 use Rattle.text_lexer.specs.Telling.{past_word, past_hash, hash_in}
 use Rattle.text_parser.proofs.Laws.{token_told}
-use borrow.Author.Rules.{rules}
 use Rattle.text_parser.proofs.blob_token.Goals as goal
 
 pub returns : goal.returns

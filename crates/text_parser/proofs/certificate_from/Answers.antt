@@ -2,7 +2,6 @@ use Rattle.rules.specs.Basics.{ascii}
 use Rattle.text_rules.specs.Decoding.{has_word, number_after}
 use Rattle.text_lexer.specs.Telling.{number_in}
 use Rattle.text_parser.proofs.Laws.{certificate_put}
-use borrow.Author.Rules.{rules}
 use Rattle.text_parser.proofs.certificate_from.Goals as goal
 
 pub returns : goal.returns

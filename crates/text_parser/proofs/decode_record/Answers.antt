@@ -1,6 +1,5 @@
 use Rattle.rules.specs.Basics.{ascii}
 use Rattle.text_parser.proofs.Laws.{told_1, told_2, told_3, told_4, told_5, told_6, told_7, told_8, told_9, told_10}
-use borrow.Author.Rules.{rules}
 use Rattle.text_parser.proofs.decode_record.Goals as goal
 
 pub returns-then-word_stands : goal.returns-then-word_stands

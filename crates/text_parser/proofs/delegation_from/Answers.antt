@@ -2,7 +2,6 @@ use Rattle.rules.specs.Basics.{ascii}
 use Rattle.text_rules.specs.Decoding.{has_word, after_hash, hash_after}
 use Rattle.text_lexer.specs.Telling.{past_hash, hash_in}
 use Rattle.text_parser.proofs.Laws.{delegation_put}
-use borrow.Author.Rules.{rules}
 use Rattle.text_parser.proofs.delegation_from.Goals as goal
 
 pub returns : goal.returns

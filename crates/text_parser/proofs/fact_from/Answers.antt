@@ -1,6 +1,5 @@
 use Rattle.rules.specs.Basics.{ascii}
 use Rattle.text_parser.proofs.Laws.{fact_put}
-use borrow.Author.Rules.{rules}
 use Rattle.text_parser.proofs.fact_from.Goals as goal
 
 pub returns : goal.returns

@@ -3,7 +3,6 @@ use Rattle.rules.specs.Basics.{ascii}
 use Rattle.text_rules.specs.Decoding.{has_word, after_word}
 use Rattle.text_lexer.specs.Telling.{past_word}
 use Rattle.text_parser.proofs.Laws.{bits_told}
-use borrow.Author.Rules.{rules}
 use Rattle.text_parser.proofs.policy_bits.Goals as goal
 
 pub returns : goal.returns

@@ -2,7 +2,6 @@ use Rattle.rules.specs.Basics.{ascii}
 use Rattle.text_rules.specs.Decoding.{has_word, after_number, number_after}
 use Rattle.text_lexer.specs.Telling.{past_number, number_in}
 use Rattle.text_parser.proofs.Laws.{policy_end_put}
-use borrow.Author.Rules.{rules}
 use Rattle.text_parser.proofs.policy_end.Goals as goal
 
 pub returns : goal.returns

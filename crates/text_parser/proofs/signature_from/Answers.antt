@@ -1,6 +1,5 @@
 use Rattle.rules.specs.Basics.{ascii}
 use Rattle.text_parser.proofs.Laws.{signature_put}
-use borrow.Author.Rules.{rules}
 use Rattle.text_parser.proofs.signature_from.Goals as goal
 
 pub returns : goal.returns

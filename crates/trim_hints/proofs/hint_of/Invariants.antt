@@ -2,8 +2,7 @@ use Prim.Native.Nat.{◌≤◌, ◌-◌}
 use lib.ListN.{length}
 use Rattle.rules.specs.Basics.{records}
 use Rattle.trim_hints.specs.Hinting.{places_at}
-use Rattle.trim_hints.proofs.Hints.{Hinted, sound_room, hint_first, hint_next, hint_group, hint_end}
-use borrow.Author.Rules.{rules}
+use Rattle.trim_hints.proofs.Hints.{Hinted}
 use Rattle.trim_hints.proofs.hint_of.Given as goal
 
 abbrev pub invariant-loop-i : goal.invariant-loop-i

@@ -4,9 +4,7 @@ use lib.ListN.{length}
 use Rattle.rules.specs.Basics.{records, joined, records_from}
 use Rattle.rules.specs.Trim.{hints_from, trim_hints}
 use Rattle.trim_hints.specs.Hinting.{SoundFrom}
-use Rattle.trim_hints.proofs.Written.{Writing, writing_kept, writing_inside}
-use Rattle.trim_hints.proofs.Hints.{sound_first, sound_group, sound_other, hints_first, hints_skip, hints_room, hints_next, hints_done}
-use borrow.Author.Rules.{rules}
+use Rattle.trim_hints.proofs.Written.{Writing}
 use Rattle.trim_hints.proofs.write_hints.Given as goal
 
 abbrev pub invariant-loop-at : goal.invariant-loop-at

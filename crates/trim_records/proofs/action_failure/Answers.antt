@@ -1,6 +1,5 @@
 use mathlib.Core.Option.{none}
 use Rattle.trim_records.proofs.Laws.{failure_found}
-use borrow.Author.Rules.{rules}
 use Rattle.trim_records.proofs.action_failure.Goals as goal
 
 pub returns : goal.returns

@@ -1,5 +1,4 @@
 use Rattle.trim_records.proofs.Laws.{kept_bit_lem}
-use borrow.Author.Rules.{rules}
 use Rattle.trim_records.proofs.bit_kept.Goals as goal
 
 pub returns : goal.returns

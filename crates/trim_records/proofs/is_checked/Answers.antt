@@ -1,7 +1,6 @@
 use mathlib.Core.Path.{ap}
 use mathlib.Core.Bool.{not}
 use Rattle.rules.specs.Trim.{is_checked}
-use borrow.Author.Rules.{rules}
 use Rattle.trim_records.proofs.is_checked.Goals as goal
 
 pub returns : goal.returns

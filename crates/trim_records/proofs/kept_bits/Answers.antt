@@ -1,7 +1,4 @@
-use Prim.Native.Nat.{◌≤◌, ◌-◌}
-use mathlib.Core.Path.{◌≡◌}
-use Rattle.bundle_facts.specs.Found.{policy_as}
-use Rattle.trim_records.proofs.Laws.{kept_to, bits_none, bits_room, bits_skip, bits_more, bits_done}
+use Rattle.trim_records.proofs.Laws.{bits_none, bits_room, bits_skip, bits_more, bits_done}
 use borrow.Author.Rules.{rules}
 use Rattle.trim_records.proofs.kept_bits.Goals as goal
 

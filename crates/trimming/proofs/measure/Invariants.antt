@@ -1,8 +1,7 @@
 use Prim.Native.Nat.{◌≤◌, ◌-◌}
 use lib.ListN.{length}
 use Rattle.rules.specs.Basics.{records}
-use Rattle.trimming.proofs.Laws.{Measuring, measure_start, measure_next, measure_acl, measure_hints}
-use borrow.Author.Rules.{rules}
+use Rattle.trimming.proofs.Laws.{Measuring}
 use Rattle.trimming.proofs.measure.Given as goal
 
 abbrev pub invariant-loop-at : goal.invariant-loop-at

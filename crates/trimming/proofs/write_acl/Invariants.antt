@@ -3,9 +3,7 @@ use mathlib.Core.Path.{◌≡◌}
 use lib.ListN.{length}
 use Rattle.rules.specs.Basics.{records, joined, records_from}
 use Rattle.rules.specs.Trim.{trimmed_from, trimmed_acl}
-use Rattle.trim_hints.proofs.Written.{Writing, writing_kept, writing_inside}
-use Rattle.trimming.proofs.Laws.{acl_first, acl_room, acl_next, acl_done}
-use borrow.Author.Rules.{rules}
+use Rattle.trim_hints.proofs.Written.{Writing}
 use Rattle.trimming.proofs.write_acl.Given as goal
 
 abbrev pub invariant-loop-at : goal.invariant-loop-at

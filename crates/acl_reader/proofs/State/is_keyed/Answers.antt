@@ -1,5 +1,4 @@
 use Rattle.rules.specs.Acl.{keyed}
-use borrow.Author.Rules.{rules}
 use Rattle.acl_reader.proofs.State.is_keyed.Goals as goal
 
 pub returns : goal.returns

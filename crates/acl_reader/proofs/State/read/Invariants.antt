@@ -1,11 +1,9 @@
 use Prim.Native.Nat.{◌≤◌, ◌-◌}
-use mathlib.Core.Path.{◌≡◌, ◌∙◌, refl}
+use mathlib.Core.Path.{◌≡◌}
 use lib.ListN.{length}
 use Rattle.rules.specs.Sizes.{limits_max}
 use Rattle.rules.specs.Basics.{records, records_from}
 use Rattle.acl_reader.specs.Places.{acl_state_as, reading}
-use Rattle.acl_reader.proofs.Laws.{was_true, acl_bad, acl_full, acl_open, acl_sound_lem, read_stop, read_next, read_done}
-use borrow.Author.Rules.{rules}
 use Rattle.acl_reader.proofs.State.read.Given as goal
 
 abbrev pub invariant-loop-at : goal.invariant-loop-at

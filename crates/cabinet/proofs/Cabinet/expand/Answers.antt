@@ -4,11 +4,10 @@ use Rattle.rules.specs.Gate.{expand}
 use Rattle.rules.specs.Cabinet.{cabinet_expand}
 use Rattle.gate.proofs.Settling.{settles_outcome}
 use Rattle.cabinet.proofs.Laws.{slot_called}
-use borrow.Author.Rules.{rules}
 use Rattle.cabinet.proofs.Cabinet.expand.Goals as goal
 
 pub returns : goal.returns
 unfolding cabinet_expand
-returns c =    let a = c.args in
-    slot_called a.t1.slots _ a.t1.counters a.slot _ _ (λ (l : Ledger). expand l a.km0.now a.acl.now a.req.now a.new.now) _ _ c.is_slot-there.ensures c.slot_index-at.ensures.1 c.counts_of-counts.ensures.0
+returns c = let a = c.args in
+    slot_called a.self.slots _ a.self.counters a.slot _ _ (λ (l : Ledger). expand l a.km0.now a.acl.now a.req.now a.new.now) _ _ c.is_slot-there.ensures c.slot_index-at.ensures.1 c.counts_of-counts.ensures.0
     (settles_outcome _ _ _ _ _ _ _ _ _ _ c.expand_in-reply.ensures refl c.zero_counts.ensures c.last_after-after.ensures c.time.ensures) c.hand_back.ensures

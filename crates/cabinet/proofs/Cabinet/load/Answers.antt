@@ -14,6 +14,6 @@ returns-then-slot-ge-SLOTS c = slot_refused _ c.args.slot _ _ (search rules) c.r
 
 pub returns : goal.returns
 unfolding cabinet_load
-returns c =    let a = c.args in
-    slot_taken (cabinet_as a.t1) a.slot (load (ledger_at (cabinet_as a.t1) a.slot) a.time) _ (search rules)
-    (handed a.t1.slots a.t1.counters a.t1.counters a.t1.counters a.slot (record { counts = replicate groups_max 0; loaded = a.time; last = a.time }) done refl)
+returns c = let a = c.args in
+    slot_taken (cabinet_as a.self) a.slot (load (ledger_at (cabinet_as a.self) a.slot) a.time) _ (search rules)
+    (handed a.self.slots a.self.counters a.self.counters a.self.counters a.slot (record { counts = replicate groups_max 0; loaded = a.time; last = a.time }) done refl)

@@ -4,11 +4,10 @@ use Rattle.rules.specs.Gate.{request}
 use Rattle.rules.specs.Cabinet.{cabinet_request}
 use Rattle.gate.proofs.Settling.{settles_outcome}
 use Rattle.cabinet.proofs.Laws.{slot_called}
-use borrow.Author.Rules.{rules}
 use Rattle.cabinet.proofs.Cabinet.request.Goals as goal
 
 pub returns : goal.returns
 unfolding cabinet_request
-returns c =    let a = c.args in
-    slot_called a.t1.slots _ a.t1.counters a.slot _ _ (λ (l : Ledger). request l a.km0.now a.acl.now a.req.now) _ _ c.is_slot-there.ensures c.slot_index-at.ensures.1 c.counts_of-counts.ensures.0
+returns c = let a = c.args in
+    slot_called a.self.slots _ a.self.counters a.slot _ _ (λ (l : Ledger). request l a.km0.now a.acl.now a.req.now) _ _ c.is_slot-there.ensures c.slot_index-at.ensures.1 c.counts_of-counts.ensures.0
     (settles_outcome _ _ _ _ _ _ _ _ _ _ c.request_in-reply.ensures refl c.charge_count.ensures.1 c.last_after-after.ensures c.time.ensures) c.hand_back.ensures

@@ -1,6 +1,5 @@
 use Rattle.gate.proofs.Settling.{tables_charged}
-use borrow.Author.Rules.{rules}
 use Rattle.gate.proofs.Ledger.charge.Goals as goal
 
 pub returns : goal.returns
-returns c =    tables_charged _ _ _ _ _ _ _ c.charge_counters.ensures c.charge_count.ensures.1 c.last_after.ensures
+returns c = tables_charged _ _ _ _ _ _ _ c.charge_counters.ensures c.charge_count.ensures.1 c.last_after.ensures

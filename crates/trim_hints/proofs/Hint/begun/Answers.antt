@@ -1,7 +1,6 @@
 use mathlib.Core.Path.{refl}
 use Rattle.rules.specs.Written.{hint_bytes}
 use Rattle.trim_hints.specs.Hinting.{begun_hint}
-use borrow.Author.Rules.{rules}
 use Rattle.trim_hints.proofs.Hint.begun.Goals as goal
 
 pub returns : goal.returns

@@ -1,5 +1,0 @@
-use borrow.Author.Rules.{rules}
-use Rattle.files.proofs.first_fault.Goals as goal
-
-pub returns-in-Refused : goal.returns-in-Refused
-returns-in-Refused c = rw c.a-1.given.1
