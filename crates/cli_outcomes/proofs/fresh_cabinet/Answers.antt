@@ -1,7 +1,6 @@
 use mathlib.Core.Path.{ap}
 use Rattle.rules.specs.Gate.{done}
 use Rattle.rules.specs.Cabinet.{Cabinet, CabinetOutcome}
-use borrow.Author.Rules.{rules}
 use Rattle.cli_outcomes.proofs.fresh_cabinet.Goals as goal
 
 pub returns : goal.returns

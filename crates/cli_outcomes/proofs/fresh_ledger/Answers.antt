@@ -1,7 +1,6 @@
 use mathlib.Core.Path.{ap}
 use Rattle.rules.specs.Ledger.{Ledger}
 use Rattle.rules.specs.Gate.{done, Outcome}
-use borrow.Author.Rules.{rules}
 use Rattle.cli_outcomes.proofs.fresh_ledger.Goals as goal
 
 pub returns : goal.returns

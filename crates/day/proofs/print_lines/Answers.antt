@@ -1,5 +1,3 @@
-use Prim.Native.Nat.{◌≤◌, ◌+◌, ◌-◌}
-use lib.ListN.{length}
 use borrow.Author.Rules.{rules}
 use Rattle.day.proofs.print_lines.Goals as goal
 
