@@ -1,5 +1,4 @@
 use Rattle.replay_files.proofs.Laws.{filled}
-use borrow.Author.Rules.{rules}
 use Rattle.replay_files.proofs.desk_call.Goals as goal
 
 pub slice_bounds-print-end : goal.slice_bounds-print-end
