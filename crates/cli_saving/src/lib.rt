@@ -201,7 +201,7 @@ fn follow(rt: &HostRuntime, n: usize, path: &mut [u8]) -> io::Result<usize>
     Ok(text_bytes::append(&target[..m], kept, path))
 }
 
-// Whether the file that argument i names, or one that it leads to, has a temporary file. An error where that cannot be told.
+// Whether the file that argument i names, or one that it leads to, has a temporary file. An error where that cannot be decided.
 fn is_prepared(rt: &HostRuntime, i: usize) -> io::Result<bool> {
     let mut path = [0u8; PATH];
     let mut n = argument_or_none(rt, i, &mut path);
@@ -257,14 +257,14 @@ fn leads_to(rt: &HostRuntime, i: usize, j: usize) -> io::Result<bool> {
     }
 }
 
-// Prints why the file that argument i names cannot be told from another.
+// Prints why the file that argument i names cannot be distinguished from another.
 fn say_unknown(rt: &HostRuntime, i: usize, why: io::Error) {
     let mut path = [0u8; PATH];
     let n = argument_or_none(rt, i, &mut path);
     cli_arguments::fail(rt, prefix(&path, n), why);
 }
 
-// Whether argument j names the very file that was prepared for argument i, or that cannot be told. If so, nothing is written.
+// Whether argument j names the very file that was prepared for argument i, or that this cannot be decided. If so, nothing is written.
 pub fn is_same(rt: &HostRuntime, i: usize, j: usize) -> bool {
     match leads_to(rt, i, j) {
         Ok(false) => return false,

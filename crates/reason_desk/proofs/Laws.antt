@@ -1,29 +1,38 @@
 -- What the code's answers say of the place of a verdict.
-use Prim.Native.Nat.{ℕ, ◌+◌, ◌-◌, ◌≤◌, ◌<◌}
+use Prim.Native.Nat.{ℕ, ◌+◌, ◌-◌, ◌*◌, ◌%◌, ◌≤◌, ◌<◌}
 use native.Mathlib.Omega.{arith}
 use mathlib.Core.Path.{◌≡◌, refl, sym, ◌∙◌, ap}
 use mathlib.Core.List.{List}
 use mathlib.Core.Option.{Option, none}
-use mathlib.Core.Bool.{Bool, true, false, not, ◌||◌}
-use borrow.Author.Tests.{eq-eqb, ne_eqb, lt-ltb, le-ltb, not-true, not-false}
+use mathlib.Core.Bool.{Bool, true, false, not, ◌&&◌, ◌||◌}
+use borrow.Author.Tests.{eq-eqb, ne_eqb, leb-true, lt-ltb, le-ltb, not-true, not-false}
 use lib.ListN.{length, get_or}
-use lib.Dec.{eqb, ltb, lit<}
+use lib.Dec.{eqb, ltb, leb, lit<}
+use Rattle.rules.specs.Sizes.{acl_records, bundle_records, record_bytes}
+use Rattle.rules.specs.Numbers.{bad_length, unknown_suite}
 use Rattle.std.specs.Prelude.{if◌then◌else◌}
-use Rattle.rules.specs.Basics.{Bytes, records, records_from}
-use Rattle.rules.specs.Acl.{Group}
-use Rattle.rules.specs.Bundle.{field, Policy, policy_record, policy_of}
-use Rattle.rules.specs.Desk.{Step, WV1, MSCV1, MSCV2, MSCV3, MSCV4, MSCV5, WBCV1, WBCV2, WBCV3, KGCV1, KGCV2, ACLV3, WB1, WB2, WB3, WB6, RB1, RB2, RB3, KV3, CSRL1, module_key, recovery_key}
+use Rattle.rules.specs.Basics.{Bytes, unless, or_next, first_fault, records, records_from, fits}
+use Rattle.rules.specs.Acl.{Group, acl_of, acl_fault}
+use Rattle.rules.specs.Suites.{is_suite}
+use Rattle.rules.specs.Bundle.{bundle_fault, field, Policy, policy_record, policy_of}
+use Rattle.rules.specs.Desk.{Step, WV1, MSCV1, MSCV2, MSCV3, MSCV4, MSCV5, WBCV1, WBCV2, WBCV3, KGCV1, KGCV2, ACLV3, WB1, WB2, WB3, WB6, RB1, RB2, RB3, KV3, CSRL1, module_key, recovery_key, Verdict, accepted, failed, faulty, desk_fault, verdict_unless, attested, desk}
+use Rattle.rules.proofs.Laws.{never}
 use Rattle.rules.proofs.Rows.{rows_at, rows_end, kind_at}
-use Rattle.desk_steps.specs.Steps.{step_number}
+use Rattle.desk_steps.specs.declared.Step as codeStep
+use Rattle.desk_steps.specs.Steps.{step_as, step_number}
+use Rattle.desk.specs.declared.Verdict as code
+use Rattle.desk.specs.declared.Verdict.TheVariants.{Failed}
+use Rattle.desk.specs.Replies.{DeskReply, accepting, failing, refusing, verdict_as, verdict_for}
+use Rattle.reason_files.specs.declared.FilePlace.{FilePlace}
 use Rattle.text_files.specs.declared.Kind.TheVariants.{Acl, Bundle}
-use Rattle.reason_files.specs.Places.{Place, place_in}
+use Rattle.reason_files.specs.Places.{Place, place_in, place_as}
 use Rattle.reason_steps.specs.declared.Defect.{Defect}
 use Rattle.reason_steps.specs.Defects.{named, step_flaw}
 use Rattle.reason_actions.specs.declared.Spot.{Spot}
 use Rattle.reason_actions.specs.Spots.{all_ones, at_fault, skipped, in_groups, spot_of}
 use Rattle.reason_desk.specs.declared.Site.{Site}
 use Rattle.reason_desk.specs.declared.VerdictPlace.{VerdictPlace}
-use Rattle.reason_desk.specs.VerdictPlaces.{looks_at_bundle, step_located, step_place, index_number, site_of, is_length, is_sound, policy_index, refusal_site, refusal_place}
+use Rattle.reason_desk.specs.VerdictPlaces.{looks_at_bundle, step_located, step_place, index_number, site_of, is_length, is_sound, policy_index, refusal_site, refusal_place, nowhere, place_for, verdict_place}
 
 -- The group and the action of a step.
 module _ (s : Step) (b : List Bytes) (gs : List Group) (n : ℕ) (is : n ≡ step_number s) (r : Spot) where

@@ -4,10 +4,12 @@ use mathlib.Core.List.{List, [], ◌∷◌, ◌++◌}
 use mathlib.Core.Option.{Option, none, some}
 use mathlib.Core.Bool.{Bool, true, false, not}
 use borrow.Author.Tests.{not-true, not-false}
-use Rattle.rules.specs.Basics.{unless, or_next, first_fault}
+use Rattle.rules.specs.Basics.{Bytes, unless, or_next, first_fault}
+use Rattle.desk_steps.specs.declared.Step as code
+use Rattle.desk_steps.specs.Steps.{step_as}
 use Rattle.desk_steps.proofs.Laws.{joined}
 use Rattle.reason_steps.specs.declared.Defect.{Defect}
-use Rattle.reason_steps.specs.Defects.{Flaw, signature_absent, signature_bad, field_absent, field_differs, named, first_named}
+use Rattle.reason_steps.specs.Defects.{Flaw, signature_absent, signature_bad, field_absent, field_differs, named, first_named, step_flaw}
 
 either_named : (x y : Option Flaw) → first_named (named x) (named y) ≡ named (or_next x y)
 either_named none y = refl

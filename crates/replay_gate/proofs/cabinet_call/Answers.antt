@@ -1,7 +1,6 @@
 use mathlib.Core.Path.{◌∙◌, ap}
 use Rattle.rules.specs.Cabinet.{CabinetOutcome}
 use Rattle.cabinet.specs.Kept.{cabinet_as}
-use borrow.Author.Rules.{rules}
 use Rattle.replay_gate.proofs.cabinet_call.Goals as goal
 
 pub returns : goal.returns

@@ -1,7 +1,6 @@
 use mathlib.Core.Path.{◌∙◌, ap}
 use Rattle.rules.specs.Gate.{Outcome}
 use Rattle.gate.specs.Outcomes.{ledger_as}
-use borrow.Author.Rules.{rules}
 use Rattle.replay_gate.proofs.ledger_call.Goals as goal
 
 pub returns : goal.returns

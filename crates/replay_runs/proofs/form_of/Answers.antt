@@ -1,5 +1,4 @@
 use Rattle.replay_runs.proofs.Laws.{form_is}
-use borrow.Author.Rules.{rules}
 use Rattle.replay_runs.proofs.form_of.Goals as goal
 
 pub returns : goal.returns

@@ -1,7 +1,6 @@
 use mathlib.Core.Path.{◌∙◌, ap}
 use Rattle.rules.specs.Runs.{RunOutcome}
 use Rattle.gate.specs.Outcomes.{ledger_as}
-use borrow.Author.Rules.{rules}
 use Rattle.replay_runs.proofs.run_call.Goals as goal
 
 pub returns : goal.returns

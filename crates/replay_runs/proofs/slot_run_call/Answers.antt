@@ -1,7 +1,6 @@
 use mathlib.Core.Path.{◌∙◌, ap}
 use Rattle.rules.specs.CabinetRuns.{CabinetRan}
 use Rattle.cabinet.specs.Kept.{cabinet_as}
-use borrow.Author.Rules.{rules}
 use Rattle.replay_runs.proofs.slot_run_call.Goals as goal
 
 pub returns : goal.returns

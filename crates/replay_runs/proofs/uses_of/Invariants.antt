@@ -2,8 +2,6 @@ use Prim.Native.Nat.{◌-◌, ◌≤◌}
 use mathlib.Core.Path.{◌≡◌}
 use lib.ListN.{length, take}
 use Rattle.replay_runs.specs.Letters.{uses_given}
-use Rattle.replay_runs.proofs.Laws.{uses_start, uses_next, uses_done}
-use borrow.Author.Rules.{rules}
 use Rattle.replay_runs.proofs.uses_of.Given as goal
 
 abbrev pub invariant-loop-i : goal.invariant-loop-i
