@@ -50,6 +50,11 @@ fn open_update(rt: &HostRuntime, path: &[u8]) -> io::Result<File> {
     how.open(rt, text)
 }
 
+// Whether what the open file has is on the disk, and closes it: nothing may be said while it is open, for it may have taken standard error's number.
+fn is_flushed(file: File) -> bool {
+    file.sync_all().is_ok()
+}
+
 // Whether a file may take this name: there is none yet, or a regular file that may be written. Devices, pipes and terminals have nothing to flush.
 fn is_replaceable(rt: &HostRuntime, path: &[u8]) -> bool {
     if let Ok(true) = is_link(rt, path) {
@@ -58,7 +63,7 @@ fn is_replaceable(rt: &HostRuntime, path: &[u8]) -> bool {
     }
     match open_update(rt, path) {
         Ok(file) => {
-            if file.sync_all().is_ok() {
+            if is_flushed(file) {
                 return true;
             }
             say_of(rt, path, b": not a regular file\n");

@@ -23,7 +23,7 @@ use Rattle.trim_records.proofs.Laws.{left_size, record_turn}
 use Rattle.trim_hints.proofs.Written.{Writing, writing_start, writing_room, writing_next, writing_done}
 use Rattle.trimming.specs.Trimming.{hint_size}
 
--- a record as code lends it has recordBytes bytes
+-- a record as code lends it has record_bytes bytes
 pub lent_whole : (s : Bytes) (at : ℕ) → record_bytes ≤ length s - at → length (lent_record s at) ≡ record_bytes
 lent_whole s at h = ap length (lent_record_lem s at) ∙ length-take-le record_bytes (drop at s) (omega (arith, length-drop at s))
 
