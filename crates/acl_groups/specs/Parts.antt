@@ -1,10 +1,11 @@
 -- Parts of an ACL: the offset of one of its groups, and that of a group's next action.
 use Rattle.std.specs.Prelude.{ℕ, ◌+◌, ◌-◌, ◌≤◌, ◌≡◌, List, [], ◌∷◌, Bool, false, ◌||◌, length, get_or, drop, eqb, if◌then◌else◌}
 use Rattle.std.proofs.Math.Option.{Option, none, some}
+use Rattle.std.specs.Prelude as option
 use Rattle.rules.specs.Sizes.{record_bytes}
 use Rattle.rules.specs.Basics.{Bytes, part, kind, records}
-use Rattle.rules.specs.Acl.{Limit, limits_of, BlobfileRule, blobfile_rule_of, blobfile_rule_next, Action, action_of, actions_of, Group, groups_of}
-use Rattle.rules.specs.Request.{Blobfile, blobfile_of, blobfile_next}
+use Rattle.rules.specs.Acl.{Limit, limits_of, blobfile_rule_of, blobfile_rule_next, Action, action_of, actions_of, Group, group_of, groups_of}
+use Rattle.rules.specs.Request.{blobfile_of, blobfile_next}
 
 -- "2 limit"; "Kind 15 does not count as an action." Neither begins a group or an action.
 abbrev pub passed_over : ℕ → Bool
@@ -26,6 +27,11 @@ group_offset g [] at end = end
 group_offset g (r ∷ rs) at end =
     if eqb (kind r) 1 then if eqb g 0 then at else group_offset (g - 1) rs (at + record_bytes) end
     else group_offset g rs (at + record_bytes) end
+
+-- what the code has found, if anything, as the definitions read it
+abbrev pub said : {A B : Type 0} → (A → B) → option.Option A → Option B
+said f option.None = none
+said f (option.Some x) = some (f x)
 
 -- Each answer below is one offset, or one part of the file: `exact`. The other facts follow from it, and are those that callers use.
 
@@ -82,24 +88,20 @@ pub record GroupBody (acl : Bytes) (g : ℕ) (r : Bytes) : Type 0 where
   pub exact : r ≡ drop record_bytes (from_group acl g)
   pub limits : limits_of (records r) ≡ first_limits (drop g (groups_of (records acl)))
 
--- a record of kind 15 as a part; none where the part is empty
-abbrev pub blobfile_rule_in : Bytes → Option BlobfileRule
-blobfile_rule_in [] = none
-blobfile_rule_in (b ∷ bs) = some (blobfile_rule_of (b ∷ bs))
+-- an action, or a group, by its own record and the file that follows it
+abbrev pub action_read : Bytes → Bytes → Action
+action_read r rest = action_of r (blobfile_rule_next (records rest))
 
--- the record of kind 15 of a request as a part; none where the part is empty
-abbrev pub blobfile_in : Bytes → Option Blobfile
-blobfile_in [] = none
-blobfile_in (b ∷ bs) = some (blobfile_of (b ∷ bs))
+abbrev pub group_read : Bytes → Bytes → Group
+group_read r rest = group_of r (records rest)
 
--- the first record of a file if it is of kind 15, else nothing
-unfoldable pub blobfile_part : List Bytes → Bytes
-blobfile_part [] = []
-blobfile_part (r ∷ rs) = if eqb (kind r) 15 then r else []
+-- the first record of a file if it is of kind 15
+unfoldable pub blobfile_record : List Bytes → Option Bytes
+blobfile_record [] = none
+blobfile_record (r ∷ rs) = if eqb (kind r) 15 then some r else none
 
--- the part that is answered: it says what blobfile says of the action, or of the request, before it
-pub record FilePart (rest r : Bytes) : Type 0 where
-  pub exact : r ≡ blobfile_part (records rest)
-  pub file : blobfile_rule_in r ≡ blobfile_rule_next (records rest)
-  pub blob : blobfile_in r ≡ blobfile_next (records rest)
-  pub whole : (length r ≡ 0 → ⊥) → length r ≡ record_bytes
+-- that record: what it says of the action, or of the request, before it
+pub record FileRecord (rest : Bytes) (r : option.Option Bytes) : Type 0 where
+  pub exact : said (λ b. b) r ≡ blobfile_record (records rest)
+  pub file : said blobfile_rule_of r ≡ blobfile_rule_next (records rest)
+  pub blob : said blobfile_of r ≡ blobfile_next (records rest)

@@ -1,10 +1,17 @@
 // The walk over an ACL: a group by its index, its records, its limits, its actions in order. Each function is total: it decodes any bytes, whether or not
-// the file was tested. Which kinds are neither a group nor an action is known here alone: other crates walk by next_part and next_action, or ask
-// is_passed_over.
+// the file was tested. Which kinds are neither a group nor an action is known here alone: other crates walk by Groups and Actions, or ask is_passed_over.
 #![tactic(auto)]
 
-ghost use Rattle.std.specs.Prelude.{◌≤◌, length, ◌≡◌};
-ghost use Rattle.acl_groups.specs.Parts.{passed_over, NextPart, NextAction, GroupAt, FromGroup, GroupBody, FilePart};
+ghost use Rattle.std.specs.Prelude.{◌≤◌, length, ◌≡◌, map, eqb, option_copied};
+ghost use Rattle.std.specs.List.{prefix_len};
+ghost use Rattle.rules.specs.Basics.{kind, records};
+ghost use Rattle.rules.specs.Acl.{limit_of, limits_of};
+ghost use Rattle.acl_groups.specs.Parts.{passed_over, NextPart, NextAction, GroupAt, FromGroup, GroupBody, FileRecord};
+
+mod walks;
+
+use record_sizes::Record;
+pub use walks::{Actions, Groups};
 
 // The offset of group g, of those from the byte `at` on; the end of the file if there are fewer. So a search can go on where one before it ended.
 pub fn group_at(acl: &[u8], at: usize, g: usize) -> usize
@@ -12,17 +19,14 @@ pub fn group_at(acl: &[u8], at: usize, g: usize) -> usize
     ensures { GroupAt acl.now at g result }
 {
     let mut left = g;
-    let mut i = at;
-    while record_sizes::RECORD <= acl.len() - i {
-        if acl[i] != 1 {
-            i += record_sizes::RECORD;
+    for (i, rec) in record_fields::records(&acl[at..]).iter().enumerate() {
+        if rec[0] != record_kinds::GROUP {
             continue;
         }
         if left == 0 {
-            return i;
+            return at + i * record_sizes::RECORD;
         }
         left -= 1;
-        i += record_sizes::RECORD;
     }
     acl.len()
 }
@@ -39,11 +43,27 @@ fn from_group(acl: &[u8], g: usize) -> &[u8]
 pub fn group_body(acl: &[u8], g: usize) -> &[u8]
     ensures { GroupBody acl.now g result.now }
 {
-    let rest = from_group(acl, g);
-    if rest.len() < record_sizes::RECORD {
-        return &rest[0..0];
+    match from_group(acl, g).get(record_sizes::RECORD..) {
+        Some(body) => body,
+        None => &[],
     }
-    &rest[record_sizes::RECORD..]
+}
+
+// The limits of a group, of the records that follow its first one: limits come first.
+pub fn limits(body: &[u8]) -> &[Record]
+    ensures { map limit_of result.now ≡ limits_of (records body.now) }
+{
+    let all = record_fields::records(body);
+    &all[..limit_count(all)]
+}
+
+// How many limits there are from the first record on.
+fn limit_count(rest: &[Record]) -> usize
+    ensures { result ≡ prefix_len (λ r. eqb (kind r) 2) rest.now }
+{
+    rest.iter()
+        .take_while(|rec| rec[0] == record_kinds::LIMIT)
+        .count()
 }
 
 // Whether a kind is one that is passed over on the way to the next group or action: a limit, or a record of kind 15, which goes with the action before it.
@@ -53,23 +73,23 @@ pub fn is_passed_over(kind: u8) -> bool
     (kind == record_kinds::LIMIT) | (kind == record_kinds::BLOBFILE)
 }
 
+// How many records are passed over from the first on.
+fn passed_count(rest: &[Record]) -> usize
+    ensures { result ≡ prefix_len (λ r. passed_over (kind r)) rest.now }
+{
+    rest.iter().take_while(|rec| is_passed_over(rec[0])).count()
+}
+
 // The offset of the next group or action, from the byte `at` on; if there is none, an offset with fewer bytes left than a record has.
 pub fn next_part(s: &[u8], at: usize) -> usize
     requires { at ≤ length s.now }
     ensures { NextPart s.now at result }
 {
-    let mut i = at;
-    while record_sizes::RECORD <= s.len() - i {
-        if !is_passed_over(s[i]) {
-            return i;
-        }
-        i += record_sizes::RECORD;
-    }
-    i
+    at + passed_count(record_fields::records(&s[at..])) * record_sizes::RECORD
 }
 
 // The offset of the next action of a group, from the byte `at` on; the end of the file if the group has no more. From the end of an action's own
-// record it leads past the record of kind 15 that may follow, to where the next action begins: a loop over a group's actions steps by this alone.
+// record it leads past the record of kind 15 that may follow, to where the next action begins: Actions steps by this alone.
 pub fn next_action(s: &[u8], at: usize) -> usize
     requires { at ≤ length s.now }
     ensures { NextAction s.now at result }
@@ -78,21 +98,19 @@ pub fn next_action(s: &[u8], at: usize) -> usize
     if s.len() - i < record_sizes::RECORD {
         return s.len();
     }
-    if s[i] == 1 {
+    if s[i] == record_kinds::GROUP {
         return s.len();
     }
     i
 }
 
-// The record of kind 15 that comes next, of the records that follow an action or a request record; empty where none does.
-pub fn file_part(rest: &[u8]) -> &[u8]
-    ensures { FilePart rest.now result.now }
+// The record of kind 15 that comes next, of the records that follow an action or a request record.
+pub fn file_record(rest: &[u8]) -> Option<&Record>
+    ensures { FileRecord rest.now (option_copied result) }
 {
-    if rest.len() < record_sizes::RECORD {
-        return &rest[0..0];
+    let first: &Record = rest.first_chunk()?;
+    if first[0] != record_kinds::BLOBFILE {
+        return None;
     }
-    if rest[0] != record_kinds::BLOBFILE {
-        return &rest[0..0];
-    }
-    &rest[0..record_sizes::RECORD]
+    Some(first)
 }

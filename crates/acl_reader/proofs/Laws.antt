@@ -5,20 +5,19 @@ use mathlib.Core.Path.{◌≡◌, refl, sym, ◌∙◌, ap, ap₂}
 use mathlib.Core.List.{List, [], ◌∷◌, ◌++◌}
 use mathlib.Core.Option.{Option, none, some}
 use mathlib.Core.Bool.{Bool, true, false, not, ◌&&◌, ◌||◌}
-use lib.ListN.{length, length-append}
+use lib.ListN.{length, length-append, drop, get_or}
 use lib.Arith.{mod-mul}
 use lib.Dec.{eqb, ltb}
-use borrow.Author.Tests.{eq-eqb, ne_eqb, ltb-true, not-true, not-false}
+use borrow.Author.Tests.{eq-eqb, ne_eqb, ltb-true}
 use Rattle.rules.specs.Sizes.{groups_max, limits_max, actions_max}
-use Rattle.rules.specs.Basics.{Bytes, any, kind, flag, or_next, first_fault, scan, records_from}
+use Rattle.rules.specs.Basics.{Bytes, any, kind, flag, or_next, first_fault, scan}
 use Rattle.rules.specs.Numbers.{malformed, too_many, open_archive}
 use Rattle.rules.specs.Acl.{AclState, acl_start, among, limit_key, limit_in_place, in_place, has_room_under, has_room, keyed, record_fault_under, acl_record_fault, limit_added, group_begun, action_added, after_record, acl_end, acl_fault_under, acl_fault}
-use Rattle.rules.proofs.Rows.{rows_lent, rows_end, lent_record}
-use Rattle.files.specs.declared.Checked.{Checked}
-use Rattle.files.specs.declared.Checked.TheVariants.{Sound, Refused}
-use Rattle.files.specs.Faults.{fault_as}
-use Rattle.acl_reader.specs.declared.State.{State}
-use Rattle.acl_reader.specs.Places.{keys_of, acl_state_as, begun_with, added_with, AclReading, stopped, on, read_past, reading, checked_as}
+use Rattle.record_fields.proofs.Walks.{left_at, left_none}
+use Rattle.refusals.specs.Refusals.{refusal_number}
+use Rattle.refusals.specs.declared.Refusal.{Refusal}
+use Rattle.acl_reader.specs.declared.state.State.{State}
+use Rattle.acl_reader.specs.Places.{keys_of, acl_state_as, begun_with, added_with, AclReading, stopped, on, read_past, reading}
 
 -- A key among some, by a loop: what is left has the whole's answer.
 any_last : {A : Type 0} (t : A → Bool) (xs : List A) (x : A) → any t (xs ++ (x ∷ [])) ≡ (t x || any t xs)
@@ -32,23 +31,23 @@ any_last t (y ∷ xs) x = pick (t y) (t x) (any_last t xs x)
     pick false true e = e
     pick false false e = e
 
-module _ (key i left : ℕ) (x : Bool) (inv : among key (keys_of i left) ≡ x) where
-  among_at : 0 < i → (eqb (left % 65536) key || among key (keys_of (i - 1) (left / 65536))) ≡ x
+module _ (key n k left : ℕ) (x : Bool) (inv : among key (keys_of (n - k) left) ≡ x) where
+  among_at : k < n → (eqb (left % 65536) key || among key (keys_of (n - (k + 1)) (left / 65536))) ≡ x
   unfolding among keys_of
   among_at h =
-      let e : i ≡ suc (i - 1) = omega arith in
-      sym (ap (λ (n : ℕ). any (λ k. eqb k key) (keys_of n left)) e ∙ any_last (λ k. eqb k key) (keys_of (i - 1) (left / 65536)) (left % 65536)) ∙ inv
+      let e : n - k ≡ suc (n - (k + 1)) = omega arith in
+      sym (ap (λ (m : ℕ). any (λ k. eqb k key) (keys_of m left)) e ∙ any_last (λ k. eqb k key) (keys_of (n - (k + 1)) (left / 65536)) (left % 65536)) ∙ inv
 
-  pub among_stop : 0 < i → left % 65536 ≡ key → true ≡ x
+  pub among_stop : k < n → left % 65536 ≡ key → true ≡ x
   among_stop h e = rw (eq-eqb (left % 65536) key e) at (among_at h)
 
-  pub among_next : 0 < i → (left % 65536 ≡ key → ⊥) → among key (keys_of (i - 1) (left / 65536)) ≡ x
-  among_next h n = rw (ne_eqb (left % 65536) key n) at (among_at h)
+  pub among_next : k < n → (left % 65536 ≡ key → ⊥) → among key (keys_of (n - (k + 1)) (left / 65536)) ≡ x
+  among_next h d = rw (ne_eqb (left % 65536) key d) at (among_at h)
 
-  pub among_done : i ≤ 0 → false ≡ x
+  pub among_done : n ≤ k → false ≡ x
   unfolding among any keys_of
   among_done h =
-      let e : i ≡ 0 = omega arith in
+      let e : n - k ≡ 0 = omega arith in
       rw e at inv
 
 pub not_is : (r t : Bool) → r ≡ t → not r ≡ not t
@@ -102,29 +101,30 @@ key_added n key keys h l =
     let q : (keys % 281474976710656 * 65536 + key) % 65536 ≡ key = omega arith in
     rw (e, p, q, low_keys n keys h)
 
-pub place_added : (p : State) (key : ℕ) → p.limits < limits_max → key < 65536
-    → acl_state_as (record { groups = p.groups; opened = p.opened; limits = p.limits + 1; actions = p.actions; keys = p.keys % 281474976710656 * 65536 + key; file_due = p.file_due }) ≡ limit_added (acl_state_as p) key
-place_added p key h l = ap (λ (l : List ℕ). record { groups = p.groups; is_open = p.opened; limits = l; actions = p.actions; file_due = p.file_due }) (key_added p.limits key p.keys h l)
+pub place_added : (p q : State) (key : ℕ) → p.limits < limits_max → key < 65536
+    → q.groups ≡ p.groups → q.opened ≡ p.opened → q.actions ≡ p.actions → q.file_due ≡ p.file_due → q.limits ≡ p.limits + 1 → q.keys ≡ p.keys % 281474976710656 * 65536 + key
+    → acl_state_as q ≡ limit_added (acl_state_as p) key
+place_added p q key h l g o a f n k = rw (g, o, a, f, n, k, key_added p.limits key p.keys h l)
 
--- The fault of a record by its three tests, `if !f(..)`.
+-- The fault of a record by its three tests.
 module _ (s : AclState) (r : Bytes) (a : Bool) (e : a ≡ in_place s r) where
-  pub acl_bad : not a ≡ true → acl_record_fault s r ≡ some malformed
+  pub acl_bad : a ≡ false → acl_record_fault s r ≡ some malformed
   unfolding record_fault_under first_fault
-  acl_bad h = rw (sym e ∙ not-true a h)
+  acl_bad h = rw (sym e ∙ h)
 
-  module _ (b : Bool) (d : b ≡ has_room s r) (h : not a ≡ false) where
-    pub acl_full : not b ≡ true → acl_record_fault s r ≡ some too_many
+  module _ (b : Bool) (d : b ≡ has_room s r) (h : a ≡ true) where
+    pub acl_full : b ≡ false → acl_record_fault s r ≡ some too_many
     unfolding record_fault_under first_fault
-    acl_full k = rw (sym e ∙ not-false a h, sym d ∙ not-true b k)
+    acl_full k = rw (sym e ∙ h, sym d ∙ k)
 
-    module _ (c : Bool) (f : c ≡ keyed s.is_open r) (k : not b ≡ false) where
-      pub acl_open : not c ≡ true → acl_record_fault s r ≡ some open_archive
+    module _ (c : Bool) (f : c ≡ keyed s.is_open r) (k : b ≡ true) where
+      pub acl_open : c ≡ false → acl_record_fault s r ≡ some open_archive
       unfolding record_fault_under first_fault
-      acl_open l = rw (sym e ∙ not-false a h, sym d ∙ not-false b k, sym f ∙ not-true c l)
+      acl_open l = rw (sym e ∙ h, sym d ∙ k, sym f ∙ l)
 
-      pub acl_sound_lem : not c ≡ false → acl_record_fault s r ≡ none
+      pub acl_sound_lem : c ≡ true → acl_record_fault s r ≡ none
       unfolding record_fault_under first_fault
-      acl_sound_lem l = rw (sym e ∙ not-false a h, sym d ∙ not-false b k, sym f ∙ not-false c l)
+      acl_sound_lem l = rw (sym e ∙ h, sym d ∙ k, sym f ∙ l)
 
 -- a group begun, and an action added, by the flag that the code read
 pub group_begun_lem : (s t : AclState) (r : Bytes) (b : Bool) → b ≡ flag 0 r → t ≡ begun_with s (not b) → t ≡ group_begun s r
@@ -164,29 +164,25 @@ module _ (s : AclState) (r : Bytes) (key : ℕ) (e : key ≡ limit_key r) where
   pub limit_next : (t : AclState) → t ≡ limit_added s key → t ≡ limit_added s (limit_key r)
   limit_next t p = p ∙ ap (limit_added s) e
 
--- a call that answered yes
-pub was_true : (r t : Bool) → r ≡ t → not r ≡ false → t ≡ true
-was_true r t e h = sym e ∙ not-false r h
-
 -- a well-formed action comes where a group has begun
-pub action_placed : (r t g : Bool) → r ≡ t → not r ≡ false → g ≡ (t && g)
-action_placed r t g e h = sym (ap (λ (x : Bool). x && g) (sym e ∙ not-false r h))
+pub action_placed : (r t g : Bool) → r ≡ t → r ≡ true → g ≡ (t && g)
+action_placed r t g e h = sym (ap (λ (x : Bool). x && g) (sym e ∙ h))
 
 -- The turns of the loop over records: what is left is read as the whole.
-module _ (s : Bytes) (at : ℕ) (st : AclState) (x : AclReading) (inv : reading st (records_from s at) ≡ x) where
-  read_step : 64 ≤ length s - at → read_past (acl_record_fault st (lent_record s at)) (reading (after_record st (lent_record s at)) (records_from s (at + 64))) ≡ x
+module _ (rs : List Bytes) (i : ℕ) (st : AclState) (x : AclReading) (inv : reading st (drop i rs) ≡ x) where
+  read_step : i < length rs → read_past (acl_record_fault st (get_or rs i [])) (reading (after_record st (get_or rs i [])) (drop (i + 1) rs)) ≡ x
   unfolding reading
-  read_step h = sym (ap (reading st) (rows_lent s at h)) ∙ inv
+  read_step h = sym (ap (reading st) (left_at rs i h)) ∙ inv
 
-  pub read_stop : (f : ℕ) → 64 ≤ length s - at → acl_record_fault st (lent_record s at) ≡ some f → stopped f ≡ x
+  pub read_stop : (f : ℕ) → i < length rs → acl_record_fault st (get_or rs i []) ≡ some f → stopped f ≡ x
   read_stop f h e = rw e at (read_step h)
 
-  pub read_next : (t : AclState) → 64 ≤ length s - at → acl_record_fault st (lent_record s at) ≡ none → t ≡ after_record st (lent_record s at) → reading t (records_from s (at + 64)) ≡ x
-  read_next t h e d = ap (λ (z : AclState). reading z (records_from s (at + 64))) d ∙ rw e at (read_step h)
+  pub read_next : (t : AclState) → i < length rs → acl_record_fault st (get_or rs i []) ≡ none → t ≡ after_record st (get_or rs i []) → reading t (drop (i + 1) rs) ≡ x
+  read_next t h e d = ap (λ (z : AclState). reading z (drop (i + 1) rs)) d ∙ rw e at (read_step h)
 
-  pub read_done : length s - at < 64 → on st ≡ x
+  pub read_done : length rs ≤ i → on st ≡ x
   unfolding reading
-  read_done h = sym (ap (reading st) (rows_end s at h)) ∙ inv
+  read_done h = sym (ap (reading st) (left_none rs i h)) ∙ inv
 
 -- the first fault of records, by the result of reading them
 abbrev ended : AclReading → Option ℕ
@@ -203,11 +199,11 @@ scan_is s (r ∷ rs) = pick (acl_record_fault s r) (scan_is (after_record s r) r
     pick none e = e
     pick (some n) e = refl
 
-found_is : (q : AclState) (f : Checked) → or_next (fault_as f) (acl_end q) ≡ ended (checked_as q f)
-found_is q Sound = refl
-found_is q (Refused r) = refl
-
-pub fault_read : (s q : AclState) (f : Checked) (rs : List Bytes) (x e : Option ℕ) → s ≡ acl_start → checked_as q f ≡ reading s rs → e ≡ acl_end q → x ≡ or_next (fault_as f) e → x ≡ acl_fault rs
+-- what the code answers, where reading failed, and where it came to the end
+pub fault_stopped : (s : AclState) (r : Refusal) (rs : List Bytes) → s ≡ acl_start → stopped (refusal_number r) ≡ reading s rs → some (refusal_number r) ≡ acl_fault rs
 unfolding acl_fault_under
-fault_read s q f rs x e b i d z =
-    z ∙ ap (or_next (fault_as f)) d ∙ found_is q f ∙ ap ended (i ∙ ap (λ (y : AclState). reading y rs) b) ∙ sym (scan_is acl_start rs)
+fault_stopped s r rs b e = ap ended (e ∙ ap (λ (y : AclState). reading y rs) b) ∙ sym (scan_is acl_start rs)
+
+pub fault_ended : (s q : AclState) (rs : List Bytes) (x : Option ℕ) → s ≡ acl_start → on q ≡ reading s rs → x ≡ acl_end q → x ≡ acl_fault rs
+unfolding acl_fault_under
+fault_ended s q rs x b e d = d ∙ ap ended (e ∙ ap (λ (y : AclState). reading y rs) b) ∙ sym (scan_is acl_start rs)

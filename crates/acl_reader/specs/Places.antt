@@ -1,14 +1,11 @@
 -- The state of the ACL reader, and the result of reading records, in terms of the definitions.
-use Rattle.std.specs.Prelude.{ℕ, zero, suc, ◌+◌, ◌/◌, ◌%◌, ◌≤◌, List, [], ◌∷◌, ◌++◌, Bool, false}
+use Rattle.std.specs.Prelude.{Result, Ok, Err, ℕ, zero, suc, ◌+◌, ◌/◌, ◌%◌, List, [], ◌∷◌, ◌++◌, Bool, false}
 use Rattle.std.proofs.Math.Option.{Option, none, some}
-use Rattle.rules.specs.Sizes.{limits_max}
 use Rattle.rules.specs.Basics.{Bytes}
 use Rattle.rules.specs.Acl.{AclState, acl_record_fault, after_record}
 use Rattle.refusals.specs.Refusals.{refusal_number}
-use Rattle.acl_reader.specs.declared.State.{State}
-use Rattle.files.specs.declared.Checked.{Checked}
-use Rattle.files.specs.declared.Checked.TheVariants.{Sound, Refused}
-use Rattle.acl_reader.specs.declared.Read.{Read}
+use Rattle.acl_reader.specs.declared.state.State.{State}
+use Rattle.refusals.specs.declared.Refusal.{Refusal}
 
 -- the lowest n parts of sixteen bits of a number, the lowest last
 unfoldable pub keys_of : ℕ → ℕ → List ℕ
@@ -48,13 +45,6 @@ reading s [] = on s
 reading s (r ∷ rs) = read_past (acl_record_fault s r) (reading (after_record s r) rs)
 
 -- what the code answers
-abbrev pub checked_as : AclState → Checked → AclReading
-checked_as s Sound = on s
-checked_as s (Refused f) = stopped (refusal_number f)
-
-abbrev pub reading_as : Read → AclReading
-reading_as r = checked_as (acl_state_as r.place) r.found
-
--- the limits of its state have their keys in the row
-abbrev pub Kept : Read → Type 0
-Kept r = r.place.limits ≤ limits_max
+abbrev pub reading_as : Result State Refusal → AclReading
+reading_as (Ok p) = on (acl_state_as p)
+reading_as (Err r) = stopped (refusal_number r)

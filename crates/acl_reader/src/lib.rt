@@ -1,56 +1,35 @@
 // An ACL file: its first fault. Records are read one by one, with a state that says what may come next.
 #![tactic(auto)]
 
-ghost use Rattle.std.specs.Prelude.{◌≡◌, true, ◌≤◌, ◌<◌, length};
-ghost use Rattle.rules.specs.Sizes.{record_bytes, groups_max, limits_max, actions_max};
+ghost use Rattle.std.specs.Prelude.{◌≡◌, true, ◌<◌};
+ghost use Rattle.rules.specs.Sizes.{groups_max, limits_max, actions_max};
 ghost use Rattle.rules.specs.Basics.{records};
 ghost use Rattle.rules.specs.Acl.{acl_start, among, limit_in_place, action_laid_out, blobfile_record, placed_by_kind, in_place, has_room, keyed, limit_added, blobfile_passed, after_record, acl_end, acl_fault, acl_file_fault};
-ghost use Rattle.refusals.specs.Refusals.{refusal_number};
 ghost use Rattle.files.specs.Faults.{fault_as};
-ghost use Rattle.acl_reader.specs.Places.{keys_of, acl_state_as, begun_with, added_with, stopped, reading, reading_as, Kept};
+ghost use Rattle.acl_reader.specs.Places.{keys_of, acl_state_as, begun_with, added_with, reading, reading_as};
 
-use files::Checked;
+mod state;
+
+use record_sizes::Record;
 use refusals::Refusal;
-
-// The reader's state: groups begun; of the last group whether it is open (it has no certifier), the limits, the actions; whether a record of kind 15 must
-// come next; and the sort and counter of each limit, sixteen bits for each, the last limit's lowest: one number, which stays in a register, where a row would be
-// stored by two bytes and loaded again by eight. The fields leave no gap, for a gap's bytes would be carried along with them.
-#[derive(Clone, Copy)]
-pub struct State {
-    pub groups: u16,
-    pub limits: u16,
-    pub actions: u16,
-    pub opened: bool,
-    pub file_due: bool,
-    pub keys: u64,
-}
-
-// The result of reading records: the first fault, or none and the state after them.
-#[derive(Clone, Copy)]
-pub struct Read {
-    pub place: State,
-    pub found: Checked,
-}
+pub use state::State;
 
 // Whether a number is among the lowest n of a number's parts of sixteen bits.
 fn is_among(key: u16, n: u16, keys: u64) -> bool
     ensures { result ≡ among key (keys_of n keys) }
 {
     let mut left = keys;
-    let mut i = n;
-    while 0 < i {
+    for _ in 0..n {
         if left % 65536 == (key as u64) {
             return true;
         }
         left = left / 65536;
-        i -= 1;
     }
     false
 }
 
 // Whether a record is a well-formed action.
-fn action(rec: &[u8]) -> bool
-    requires { length rec.now ≡ record_bytes }
+fn action(rec: &Record) -> bool
     ensures { result ≡ action_laid_out rec.now }
 {
     let kind = rec[0];
@@ -67,8 +46,7 @@ fn action(rec: &[u8]) -> bool
 }
 
 // Whether a record is a well-formed one of kind 15.
-fn blobfile_record(rec: &[u8]) -> bool
-    requires { length rec.now ≡ record_bytes }
+fn blobfile_record(rec: &Record) -> bool
     ensures { result ≡ blobfile_record rec.now }
 {
     (rec[0] == record_kinds::BLOBFILE) & record_layout::file(rec)
@@ -76,7 +54,7 @@ fn blobfile_record(rec: &[u8]) -> bool
 
 impl State {
     pub fn start() -> Self
-        ensures { (acl_state_as result ≡ acl_start) × (result.limits ≤ limits_max) }
+        ensures { acl_state_as result ≡ acl_start }
     {
         Self {
             groups: 0,
@@ -90,7 +68,6 @@ impl State {
 
     // Whether a limit of this sort and counter may come next.
     fn takes_limit(self, key: u16) -> bool
-        requires { self.limits ≤ limits_max }
         ensures { result ≡ limit_in_place (acl_state_as self) key }
     {
         if !(0 < self.groups) {
@@ -103,8 +80,7 @@ impl State {
     }
 
     // Whether a record is well formed and may come next: kind 15 if the last action announced it, and only then.
-    fn in_place(self, rec: &[u8]) -> bool
-        requires { (self.limits ≤ limits_max) × (length rec.now ≡ record_bytes) }
+    fn in_place(self, rec: &Record) -> bool
         ensures { result ≡ in_place (acl_state_as self) rec.now }
     {
         if self.file_due {
@@ -114,8 +90,7 @@ impl State {
     }
 
     // Whether a group, a limit or an action is well formed and may come next.
-    fn placed_by_kind(self, rec: &[u8]) -> bool
-        requires { (self.limits ≤ limits_max) × (length rec.now ≡ record_bytes) }
+    fn placed_by_kind(self, rec: &Record) -> bool
         ensures { result ≡ placed_by_kind (acl_state_as self) rec.now }
     {
         let kind = rec[0];
@@ -135,8 +110,7 @@ impl State {
     }
 
     // Whether there is room for one more of a record's kind.
-    fn has_room(self, rec: &[u8]) -> bool
-        requires { (self.limits ≤ limits_max) × (length rec.now ≡ record_bytes) }
+    fn has_room(self, rec: &Record) -> bool
         ensures { result ≡ has_room (acl_state_as self) rec.now }
     {
         let kind = rec[0];
@@ -153,8 +127,7 @@ impl State {
     }
 
     // Whether a record is none that opens the key to any recovery key: a MakeArchiveBlob action without kahash in an open group.
-    fn is_keyed(self, rec: &[u8]) -> bool
-        requires { length rec.now ≡ record_bytes }
+    fn is_keyed(self, rec: &Record) -> bool
         ensures { result ≡ keyed (acl_state_as self).is_open rec.now }
     {
         let kind = rec[0];
@@ -165,7 +138,7 @@ impl State {
     // The state after a limit that is not one too many.
     fn after_limit(mut self, key: u16) -> Self
         requires { self.limits < limits_max }
-        ensures { (acl_state_as result ≡ limit_added (acl_state_as self) key) × (result.limits ≤ limits_max) }
+        ensures { acl_state_as result ≡ limit_added (acl_state_as self) key }
     {
         self.keys = self.keys % 281474976710656 * 65536 + (key as u64);
         self.limits += 1;
@@ -174,8 +147,8 @@ impl State {
 
     // The state after a group record, which may be open.
     fn after_group(mut self, opened: bool) -> Self
-        requires { (self.limits ≤ limits_max) × (self.groups < groups_max) }
-        ensures { (acl_state_as result ≡ begun_with (acl_state_as self) opened) × (result.limits ≤ limits_max) }
+        requires { self.groups < groups_max }
+        ensures { acl_state_as result ≡ begun_with (acl_state_as self) opened }
     {
         self.groups += 1;
         self.opened = opened;
@@ -187,8 +160,8 @@ impl State {
 
     // The state after an action, which may announce a record of kind 15.
     fn after_action(mut self, file_due: bool) -> Self
-        requires { (self.limits ≤ limits_max) × (self.actions < actions_max) }
-        ensures { (acl_state_as result ≡ added_with (acl_state_as self) file_due) × (result.limits ≤ limits_max) }
+        requires { self.actions < actions_max }
+        ensures { acl_state_as result ≡ added_with (acl_state_as self) file_due }
     {
         self.actions += 1;
         self.file_due = file_due;
@@ -197,17 +170,16 @@ impl State {
 
     // The state after a record of kind 15.
     fn after_file(mut self) -> Self
-        requires { self.limits ≤ limits_max }
-        ensures { (acl_state_as result ≡ blobfile_passed (acl_state_as self)) × (result.limits ≤ limits_max) }
+        ensures { acl_state_as result ≡ blobfile_passed (acl_state_as self) }
     {
         self.file_due = false;
         self
     }
 
     // The state after a record that is not one too many.
-    fn after(self, rec: &[u8]) -> Self
-        requires { (has_room (acl_state_as self) rec.now ≡ true) × (self.limits ≤ limits_max) × (length rec.now ≡ record_bytes) }
-        ensures { (acl_state_as result ≡ after_record (acl_state_as self) rec.now) × (result.limits ≤ limits_max) }
+    fn after(self, rec: &Record) -> Self
+        requires { has_room (acl_state_as self) rec.now ≡ true }
+        ensures { acl_state_as result ≡ after_record (acl_state_as self) rec.now }
     {
         let kind = rec[0];
         if kind == record_kinds::GROUP {
@@ -223,70 +195,50 @@ impl State {
     }
 
     // The fault of a file that ends here: 2 if a record of kind 15 is missing.
-    fn end(self) -> Checked
+    fn end(self) -> Result<(), Refusal>
         ensures { fault_as result ≡ acl_end (acl_state_as self) }
     {
         if self.file_due {
-            return Checked::Refused(Refusal::Malformed);
+            return Err(Refusal::Malformed);
         }
-        Checked::Sound
-    }
-
-    // Reading stops here.
-    fn stopped(self, why: Refusal) -> Read
-        requires { self.limits ≤ limits_max }
-        ensures { (reading_as result ≡ stopped (refusal_number why)) × Kept result }
-    {
-        Read {
-            place: self,
-            found: Checked::Refused(why),
-        }
+        Ok(())
     }
 
     // Reading goes on here: records from the first on; within a record 2, then 3, then 12. It is one loop for all readers of records, so that its tests
     // are one piece of code with it and the state stays in registers.
-    pub fn read(self, acl: &[u8]) -> Read
-        requires { self.limits ≤ limits_max }
-        ensures { (reading_as result ≡ reading (acl_state_as self) (records acl.now)) × Kept result }
+    pub fn read(self, acl: &[u8]) -> Result<State, Refusal>
+        ensures { reading_as result ≡ reading (acl_state_as self) (records acl.now) }
     {
         let mut place = self;
-        let mut at = 0;
-        while record_sizes::RECORD <= acl.len() - at {
-            let rec = &acl[at..at + record_sizes::RECORD];
+        for rec in record_fields::records(acl) {
             if !place.in_place(rec) {
-                return place.stopped(Refusal::Malformed);
+                return Err(Refusal::Malformed);
             }
             if !place.has_room(rec) {
-                return place.stopped(Refusal::TooMany);
+                return Err(Refusal::TooMany);
             }
             if !place.is_keyed(rec) {
-                return place.stopped(Refusal::OpenArchive);
+                return Err(Refusal::OpenArchive);
             }
             place = place.after(rec);
-            at += record_sizes::RECORD;
         }
-        Read {
-            place,
-            found: Checked::Sound,
-        }
+        Ok(place)
     }
 }
 
 // The first fault of an ACL's records; it may end anywhere but before a record of kind 15 that an action announced.
-pub fn acl_records(acl: &[u8]) -> Checked
+pub fn acl_records(acl: &[u8]) -> Result<(), Refusal>
     ensures { fault_as result ≡ acl_fault (records acl.now) }
 {
-    let read = State::start().read(acl);
-    let found = read.found;
-    files::first_fault(found, read.place.end())
+    State::start().read(acl)?.end()
 }
 
 // The first fault of an ACL file: its length, then its records.
-pub fn acl_file(acl: &[u8]) -> Checked
+pub fn acl_file(acl: &[u8]) -> Result<(), Refusal>
     ensures { fault_as result ≡ acl_file_fault acl.now }
 {
     if !files::whole(record_sizes::ACL_RECORDS, acl) {
-        return Checked::Refused(Refusal::BadLength);
+        return Err(Refusal::BadLength);
     }
     acl_records(acl)
 }

@@ -1,5 +1,5 @@
 -- The turns of the loop that fills the table of offsets, and what an offset says.
-use Prim.Native.Nat.{ℕ, ◌+◌, ◌-◌, ◌≤◌, ◌<◌}
+use Prim.Native.Nat.{ℕ, zero, suc, ◌+◌, ◌-◌, ◌*◌, ◌/◌, ◌≤◌, ◌<◌}
 use native.Mathlib.Omega.{arith}
 use mathlib.Core.Path.{◌≡◌, refl, sym, ◌∙◌, ap}
 use mathlib.Core.List.{List, [], ◌∷◌}
@@ -7,13 +7,13 @@ use mathlib.Core.Option.{Option, none, some}
 use mathlib.Core.Bool.{Bool, true, false, ◌&&◌}
 use borrow.Author.Tests.{eqb-true, eqb-false, eq-eqb, ne_eqb, ltb-true, ltb-false}
 use lib.ListN.{length, get_or, take, drop, set, replicate, length-set, length-replicate, get_or-replicate}
-use lib.Seq.{get_or-take, get_or-drop, get_or-set_same, get_or-set_other}
+use lib.Seq.{drop-drop, get_or-set_same, get_or-set_other}
 use lib.Dec.{eqb, ltb}
 use Rattle.std.specs.Prelude.{if◌then◌else◌}
-use Rattle.rules.specs.Basics.{Bytes, part, kind, byte, or_next, records, records_from}
+use Rattle.rules.specs.Basics.{Bytes, part, kind, byte, or_next, chunks, records}
 use Rattle.rules.specs.Bundle.{first_record, numbered, policy_record}
-use Rattle.rules.proofs.Rows.{rows_start, rows_lent, rows_end, lent_record, lent_record_lem, kind_at}
-use Rattle.bundle_facts.specs.Found.{or_empty}
+use Rattle.rules.proofs.Laws.{chunks_length}
+use Rattle.record_fields.proofs.Walks.{left_at, left_none}
 use Rattle.bundle_facts.specs.Places.{entries, unasked, entry_of, entered, noted, noted_from, offsets_of, ending_at, OffsetOf, Filling, Found}
 
 -- An entry is one of the table's.
@@ -34,13 +34,22 @@ entry_below k n i e = rw e (pick (eqb k 10) (ltb n 16) refl (eqb k 11) (ltb n 8)
     pick false b p false d q true = omega arith
     pick false b p false d q false = omega arith
 
--- the number of the record at an offset
-number_at : (s : Bytes) (at : ℕ) → get_or (part at 64 s) 4 0 ≡ get_or s (at + 4) 0
-number_at s at = get_or-take 64 (drop at s) 4 0 (omega arith) ∙ get_or-drop at s 4 0
+-- The records of a file by their numbers: where each begins.
+chunk_at : (m n : ℕ) (s : Bytes) → n < m → get_or (chunks m s) n [] ≡ part (n * 64) 64 s
+unfolding chunks
+chunk_at zero n s h = absurd (omega arith)
+chunk_at (suc m) zero s h = refl
+chunk_at (suc m) (suc n) s h =
+    let k : n * 64 + 64 ≡ suc n * 64 = omega arith in
+    chunk_at m n (drop 64 s) (omega arith) ∙ ap (take 64) (drop-drop (n * 64) 64 s) ∙ ap (λ (i : ℕ). part i 64 s) (omega arith)
 
-entered_at : (s : Bytes) (at i j : ℕ) → j ≡ entry_of (get_or s at 0) (get_or s (at + 4) 0) → entered i (lent_record s at) ≡ eqb j i
-unfolding entered
-entered_at s at i j e = rw (lent_record_lem s at, kind_at s at, number_at s at, e)
+pub record_is : (s : Bytes) (n : ℕ) → n < length (records s) → get_or (records s) n [] ≡ part (n * 64) 64 s
+unfolding records
+record_is s n h = chunk_at (length s / 64) n s (rw (chunks_length (length s / 64) s) at h)
+
+pub record_fits : (s : Bytes) (n : ℕ) → n < length (records s) → n * 64 + 64 ≤ length s
+unfolding records
+record_fits s n h = let k = rw (chunks_length (length s / 64) s) at h in omega arith
 
 -- One offset, when a record is passed: an offset that is found stays; another is what is left, or this record.
 module _ (s : Bytes) (i end : ℕ) (left : List Bytes) (p : OffsetOf s i end left) where
@@ -63,88 +72,108 @@ module _ (s : Bytes) (i end : ℕ) (left : List Bytes) (p : OffsetOf s i end lef
       }
 
 module _ (s : Bytes) (i at : ℕ) (left : List Bytes) (p : OffsetOf s i 0 left) where
-  place_here : (rest : List Bytes) → 64 ≤ length s - at → left ≡ lent_record s at ∷ rest → entered i (lent_record s at) ≡ true → OffsetOf s i (at + 64) rest
+  place_here : (r : Bytes) (rest : List Bytes) → at + 64 ≤ length s → r ≡ part at 64 s → left ≡ r ∷ rest → entered i r ≡ true → OffsetOf s i (at + 64) rest
   unfolding ending_at first_record
-  place_here rest h e t =
+  place_here r rest h k e t =
       let m : at + 64 - 64 ≡ at = omega arith in
-      let f : some (lent_record s at) ≡ first_record (entered i) (records s) = sym (ap (λ (l : List Bytes). first_record (entered i) l) e ∙ rw t) ∙ p.first in
+      let f : some r ≡ first_record (entered i) (records s) = sym (ap (λ (l : List Bytes). first_record (entered i) l) e ∙ rw t) ∙ p.first in
       record {
         least = λ z. omega arith;
-        most = omega arith;
-        first = rw (ne_eqb (at + 64) 0 (λ z. omega arith), m, ← lent_record_lem s at) f;
+        most = h;
+        first = rw (ne_eqb (at + 64) 0 (λ z. omega arith), m, ← k) f;
       }
 
 -- The table: nothing is found at first.
-pub filling_start : (s : Bytes) (places : List ℕ) → places ≡ replicate entries 0 → Filling s places (records_from s 0)
+pub filling_start : (s : Bytes) (rs : List Bytes) (places : List ℕ) → rs ≡ records s → places ≡ replicate entries 0 → Filling s places (drop 0 rs)
 unfolding ending_at
-filling_start s places e =
-    rw e (record {
+filling_start s rs places w e =
+    rw (e, w) (record {
       sized = length-replicate {A = ℕ} entries 0;
       each = λ i h. rw (get_or-replicate {A = ℕ} entries i 0 0 (omega arith)) (nothing i);
     })
   where
-    nothing : (i : ℕ) → OffsetOf s i 0 (records_from s 0)
-    nothing i = record { least = λ z. omega arith; most = omega arith; first = ap (first_record (entered i)) (rows_start s) }
+    nothing : (i : ℕ) → OffsetOf s i 0 (records s)
+    nothing i = record { least = λ z. omega arith; most = omega arith; first = refl }
 
-module _ (s : Bytes) (places : List ℕ) (at : ℕ) (f : Filling s places (records_from s at)) where
-  pub filling_done : length s - at < 64 → Found s places
-  filling_done h = rw (rows_end s at h) at f
+pub filling_done : (s : Bytes) (places : List ℕ) (rs : List Bytes) (n : ℕ) → Filling s places (drop n rs) → length rs ≤ n → Found s places
+filling_done s places rs n f h = let e = left_none rs n h in rw e at f
 
-  module _ (j : ℕ) (h : 64 ≤ length s - at) (e : j ≡ entry_of (get_or s at 0) (get_or s (at + 4) 0)) where
-    passed : (i end : ℕ) → OffsetOf s i end (records_from s at) → (j ≡ i → ⊥) → OffsetOf s i end (records_from s (at + 64))
-    passed i end p n = place_passed s i end (records_from s at) p (lent_record s at) (records_from s (at + 64)) (rows_lent s at h) (entered_at s at i j e ∙ ne_eqb j i n)
+-- One turn: record n, whose entry is j.
+module _ (s : Bytes) (rs : List Bytes) (w : rs ≡ records s) (n : ℕ) (h : n < length rs) where
+  below : n < length (records s)
+  below = rw w at h
 
-    pub filling_kept : (get_or places j 0 ≡ 0 → ⊥) → Filling s places (records_from s (at + 64))
-    filling_kept n = record { sized = f.sized; each = λ i l. pick i l (eqb j i) refl }
-      where
-        pick : (i : ℕ) → i < unasked → (b : Bool) → eqb j i ≡ b → OffsetOf s i (get_or places i 0) (records_from s (at + 64))
-        pick i l true q =
-            let d : j ≡ i = eqb-true j i q in
-            place_found s i (get_or places i 0) (records_from s at) (f.each i l) (records_from s (at + 64)) (rw d at n)
-        pick i l false q = passed i (get_or places i 0) (f.each i l) (eqb-false j i q)
+  pub end_fits : n * 64 + 64 ≤ length s
+  end_fits = record_fits s n below
 
-    pub filling_put : get_or places j 0 ≡ 0 → Filling s (set places j (at + 64)) (records_from s (at + 64))
-    filling_put z =
-        record {
-          sized = length-set places j (at + 64) ∙ f.sized;
-          each = λ i l. pick i l (eqb j i) refl;
-        }
-      where
-        pick : (i : ℕ) → i < unasked → (b : Bool) → eqb j i ≡ b → OffsetOf s i (get_or (set places j (at + 64)) i 0) (records_from s (at + 64))
-        pick i l true q =
-            let d : j ≡ i = eqb-true j i q in
-            let n : get_or places i 0 ≡ 0 = rw d at z in
-            rw (d, get_or-set_same places i (at + 64) 0 (let k = f.sized in omega arith))
-            (place_here s i at (records_from s at) (rw n at (f.each i l)) (records_from s (at + 64)) h (rows_lent s at h) (entered_at s at i j e ∙ q))
-        pick i l false q =
-            let n : i ≡ j → ⊥ = λ d. eqb-false j i q (sym d) in
-            rw (get_or-set_other places j i (at + 64) 0 n) (passed i (get_or places i 0) (f.each i l) (eqb-false j i q))
+  here_is : get_or rs n [] ≡ part (n * 64) 64 s
+  here_is = ap (λ (l : List Bytes). get_or l n []) w ∙ record_is s n below
+
+  end_is : (n + 1) * 64 ≡ n * 64 + 64
+  end_is = omega arith
+
+  module _ (places : List ℕ) (j : ℕ) (e : j ≡ entry_of (get_or (get_or rs n []) 0 0) (get_or (get_or rs n []) 4 0)) where
+    of_entry : (i : ℕ) → entered i (get_or rs n []) ≡ eqb j i
+    unfolding entered
+    of_entry i = rw e
+
+    module _ (f : Filling s places (drop n rs)) where
+      passed : (i end : ℕ) → OffsetOf s i end (drop n rs) → (j ≡ i → ⊥) → OffsetOf s i end (drop (n + 1) rs)
+      passed i end p k = place_passed s i end (drop n rs) p (get_or rs n []) (drop (n + 1) rs) (left_at rs n h) (of_entry i ∙ ne_eqb j i k)
+
+      pub filling_kept : (get_or places j 0 ≡ 0 → ⊥) → Filling s places (drop (n + 1) rs)
+      filling_kept z = record { sized = f.sized; each = λ i l. pick i l (eqb j i) refl }
+        where
+          pick : (i : ℕ) → i < unasked → (b : Bool) → eqb j i ≡ b → OffsetOf s i (get_or places i 0) (drop (n + 1) rs)
+          pick i l true q =
+              let d : j ≡ i = eqb-true j i q in
+              place_found s i (get_or places i 0) (drop n rs) (f.each i l) (drop (n + 1) rs) (rw d at z)
+          pick i l false q = passed i (get_or places i 0) (f.each i l) (eqb-false j i q)
+
+      pub filling_put : get_or places j 0 ≡ 0 → Filling s (set places j ((n + 1) * 64)) (drop (n + 1) rs)
+      filling_put z =
+          rw end_is (record {
+            sized = length-set places j (n * 64 + 64) ∙ f.sized;
+            each = λ i l. pick i l (eqb j i) refl;
+          })
+        where
+          pick : (i : ℕ) → i < unasked → (b : Bool) → eqb j i ≡ b → OffsetOf s i (get_or (set places j (n * 64 + 64)) i 0) (drop (n + 1) rs)
+          pick i l true q =
+              let d : j ≡ i = eqb-true j i q in
+              let k : get_or places i 0 ≡ 0 = rw d at z in
+              rw (d, get_or-set_same places i (n * 64 + 64) 0 (let m = f.sized in omega arith))
+              (place_here s i (n * 64) (drop n rs) (rw k at (f.each i l)) (get_or rs n []) (drop (n + 1) rs) end_fits here_is (left_at rs n h) (of_entry i ∙ q))
+          pick i l false q =
+              let k : i ≡ j → ⊥ = λ d. eqb-false j i q (sym d) in
+              rw (get_or-set_other places j i (n * 64 + 64) 0 k) (passed i (get_or places i 0) (f.each i l) (eqb-false j i q))
+
+    module _ (v : noted_from places (n * 64) (drop n rs) ≡ offsets_of s) where
+      one_noted : noted_from (noted places j (n * 64 + 64)) (n * 64 + 64) (drop (n + 1) rs) ≡ offsets_of s
+      unfolding noted_from
+      one_noted =
+          ap (λ (i : ℕ). noted_from (noted places i (n * 64 + 64)) (n * 64 + 64) (drop (n + 1) rs)) e
+          ∙ sym (ap (noted_from places (n * 64)) (left_at rs n h))
+          ∙ v
+
+      pub noted_kept : (get_or places j 0 ≡ 0 → ⊥) → noted_from places ((n + 1) * 64) (drop (n + 1) rs) ≡ offsets_of s
+      unfolding noted
+      noted_kept k =
+          let q : noted places j (n * 64 + 64) ≡ places = rw (ne_eqb (get_or places j 0) 0 k) in
+          rw end_is (rw q at one_noted)
+
+      pub noted_put : get_or places j 0 ≡ 0 → noted_from (set places j ((n + 1) * 64)) ((n + 1) * 64) (drop (n + 1) rs) ≡ offsets_of s
+      unfolding noted
+      noted_put z =
+          let q : noted places j (n * 64 + 64) ≡ set places j (n * 64 + 64) = rw (eq-eqb (get_or places j 0) 0 z) in
+          rw end_is (rw q at one_noted)
 
 -- The table as it is noted: what is left of the records leads to the bundle's.
-pub noted_start : (s : Bytes) (places : List ℕ) → places ≡ replicate entries 0 → noted_from places 0 (records_from s 0) ≡ offsets_of s
-noted_start s places e = rw (e, rows_start s)
+pub noted_start : (s : Bytes) (rs : List Bytes) (places : List ℕ) → rs ≡ records s → places ≡ replicate entries 0 → noted_from places (0 * 64) (drop 0 rs) ≡ offsets_of s
+noted_start s rs places w e = rw (e, w)
 
-module _ (s : Bytes) (places : List ℕ) (at : ℕ) (n : noted_from places at (records_from s at) ≡ offsets_of s) where
-  pub noted_done : length s - at < 64 → places ≡ offsets_of s
-  unfolding noted_from
-  noted_done h = sym (ap (noted_from places at) (rows_end s at h)) ∙ n
-
-  module _ (j : ℕ) (h : 64 ≤ length s - at) (e : j ≡ entry_of (get_or s at 0) (get_or s (at + 4) 0)) where
-    entry_here : entry_of (kind (lent_record s at)) (byte 4 (lent_record s at)) ≡ j
-    entry_here = rw (lent_record_lem s at, kind_at s at, number_at s at) (sym e)
-
-    one_noted : noted_from (noted places j (at + 64)) (at + 64) (records_from s (at + 64)) ≡ offsets_of s
-    unfolding noted_from
-    one_noted =
-        sym (ap (noted_from places at) (rows_lent s at h) ∙ ap (λ (i : ℕ). noted_from (noted places i (at + 64)) (at + 64) (records_from s (at + 64))) entry_here) ∙ n
-
-    pub noted_kept : (get_or places j 0 ≡ 0 → ⊥) → noted_from places (at + 64) (records_from s (at + 64)) ≡ offsets_of s
-    unfolding noted
-    noted_kept k = let q : noted places j (at + 64) ≡ places = rw (ne_eqb (get_or places j 0) 0 k) in rw q at one_noted
-
-    pub noted_put : get_or places j 0 ≡ 0 → noted_from (set places j (at + 64)) (at + 64) (records_from s (at + 64)) ≡ offsets_of s
-    unfolding noted
-    noted_put z = let q : noted places j (at + 64) ≡ set places j (at + 64) = rw (eq-eqb (get_or places j 0) 0 z) in rw q at one_noted
+pub noted_done : (s : Bytes) (places : List ℕ) (rs : List Bytes) (n : ℕ) → noted_from places (n * 64) (drop n rs) ≡ offsets_of s → length rs ≤ n → places ≡ offsets_of s
+unfolding noted_from
+noted_done s places rs n v h = sym (ap (noted_from places (n * 64)) (left_none rs n h)) ∙ v
 
 -- What the offset of an entry says.
 or_none : (o : Option Bytes) → or_next o none ≡ o
@@ -152,28 +181,19 @@ or_none none = refl
 or_none (some r) = refl
 
 module _ (s : Bytes) (places : List ℕ) (f : Found s places) (i : ℕ) (h : i < unasked) where
-  pub place_least : (get_or places i 0 ≡ 0 → ⊥) → 64 ≤ get_or places i 0
-  place_least n = (f.each i h).least (omega arith)
-
-  pub place_most : get_or places i 0 ≤ length s
-  place_most = (f.each i h).most
-
   first_is : ending_at s (get_or places i 0) ≡ first_record (entered i) (records s)
   unfolding first_record
   first_is = sym (or_none (ending_at s (get_or places i 0))) ∙ (f.each i h).first
 
-  pub entered_none : get_or places i 0 ≡ 0 → [] ≡ or_empty (first_record (entered i) (records s))
+  pub entered_none : get_or places i 0 ≡ 0 → none ≡ first_record (entered i) (records s)
   unfolding ending_at
-  entered_none z = let e : ending_at s (get_or places i 0) ≡ none = rw (eq-eqb (get_or places i 0) 0 z) in ap or_empty (sym e ∙ first_is)
+  entered_none z = let e : ending_at s (get_or places i 0) ≡ none = rw (eq-eqb (get_or places i 0) 0 z) in sym e ∙ first_is
 
-  pub entered_some : (get_or places i 0 ≡ 0 → ⊥)
-      → take (get_or places i 0 - (get_or places i 0 - 64)) (drop (get_or places i 0 - 64) s) ≡ or_empty (first_record (entered i) (records s))
+  pub entered_some : (r : Bytes) → (get_or places i 0 ≡ 0 → ⊥) → r ≡ part (get_or places i 0 - 64) 64 s → some r ≡ first_record (entered i) (records s)
   unfolding ending_at
-  entered_some n =
-      let l = place_least n in
-      let k : get_or places i 0 - (get_or places i 0 - 64) ≡ 64 = omega arith in
+  entered_some r n k =
       let e : ending_at s (get_or places i 0) ≡ some (part (get_or places i 0 - 64) 64 s) = rw (ne_eqb (get_or places i 0) 0 n) in
-      rw k (ap or_empty (sym e ∙ first_is))
+      ap some k ∙ sym e ∙ first_is
 
 -- The entries by kind and number.
 past_facts : (c d : Bool) (m n : ℕ) → n < 16 → eqb (if c then 16 + m else if d then 24 else unasked) n ≡ false

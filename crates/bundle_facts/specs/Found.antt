@@ -1,22 +1,21 @@
 -- What the lookups of this crate answer, in the definitions' terms.
-use Rattle.std.specs.Prelude.{[], Bool, true, false}
+use Rattle.std.specs.Prelude.{Some, None}
+use Rattle.std.specs.Prelude as prelude
+use Rattle.std.specs.Borrow.{Bor}
 use Rattle.std.proofs.Math.Option.{Option, none, some}
 use Rattle.rules.specs.Basics.{Bytes}
 use Rattle.rules.specs.Bundle as bundle
-use Rattle.bundle_facts.specs.declared.Signature.{Signature}
-use Rattle.bundle_facts.specs.declared.Signature.TheVariants.{Absent, Bad, Good}
 use Rattle.bundle_facts.specs.declared.Policy.{Policy}
 
--- bytes that may be missing: none of them where they are
-abbrev pub or_empty : Option Bytes → Bytes
-or_empty none = []
-or_empty (some bs) = bs
+-- what may be missing
+abbrev pub given : {A : Type 0} → prelude.Option A → Option A
+given None = none
+given (Some x) = some x
 
--- a signature's outcome: whether it is good, if it is there
-abbrev pub signature_as : Signature → Option Bool
-signature_as Absent = none
-signature_as Bad = some false
-signature_as Good = some true
+-- bytes that may be missing
+abbrev pub bytes_as : prelude.Option (Bor Bytes) → Option Bytes
+bytes_as None = none
+bytes_as (Some x) = some x.now
 
 -- the policy
 abbrev pub policy_as : Policy → bundle.Policy

@@ -3,9 +3,9 @@ use Prim.Native.Nat.{ℕ, ◌+◌, ◌≤◌, ◌<◌}
 use native.Mathlib.Omega.{arith}
 use mathlib.Core.Path.{◌≡◌, refl, sym, ◌∙◌}
 use mathlib.Core.Option.{none, some}
-use mathlib.Core.Bool.{Bool, true, false, not, ◌&&◌}
+use mathlib.Core.Bool.{Bool, true, false, ◌&&◌}
 use lib.Dec.{eqb, ltb, leb}
-use borrow.Author.Tests.{eqb-true, eqb-false, ltb-true, ltb-false, lt-ltb, le-ltb, le-leb, lt-leb, not-true, not-false}
+use borrow.Author.Tests.{eqb-true, eqb-false, ltb-true, ltb-false, lt-ltb, le-ltb, le-leb, lt-leb}
 use Rattle.rules.specs.Numbers.{malformed, too_many}
 use Rattle.rules.specs.Sizes.{listed_max}
 use Rattle.std.specs.Prelude.{if◌then◌else◌}
@@ -76,17 +76,17 @@ module _ (r : Bytes) (order again : ℕ) (e : order ≡ order_of r) (f : again �
 
   -- the fault of a record, by its two tests
   module _ (last listed : ℕ) (t : Bool) (p : t ≡ bundle_in_place last r) (h : listed ≤ listed_max) where
-    pub bundle_full : not t ≡ false → listed_max < listed + again → bundle_record_fault (record { last = last; listed_count = listed }) r ≡ some too_many
+    pub bundle_full : t ≡ true → listed_max < listed + again → bundle_record_fault (record { last = last; listed_count = listed }) r ≡ some too_many
     unfolding bundle_record_fault record_fault first_fault
-    bundle_full n l = rw (sym p ∙ not-false t n, sym (room_is listed h) ∙ lt-leb (listed + again) listed_max l)
+    bundle_full n l = rw (sym p ∙ n, sym (room_is listed h) ∙ lt-leb (listed + again) listed_max l)
 
-    pub bundle_sound : not t ≡ false → listed + again ≤ listed_max → bundle_record_fault (record { last = last; listed_count = listed }) r ≡ none
+    pub bundle_sound : t ≡ true → listed + again ≤ listed_max → bundle_record_fault (record { last = last; listed_count = listed }) r ≡ none
     unfolding bundle_record_fault record_fault first_fault
-    bundle_sound n l = rw (sym p ∙ not-false t n, sym (room_is listed h) ∙ le-leb (listed + again) listed_max l)
+    bundle_sound n l = rw (sym p ∙ n, sym (room_is listed h) ∙ le-leb (listed + again) listed_max l)
 
-pub bundle_bad : (r : Bytes) (s : BundleState) (t : Bool) → t ≡ bundle_in_place s.last r → not t ≡ true → bundle_record_fault s r ≡ some malformed
+pub bundle_bad : (r : Bytes) (s : BundleState) (t : Bool) → t ≡ bundle_in_place s.last r → t ≡ false → bundle_record_fault s r ≡ some malformed
 unfolding bundle_record_fault record_fault first_fault
-bundle_bad r s t p n = rw (sym p ∙ not-true t n)
+bundle_bad r s t p n = rw (sym p ∙ n)
 
 -- the reader's state after a record, from its two numbers
 pub bundle_next : (s : BundleState) (r : Bytes) (last listed : ℕ) → last ≡ order_of r → listed ≡ listed_after s.listed_count r
@@ -95,10 +95,10 @@ bundle_next s r last listed e d = rw (e, d)
 
 -- the end of a bundle
 module _ (s : BundleState) where
-  pub end_bad : not (eqb s.last policy_order) ≡ true → some malformed ≡ bundle_end s
+  pub end_bad : eqb s.last policy_order ≡ false → some malformed ≡ bundle_end s
   unfolding bundle_end
-  end_bad h = sym (rw (not-true (eqb s.last policy_order) h))
+  end_bad h = sym (rw h)
 
-  pub end_sound : not (eqb s.last policy_order) ≡ false → none ≡ bundle_end s
+  pub end_sound : eqb s.last policy_order ≡ true → none ≡ bundle_end s
   unfolding bundle_end
-  end_sound h = sym (rw (not-false (eqb s.last policy_order) h))
+  end_sound h = sym (rw h)

@@ -1,13 +1,12 @@
 // A bundle file: its first fault.
 #![tactic(auto)]
 
-ghost use Rattle.std.specs.Prelude.{◌≡◌, ◌+◌, ◌*◌, length, eqb, if◌then◌else◌};
-ghost use Rattle.rules.specs.Sizes.{record_bytes};
+ghost use Rattle.std.specs.Prelude.{◌≡◌, ◌+◌, ◌*◌, eqb, if◌then◌else◌};
 ghost use Rattle.rules.specs.Basics.{records};
 ghost use Rattle.rules.specs.Bundle.{order_of, listed_order, bundle_record_laid_out, bundle_in_place, bundle_fault};
 ghost use Rattle.files.specs.Faults.{fault_as};
 
-use files::Checked;
+use record_sizes::Record;
 use refusals::Refusal;
 
 // The positions of field 14, and of the policy, which has no number, in the order of kind and number.
@@ -23,8 +22,7 @@ fn order(kind: u8, number: u8) -> u16
 }
 
 // A record's position in that order.
-pub fn record_order(rec: &[u8]) -> u16
-    requires { length rec.now ≡ record_bytes }
+pub fn record_order(rec: &Record) -> u16
     ensures { result ≡ order_of rec.now }
 {
     let kind = rec[0];
@@ -35,8 +33,7 @@ pub fn record_order(rec: &[u8]) -> u16
 }
 
 // Whether a record is a well-formed fact, signature outcome or policy.
-fn bundle_record(rec: &[u8]) -> bool
-    requires { length rec.now ≡ record_bytes }
+fn bundle_record(rec: &Record) -> bool
     ensures { result ≡ bundle_record_laid_out rec.now }
 {
     let kind = rec[0];
@@ -63,36 +60,33 @@ pub fn repeats(here: u16) -> u16
 }
 
 // Whether a record is well formed and its position `here` may follow the position `last`: it rises, or both are field 14.
-pub fn in_place(last: u16, here: u16, again: u16, rec: &[u8]) -> bool
-    requires { (here ≡ order_of rec.now) × (again ≡ (if eqb here listed_order then 1 else 0)) × (length rec.now ≡ record_bytes) }
+pub fn in_place(last: u16, here: u16, again: u16, rec: &Record) -> bool
+    requires { (here ≡ order_of rec.now) × (again ≡ (if eqb here listed_order then 1 else 0)) }
     ensures { result ≡ bundle_in_place last rec.now }
 {
     bundle_record(rec) & (last < here + again)
 }
 
 // The first fault of a bundle's records, from the first on; 2 before 3 within a record; a bundle without a policy gives 2 at its end.
-pub fn bundle_records(bundle: &[u8]) -> Checked
+pub fn bundle_records(bundle: &[u8]) -> Result<(), Refusal>
     ensures { fault_as result ≡ bundle_fault (records bundle.now) }
 {
     let mut last = 0;
     let mut listed = 0;
-    let mut at = 0;
-    while record_sizes::RECORD <= bundle.len() - at {
-        let rec = &bundle[at..at + record_sizes::RECORD];
+    for rec in record_fields::records(bundle) {
         let here = record_order(rec);
         let again = repeats(here);
         if !in_place(last, here, again, rec) {
-            return Checked::Refused(Refusal::Malformed);
+            return Err(Refusal::Malformed);
         }
         listed += again as usize;
         if record_sizes::LISTED < listed {
-            return Checked::Refused(Refusal::TooMany);
+            return Err(Refusal::TooMany);
         }
         last = here;
-        at += record_sizes::RECORD;
     }
     if !(last == POLICY_ORDER) {
-        return Checked::Refused(Refusal::Malformed);
+        return Err(Refusal::Malformed);
     }
-    Checked::Sound
+    Ok(())
 }

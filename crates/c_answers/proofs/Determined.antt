@@ -29,12 +29,11 @@ use Rattle.desk.specs.Replies.{DeskReply, accepting, failing, refusing, verdict_
 use Rattle.desk.specs.declared.Verdict.{Verdict}
 use Rattle.desk.specs.declared.Verdict.TheVariants.{Accepted}
 use Rattle.desk.specs.declared.Verdict.TheVariants as verdicts
-use Rattle.subject.specs.declared.Written.{Written}
-use Rattle.subject.specs.declared.Written.TheVariants.{Length, Refused}
+use Rattle.std.specs.Prelude.{Result, Ok, Err}
 use Rattle.subject.specs.Writing.{subject_reply_as}
-use Rattle.trimming.specs.declared.TrimReply as tool
-use Rattle.trimming.specs.declared.TrimReply.TheVariants.{Trimmed, Failed}
-use Rattle.trimming.specs.declared.TrimReply.TheVariants as trims
+use Rattle.trimming.specs.declared.Lengths.{Lengths}
+use Rattle.trimming.specs.declared.Untrimmed.{Untrimmed}
+use Rattle.trimming.specs.declared.Untrimmed.TheVariants as trims
 use Rattle.trimming.specs.Trimming.{trim_reply_as}
 use Rattle.gate.specs.declared.Ledger.{Ledger}
 use Rattle.gate.proofs.Determined.{ledger_back}
@@ -181,9 +180,9 @@ abbrev pub SubjectTellable : SubjectReply → Type 0
 SubjectTellable (written n) = Unit {0}
 SubjectTellable (unwritten n) = 1 ≤ n
 
-pub subjects_tellable : (w : Written) → SubjectTellable (subject_reply_as w)
-subjects_tellable (Length n) = tt
-subjects_tellable (Refused r) = refusal_from_1 r
+pub subjects_tellable : (w : Result ℕ Refusal) → SubjectTellable (subject_reply_as w)
+subjects_tellable (Ok n) = tt
+subjects_tellable (Err r) = refusal_from_1 r
 
 abbrev subject_back : SubjectInNumbers → SubjectReply
 subject_back w = if eqb w.refusal 0 then written w.length else unwritten w.refusal
@@ -271,10 +270,10 @@ TrimTellable (trimmed m n) = Unit {0}
 TrimTellable (untrimmed s) = Unit {0}
 TrimTellable (unread f) = 1 ≤ f
 
-pub trims_tellable : (t : tool.TrimReply) → TrimTellable (trim_reply_as t)
-trims_tellable (Trimmed m n) = tt
-trims_tellable (Failed s) = tt
-trims_tellable (trims.Refused r) = refusal_from_1 r
+pub trims_tellable : (t : Result Lengths Untrimmed) → TrimTellable (trim_reply_as t)
+trims_tellable (Ok n) = tt
+trims_tellable (Err (trims.Failed s)) = tt
+trims_tellable (Err (trims.Refused r)) = refusal_from_1 r
 
 abbrev trim_back : TrimInNumbers → TrimReply
 trim_back t =

@@ -19,9 +19,9 @@ use desk::{Acceptance, Verdict};
 use desk_steps::Step;
 use gate::{Ledger, Outcome};
 use gate_charge::Reply;
-use refusals::Denial;
-use subject::Written;
-use trimming::TrimReply;
+use refusals::{Denial, Refusal};
+use text_acl::TextError;
+use trimming::{Lengths, Untrimmed};
 
 // No group is named: all ones.
 const NO_GROUP: u32 = 4294967295;
@@ -94,10 +94,7 @@ pub struct HostTrim {
 fn group_number(group: usize) -> u32
     ensures { result ≡ group_number group }
 {
-    if group < 4294967295 {
-        return group as u32;
-    }
-    NO_GROUP
+    u32::try_from(group).unwrap_or(NO_GROUP)
 }
 
 // The group that came nearest, where a denial names one.
@@ -119,8 +116,8 @@ fn reply_refusal(reply: Reply) -> u32
     match reply {
         Reply::Done => 0,
         Reply::Permit(_) => 0,
-        Reply::Refuse(why) => refusals::number(why) as u32,
-        Reply::Deny(why) => refusals::denial_number(why) as u32,
+        Reply::Refuse(why) => u32::from(u8::from(why)),
+        Reply::Deny(why) => u32::from(u8::from(why)),
     }
 }
 
@@ -137,40 +134,66 @@ fn reply_group(reply: Reply) -> u32
 }
 
 // A reply as the host gets it.
-pub fn host_reply(reply: Reply) -> HostReply
-    ensures { host_reply_as result ≡ host_reply_for (answer_as reply) }
-{
-    HostReply {
-        refusal: reply_refusal(reply),
-        group: reply_group(reply),
+impl From<Reply> for HostReply {
+    ghost from_gives = { λ reply host. host_reply_as host ≡ host_reply_for (answer_as reply) };
+
+    fn from(reply: Reply) -> HostReply {
+        HostReply {
+            refusal: reply_refusal(reply),
+            group: reply_group(reply),
+        }
     }
 }
 
 // An outcome as the host gets it.
-pub fn host_outcome(o: Outcome) -> HostOutcome
-    ensures { host_outcome_as result ≡ host_outcome_for (outcome_as o) }
-{
-    let ledger = o.ledger;
-    let reply = o.reply;
-    let answer = host_reply(reply);
-    HostOutcome {
-        refusal: answer.refusal,
-        group: answer.group,
-        ledger,
+impl From<Outcome> for HostOutcome {
+    ghost from_gives = { λ o host. host_outcome_as host ≡ host_outcome_for (outcome_as o) };
+
+    fn from(o: Outcome) -> HostOutcome {
+        let reply = HostReply::from(o.reply);
+        HostOutcome {
+            refusal: reply.refusal,
+            group: reply.group,
+            ledger: o.ledger,
+        }
+    }
+}
+
+// What an outcome says besides its ledger.
+impl From<HostOutcome> for HostReply {
+    ghost from_gives = { λ o host. host_reply_as host ≡ record { refusal = o.refusal; group = o.group } };
+
+    fn from(o: HostOutcome) -> HostReply {
+        HostReply {
+            refusal: o.refusal,
+            group: o.group,
+        }
     }
 }
 
 // An outcome of the cabinet as the host gets it.
-pub fn host_cabinet_outcome(o: CabinetOutcome) -> HostCabinetOutcome
-    ensures { host_cabinet_outcome_as result ≡ host_cabinet_outcome_for (cabinet_outcome_as o) }
-{
-    let cabinet = o.cabinet;
-    let reply = o.reply;
-    let answer = host_reply(reply);
-    HostCabinetOutcome {
-        refusal: answer.refusal,
-        group: answer.group,
-        cabinet,
+impl From<CabinetOutcome> for HostCabinetOutcome {
+    ghost from_gives = { λ o host. host_cabinet_outcome_as host ≡ host_cabinet_outcome_for (cabinet_outcome_as o) };
+
+    fn from(o: CabinetOutcome) -> HostCabinetOutcome {
+        let reply = HostReply::from(o.reply);
+        HostCabinetOutcome {
+            refusal: reply.refusal,
+            group: reply.group,
+            cabinet: o.cabinet,
+        }
+    }
+}
+
+// What an outcome of the cabinet says besides the cabinet.
+impl From<HostCabinetOutcome> for HostReply {
+    ghost from_gives = { λ o host. host_reply_as host ≡ record { refusal = o.refusal; group = o.group } };
+
+    fn from(o: HostCabinetOutcome) -> HostReply {
+        HostReply {
+            refusal: o.refusal,
+            group: o.group,
+        }
     }
 }
 
@@ -178,19 +201,18 @@ pub fn host_cabinet_outcome(o: CabinetOutcome) -> HostCabinetOutcome
 fn step_number(s: Step) -> u32
     ensures { result ≡ step_number (step_as s) }
 {
-    desk_steps::number(s) as u32
+    u32::from(u8::from(s))
 }
 
 // An acceptance as the host gets it.
 fn acceptance(a: Acceptance) -> HostVerdict
     ensures { host_verdict_as result ≡ host_verdict_for (replies.accepting (replies.acceptance_as a)) }
 {
-    let protection = a.protection;
     HostVerdict {
         refusal: 0,
         step: 0,
-        approach: a.approach as u32,
-        protection: desk::protection_number(protection) as u32,
+        approach: u32::from(a.approach),
+        protection: u32::from(u8::from(a.protection)),
         recoverable: a.recoverable,
     }
 }
@@ -209,29 +231,33 @@ fn not_accepted(refusal: u32, step: u32) -> HostVerdict
 }
 
 // A verdict as the host gets it.
-pub fn host_verdict(v: Verdict) -> HostVerdict
-    ensures { host_verdict_as result ≡ host_verdict_for (replies.verdict_as v) }
-{
-    match v {
-        Verdict::Accepted(a) => acceptance(a),
-        Verdict::Failed(s) => not_accepted(0, step_number(s)),
-        Verdict::Refused(why) => not_accepted(refusals::number(why) as u32, 0),
+impl From<Verdict> for HostVerdict {
+    ghost from_gives = { λ v host. host_verdict_as host ≡ host_verdict_for (replies.verdict_as v) };
+
+    fn from(v: Verdict) -> HostVerdict {
+        match v {
+            Verdict::Accepted(a) => acceptance(a),
+            Verdict::Failed(s) => not_accepted(0, step_number(s)),
+            Verdict::Refused(why) => not_accepted(u32::from(u8::from(why)), 0),
+        }
     }
 }
 
 // The answer of the subject writer as the host gets it.
-pub fn host_subject(w: Written) -> HostSubject
-    ensures { host_subject_as result ≡ host_subject_for (writing.subject_reply_as w) }
-{
-    match w {
-        Written::Length(n) => HostSubject {
-            refusal: 0,
-            length: n as u64,
-        },
-        Written::Refused(why) => HostSubject {
-            refusal: refusals::number(why) as u32,
-            length: 0,
-        },
+impl From<Result<usize, Refusal>> for HostSubject {
+    ghost from_gives = { λ written host. host_subject_as host ≡ host_subject_for (writing.subject_reply_as written) };
+
+    fn from(written: Result<usize, Refusal>) -> HostSubject {
+        match written {
+            Ok(n) => HostSubject {
+                refusal: 0,
+                length: n as u64,
+            },
+            Err(why) => HostSubject {
+                refusal: u32::from(u8::from(why)),
+                length: 0,
+            },
+        }
     }
 }
 
@@ -247,13 +273,15 @@ fn text_numbers(refusal: u32, line: u64, length: u64) -> HostText
 }
 
 // The answer of the writer or the reader of listings as the host gets it.
-pub fn host_text(reply: text_acl::Reply) -> HostText
-    ensures { host_text_as result ≡ host_text_for (answers.listing_reply_as reply) }
-{
-    match reply {
-        text_acl::Reply::Produced(n) => text_numbers(0, 0, n as u64),
-        text_acl::Reply::Refused(why) => text_numbers(refusals::number(why) as u32, 0, 0),
-        text_acl::Reply::BadLine(n) => text_numbers(15, n as u64, 0),
+impl From<Result<usize, TextError>> for HostText {
+    ghost from_gives = { λ listed host. host_text_as host ≡ host_text_for (answers.listing_reply_as listed) };
+
+    fn from(listed: Result<usize, TextError>) -> HostText {
+        match listed {
+            Ok(n) => text_numbers(0, 0, n as u64),
+            Err(TextError::Refused(why)) => text_numbers(u32::from(u8::from(why)), 0, 0),
+            Err(TextError::BadLine(n)) => text_numbers(15, n as u64, 0),
+        }
     }
 }
 
@@ -270,12 +298,14 @@ fn trim_numbers(refusal: u32, step: u32, acl: u64, hints: u64) -> HostTrim
 }
 
 // The answer of the trimming tool as the host gets it.
-pub fn host_trim(reply: TrimReply) -> HostTrim
-    ensures { host_trim_as result ≡ host_trim_for (tool.trim_reply_as reply) }
-{
-    match reply {
-        TrimReply::Trimmed(m, n) => trim_numbers(0, 0, m as u64, n as u64),
-        TrimReply::Failed(s) => trim_numbers(0, step_number(s), 0, 0),
-        TrimReply::Refused(why) => trim_numbers(refusals::number(why) as u32, 0, 0, 0),
+impl From<Result<Lengths, Untrimmed>> for HostTrim {
+    ghost from_gives = { λ trimmed host. host_trim_as host ≡ host_trim_for (tool.trim_reply_as trimmed) };
+
+    fn from(trimmed: Result<Lengths, Untrimmed>) -> HostTrim {
+        match trimmed {
+            Ok(n) => trim_numbers(0, 0, n.acl as u64, n.hints as u64),
+            Err(Untrimmed::Failed(s)) => trim_numbers(0, step_number(s), 0, 0),
+            Err(Untrimmed::Refused(why)) => trim_numbers(u32::from(u8::from(why)), 0, 0, 0),
+        }
     }
 }

@@ -26,7 +26,7 @@ pub extern "C" fn akubolinfe_cabinet_load(
 ) -> HostCabinetOutcome
     ensures { host_cabinet_outcome_as result ≡ host_cabinet_outcome_for (cabinet_load (cabinet_as cabinet) slot time) }
 {
-    c_answers::host_cabinet_outcome(cabinet.load(slot, time))
+    HostCabinetOutcome::from(cabinet.load(slot, time))
 }
 
 // A load of a slot in place.
@@ -40,10 +40,7 @@ pub extern "C" fn akubolinfe_cabinet_load_in_place(
 {
     let o = akubolinfe_cabinet_load(*cabinet, slot, time);
     *cabinet = o.cabinet;
-    HostReply {
-        refusal: o.refusal,
-        group: o.group,
-    }
+    HostReply::from(o)
 }
 
 // A clear of one named counter, for every slot.
@@ -51,7 +48,7 @@ pub extern "C" fn akubolinfe_cabinet_load_in_place(
 pub extern "C" fn akubolinfe_cabinet_clear(cabinet: Cabinet, counter: usize) -> HostCabinetOutcome
     ensures { host_cabinet_outcome_as result ≡ host_cabinet_outcome_for (cabinet_clear (cabinet_as cabinet) counter) }
 {
-    c_answers::host_cabinet_outcome(cabinet.clear(counter))
+    HostCabinetOutcome::from(cabinet.clear(counter))
 }
 
 // A clear in place.
@@ -64,10 +61,7 @@ pub extern "C" fn akubolinfe_cabinet_clear_in_place(
 {
     let o = akubolinfe_cabinet_clear(*cabinet, counter);
     *cabinet = o.cabinet;
-    HostReply {
-        refusal: o.refusal,
-        group: o.group,
-    }
+    HostReply::from(o)
 }
 
 // A request to a slot.
@@ -81,7 +75,7 @@ pub extern "C" fn akubolinfe_cabinet_request(
 ) -> HostCabinetOutcome
     ensures { host_cabinet_outcome_as result ≡ host_cabinet_outcome_for (cabinet_request (cabinet_as cabinet) slot km0.now acl.now req.now) }
 {
-    c_answers::host_cabinet_outcome(cabinet.request(slot, km0, acl, req))
+    HostCabinetOutcome::from(cabinet.request(slot, km0, acl, req))
 }
 
 // A request to a slot in place.
@@ -98,10 +92,7 @@ pub extern "C" fn akubolinfe_cabinet_request_in_place(
 {
     let o = akubolinfe_cabinet_request(*cabinet, slot, km0, acl, req);
     *cabinet = o.cabinet;
-    HostReply {
-        refusal: o.refusal,
-        group: o.group,
-    }
+    HostReply::from(o)
 }
 
 // A narrowing in a slot.
@@ -119,7 +110,7 @@ pub extern "C" fn akubolinfe_cabinet_narrow(
         host_cabinet_outcome_for
         (cabinet_narrow (cabinet_as cabinet) slot km0.now acl.now req.now new.now hints.now) }
 {
-    c_answers::host_cabinet_outcome(cabinet.narrow(slot, km0, acl, req, new, hints))
+    HostCabinetOutcome::from(cabinet.narrow(slot, km0, acl, req, new, hints))
 }
 
 // A narrowing in a slot in place.
@@ -139,10 +130,7 @@ pub extern "C" fn akubolinfe_cabinet_narrow_in_place(
 {
     let o = akubolinfe_cabinet_narrow(*cabinet, slot, km0, acl, req, new, hints);
     *cabinet = o.cabinet;
-    HostReply {
-        refusal: o.refusal,
-        group: o.group,
-    }
+    HostReply::from(o)
 }
 
 // An expansion in a slot.
@@ -158,7 +146,7 @@ pub extern "C" fn akubolinfe_cabinet_expand(
     ensures { host_cabinet_outcome_as result ≡
         host_cabinet_outcome_for (cabinet_expand (cabinet_as cabinet) slot km0.now acl.now req.now new.now) }
 {
-    c_answers::host_cabinet_outcome(cabinet.expand(slot, km0, acl, req, new))
+    HostCabinetOutcome::from(cabinet.expand(slot, km0, acl, req, new))
 }
 
 // An expansion in a slot in place.
@@ -177,8 +165,5 @@ pub extern "C" fn akubolinfe_cabinet_expand_in_place(
 {
     let o = akubolinfe_cabinet_expand(*cabinet, slot, km0, acl, req, new);
     *cabinet = o.cabinet;
-    HostReply {
-        refusal: o.refusal,
-        group: o.group,
-    }
+    HostReply::from(o)
 }

@@ -26,7 +26,7 @@ pub extern "C" fn akubolinfe_abi() -> u32
 pub extern "C" fn akubolinfe_desk(bundle: &[u8], acl: &[u8]) -> HostVerdict
     ensures { host_verdict_as result ≡ host_verdict_for (replies.verdict_for (desk bundle.now acl.now)) }
 {
-    c_answers::host_verdict(desk::assess(bundle, acl))
+    HostVerdict::from(desk::assess(bundle, acl))
 }
 
 // The trimmed ACL at the front of one buffer, its hints at the front of the other.
@@ -41,7 +41,7 @@ pub extern "C" fn akubolinfe_trim(
     ensures trimmed { new.new ≡ trim_acl_buffer bundle.now acl.now new.old hints.old }
     ensures hinted { hints.new ≡ trim_hint_buffer bundle.now acl.now new.old hints.old }
 {
-    c_answers::host_trim(trimming::trim(bundle, acl, new, hints))
+    HostTrim::from(trimming::trim(bundle, acl, new, hints))
 }
 
 // The subject of a world certificate, at the front of the buffer.
@@ -55,7 +55,7 @@ pub extern "C" fn akubolinfe_subject(
     ensures reply { host_subject_as result ≡ host_subject_for (subject_reply certificate suite hashes.now buffer.old) }
     ensures bytes { buffer.new ≡ subject_buffer certificate suite hashes.now buffer.old }
 {
-    c_answers::host_subject(subject::write_subject(certificate, suite, hashes, buffer))
+    HostSubject::from(subject::write_subject(certificate, suite, hashes, buffer))
 }
 
 // An ACL's listing, at the front of the buffer.
@@ -64,7 +64,7 @@ pub extern "C" fn akubolinfe_write_listing(acl: &[u8], buffer: &mut [u8]) -> Hos
     ensures reply { host_text_as result ≡ host_text_for (write_listing acl.now buffer.old).reply }
     ensures bytes { buffer.new ≡ (write_listing acl.now buffer.old).buffer }
 {
-    c_answers::host_text(text_acl::write_listing(acl, buffer))
+    HostText::from(text_acl::write_listing(acl, buffer))
 }
 
 // A listing's ACL, at the front of the buffer.
@@ -73,7 +73,7 @@ pub extern "C" fn akubolinfe_read_listing(text: &[u8], buffer: &mut [u8]) -> Hos
     ensures reply { host_text_as result ≡ host_text_for (read_listing_into text.now buffer.old).reply }
     ensures bytes { buffer.new ≡ (read_listing_into text.now buffer.old).buffer }
 {
-    c_answers::host_text(text_acl::read_listing(text, buffer))
+    HostText::from(text_acl::read_listing(text, buffer))
 }
 
 // The text of a file of any kind, at the front of the buffer.
@@ -82,7 +82,7 @@ pub extern "C" fn akubolinfe_write_text(kind: u32, file: &[u8], buffer: &mut [u8
     ensures reply { host_text_as result ≡ host_text_for (written_for (text_kind kind) file.now buffer.old).reply }
     ensures bytes { buffer.new ≡ (written_for (text_kind kind) file.now buffer.old).buffer }
 {
-    c_answers::host_text(text_kinds::write(kind as u64, file, buffer))
+    HostText::from(text_kinds::write(kind as u64, file, buffer))
 }
 
 // The file of a text of any kind, at the front of the buffer.
@@ -91,5 +91,5 @@ pub extern "C" fn akubolinfe_read_text(kind: u32, text: &[u8], buffer: &mut [u8]
     ensures reply { host_text_as result ≡ host_text_for (read_for (text_kind kind) text.now buffer.old).reply }
     ensures bytes { buffer.new ≡ (read_for (text_kind kind) text.now buffer.old).buffer }
 {
-    c_answers::host_text(text_kinds::read(kind as u64, text, buffer))
+    HostText::from(text_kinds::read(kind as u64, text, buffer))
 }

@@ -23,7 +23,7 @@ pub extern "C" fn akubolinfe_fresh() -> Ledger
 pub extern "C" fn akubolinfe_load(ledger: Ledger, time: u64) -> HostOutcome
     ensures { host_outcome_as result ≡ host_outcome_for (load (ledger_as ledger) time) }
 {
-    c_answers::host_outcome(ledger.load(time))
+    HostOutcome::from(ledger.load(time))
 }
 
 // A load in place.
@@ -33,10 +33,7 @@ pub extern "C" fn akubolinfe_load_in_place(ledger: &mut Ledger, time: u64) -> Ho
 {
     let o = akubolinfe_load(*ledger, time);
     *ledger = o.ledger;
-    HostReply {
-        refusal: o.refusal,
-        group: o.group,
-    }
+    HostReply::from(o)
 }
 
 // A clear of one named counter.
@@ -44,7 +41,7 @@ pub extern "C" fn akubolinfe_load_in_place(ledger: &mut Ledger, time: u64) -> Ho
 pub extern "C" fn akubolinfe_clear(ledger: Ledger, counter: usize) -> HostOutcome
     ensures { host_outcome_as result ≡ host_outcome_for (clear (ledger_as ledger) counter) }
 {
-    c_answers::host_outcome(ledger.clear(counter))
+    HostOutcome::from(ledger.clear(counter))
 }
 
 // A clear in place.
@@ -54,10 +51,7 @@ pub extern "C" fn akubolinfe_clear_in_place(ledger: &mut Ledger, counter: usize)
 {
     let o = akubolinfe_clear(*ledger, counter);
     *ledger = o.ledger;
-    HostReply {
-        refusal: o.refusal,
-        group: o.group,
-    }
+    HostReply::from(o)
 }
 
 // A request for a use or a blob.
@@ -70,7 +64,7 @@ pub extern "C" fn akubolinfe_request(
 ) -> HostOutcome
     ensures { host_outcome_as result ≡ host_outcome_for (request (ledger_as ledger) km0.now acl.now req.now) }
 {
-    c_answers::host_outcome(ledger.request(km0, acl, req))
+    HostOutcome::from(ledger.request(km0, acl, req))
 }
 
 // A request in place.
@@ -85,10 +79,7 @@ pub extern "C" fn akubolinfe_request_in_place(
 {
     let o = akubolinfe_request(*ledger, km0, acl, req);
     *ledger = o.ledger;
-    HostReply {
-        refusal: o.refusal,
-        group: o.group,
-    }
+    HostReply::from(o)
 }
 
 // A narrowing.
@@ -104,7 +95,7 @@ pub extern "C" fn akubolinfe_narrow(
     ensures { host_outcome_as result ≡
         host_outcome_for (narrow (ledger_as ledger) km0.now acl.now req.now new.now hints.now) }
 {
-    c_answers::host_outcome(ledger.narrow(km0, acl, req, new, hints))
+    HostOutcome::from(ledger.narrow(km0, acl, req, new, hints))
 }
 
 // A narrowing in place.
@@ -123,10 +114,7 @@ pub extern "C" fn akubolinfe_narrow_in_place(
 {
     let o = akubolinfe_narrow(*ledger, km0, acl, req, new, hints);
     *ledger = o.ledger;
-    HostReply {
-        refusal: o.refusal,
-        group: o.group,
-    }
+    HostReply::from(o)
 }
 
 // An expansion.
@@ -140,7 +128,7 @@ pub extern "C" fn akubolinfe_expand(
 ) -> HostOutcome
     ensures { host_outcome_as result ≡ host_outcome_for (expand (ledger_as ledger) km0.now acl.now req.now new.now) }
 {
-    c_answers::host_outcome(ledger.expand(km0, acl, req, new))
+    HostOutcome::from(ledger.expand(km0, acl, req, new))
 }
 
 // An expansion in place.
@@ -157,8 +145,5 @@ pub extern "C" fn akubolinfe_expand_in_place(
 {
     let o = akubolinfe_expand(*ledger, km0, acl, req, new);
     *ledger = o.ledger;
-    HostReply {
-        refusal: o.refusal,
-        group: o.group,
-    }
+    HostReply::from(o)
 }

@@ -1,33 +1,37 @@
--- Indices fit 32 bits; the answers by the arms of each match.
+-- Indices in 32 bits; the answers by the arms of the match on a kind.
 use Prim.Native.Nat.{ℕ, ◌≤◌, ◌<◌}
-use mathlib.Core.Path.{◌≡◌, sym, ◌∙◌, ap}
-use borrow.Author.Tests.{lt-ltb, le-ltb, ne_eqb}
+use native.Mathlib.Omega.{arith}
+use mathlib.Core.Path.{◌≡◌, refl, sym, ◌∙◌}
+use mathlib.Core.Bool.{Bool, true, false}
+use lib.Dec.{ltb}
+use borrow.Author.Tests.{lt-ltb, le-ltb, ltb-true, ltb-false, ne_eqb}
+use Rattle.std.specs.Prelude.{Result, Ok, Err}
+use Rattle.std.specs.Result.{OkIff, result_unwrap_or}
 use Rattle.rules.specs.Numbers.{out_of_range}
 use Rattle.rules.specs.Basics.{Bytes}
 use Rattle.text_files.specs.declared.Kind.TheVariants as kind
-use Rattle.refusals.specs.Refusals.{refusal_number, denial_number, denial_group}
-use Rattle.refusals.specs.declared.Refusal.{Refusal}
-use Rattle.refusals.specs.declared.Denial.{Denial}
-use Rattle.reason_files.specs.Places.{Place, place_in, place_as}
-use Rattle.reason_files.specs.declared.FilePlace.{FilePlace}
-use Rattle.reason_files.specs.declared.FilePlace.TheVariants.{Record, End}
-use Rattle.reason_inputs.specs.declared.Input.{Input}
-use Rattle.reason_limits.specs.declared.SpentBy.{SpentBy}
-use Rattle.reason_limits.specs.declared.SpentBy.TheVariants as by
-use Rattle.reason_narrowing.specs.declared.Breach.{Breach}
-use Rattle.reason_narrowing.specs.declared.Breach.TheVariants as breach
-use Rattle.reason_calls.specs.Calls.{call_place_as}
-use Rattle.reason_calls.specs.declared.CallPlace.{CallPlace}
-use Rattle.reason_calls.specs.declared.CallPlace.TheVariants.{Permitted, BadInput, Denied, NotNarrower}
-use Rattle.c_reasons.specs.Reasons.{unnamed, index_number, index_or_none, FileInNumbers, file_numbers, host_file_for, host_file_of, input_number, ReasonInNumbers, reason_numbers, spent_numbers, breach_numbers, CallInNumbers, input_numbers, judged_numbers, host_call_for}
+use Rattle.reason_files.specs.Places.{Place, place_in}
+use Rattle.c_reasons.specs.Reasons.{unnamed, index_number, FileInNumbers, file_numbers, host_file_for, host_file_of}
 
-pub index_fits : (n i : ℕ) → i < unnamed → n ≡ i → n ≡ index_number i
+index_fits : (n i : ℕ) → i < unnamed → n ≡ i → n ≡ index_number i
 unfolding index_number
 index_fits n i h e = sym (rw (lt-ltb i unnamed h, e))
 
-pub index_past : (n i : ℕ) → unnamed ≤ i → n ≡ unnamed → n ≡ index_number i
+index_past : (n i : ℕ) → unnamed ≤ i → n ≡ unnamed → n ≡ index_number i
 unfolding index_number
 index_past n i h e = sym (rw (le-ltb i unnamed h, e))
+
+index_by_size : (n i : ℕ) → (i < unnamed → n ≡ i) → (unnamed ≤ i → n ≡ unnamed) → n ≡ index_number i
+index_by_size n i f p = pick (ltb i unnamed) refl
+  where
+    pick : (b : Bool) → ltb i unnamed ≡ b → n ≡ index_number i
+    pick true e = let h = ltb-true i unnamed e in index_fits n i h (f h)
+    pick false e = let h = ltb-false i unnamed e in index_past n i h (p h)
+
+-- what fits, and else all ones: the greatest that fits is all ones itself
+pub index_told : {E : Type 0} (r : Result ℕ E) (n i : ℕ) → OkIff r (i < 4294967296) i → n ≡ result_unwrap_or r 4294967295 → n ≡ index_number i
+index_told (Ok x) n i h e = index_by_size n i (λ k. e ∙ h.1) (λ k. omega (arith, e, h.1, h.0))
+index_told (Err x) n i h e = index_by_size n i (λ k. absurd (h (omega arith))) (λ k. e)
 
 -- the arms of the match on a kind's number
 module _ (n : ℕ) (file : Bytes) (x : FileInNumbers) (p : Place) (d : x ≡ host_file_for p) where
@@ -55,49 +59,3 @@ module _ (n : ℕ) (file : Bytes) (x : FileInNumbers) (p : Place) (d : x ≡ hos
 pub file_unknown : (n : ℕ) (file : Bytes) (x : FileInNumbers) → (n ≡ 0 → ⊥) → (n ≡ 1 → ⊥) → (n ≡ 2 → ⊥) → (n ≡ 3 → ⊥) → (n ≡ 4 → ⊥) → x ≡ file_numbers out_of_range 0 unnamed → x ≡ host_file_of n file
 unfolding host_file_of
 file_unknown n file x a b c d e z = z ∙ sym (rw (ne_eqb n 0 a, ne_eqb n 1 b, ne_eqb n 2 c, ne_eqb n 3 d, ne_eqb n 4 e))
-
--- a file's place
-module _ (x : FileInNumbers) (place : FilePlace) where
-  pub file_told : (q : FilePlace) → place ≡ q → x ≡ host_file_for (place_as q) → x ≡ host_file_for (place_as place)
-  file_told q e d = d ∙ sym (ap (λ (z : FilePlace). host_file_for (place_as z)) e)
-
-  pub file_record : (why : Refusal) (i n k : ℕ) → place ≡ Record why i → n ≡ refusal_number why → k ≡ index_number i → x ≡ file_numbers n 2 k → x ≡ host_file_for (place_as place)
-  file_record why i n k e f g d = d ∙ ap (λ (m : ℕ). file_numbers m 2 k) f ∙ ap (file_numbers (refusal_number why) 2) g ∙ sym (ap (λ (z : FilePlace). host_file_for (place_as z)) e)
-
-  pub file_end : (why : Refusal) (i n k : ℕ) → place ≡ End why i → n ≡ refusal_number why → k ≡ index_number i → x ≡ file_numbers n 3 k → x ≡ host_file_for (place_as place)
-  file_end why i n k e f g d = d ∙ ap (λ (m : ℕ). file_numbers m 3 k) f ∙ ap (file_numbers (refusal_number why) 3) g ∙ sym (ap (λ (z : FilePlace). host_file_for (place_as z)) e)
-
--- what is spent, and what breaks a narrowing
-module _ (x : ReasonInNumbers) where
-  pub spent_told : (s q : SpentBy) → s ≡ q → x ≡ spent_numbers q → x ≡ spent_numbers s
-  spent_told s q e d = d ∙ sym (ap spent_numbers e)
-
-  pub spent_limit_lem : (s : SpentBy) (i k : ℕ) → s ≡ by.Limit i → k ≡ index_number i → x ≡ reason_numbers 5 k → x ≡ spent_numbers s
-  spent_limit_lem s i k e f d = d ∙ ap (reason_numbers 5) f ∙ sym (ap spent_numbers e)
-
-  pub breach_told : (b q : Breach) → b ≡ q → x ≡ breach_numbers q → x ≡ breach_numbers b
-  breach_told b q e d = d ∙ sym (ap breach_numbers e)
-
-  pub breach_limit : (b : Breach) (i k : ℕ) → b ≡ breach.Limit i → k ≡ index_number i → x ≡ reason_numbers 3 k → x ≡ breach_numbers b
-  breach_limit b i k e f d = d ∙ ap (reason_numbers 3) f ∙ sym (ap breach_numbers e)
-
-  pub breach_action : (b : Breach) (i k : ℕ) → b ≡ breach.Action i → k ≡ index_number i → x ≡ reason_numbers 4 k → x ≡ breach_numbers b
-  breach_action b i k e f d = d ∙ ap (reason_numbers 4) f ∙ sym (ap breach_numbers e)
-
--- a call's place
-module _ (x : CallInNumbers) (place : CallPlace) where
-  told : (q : CallPlace) → place ≡ q → host_call_for (call_place_as q) ≡ host_call_for (call_place_as place)
-  told q e = sym (ap (λ (z : CallPlace). host_call_for (call_place_as z)) e)
-
-  pub call_permitted : (r : ReasonInNumbers) → place ≡ Permitted → r ≡ reason_numbers 0 unnamed → x ≡ judged_numbers 0 unnamed r → x ≡ host_call_for (call_place_as place)
-  call_permitted r e f d = d ∙ ap (judged_numbers 0 unnamed) f ∙ told Permitted e
-
-  pub call_bad : (i : Input) (p : FilePlace) (n : ℕ) (f : FileInNumbers) → place ≡ BadInput i p → n ≡ input_number i → f ≡ host_file_for (place_as p) → x ≡ input_numbers n f → x ≡ host_call_for (call_place_as place)
-  call_bad i p n f e g h d = d ∙ ap (λ (m : ℕ). input_numbers m f) g ∙ ap (input_numbers (input_number i)) h ∙ told (BadInput i p) e
-
-  pub call_denied : (w : Denial) (s : SpentBy) (n g : ℕ) (r : ReasonInNumbers) → place ≡ Denied w s → n ≡ denial_number w → g ≡ index_or_none (denial_group w) → r ≡ spent_numbers s → x ≡ judged_numbers n g r → x ≡ host_call_for (call_place_as place)
-  call_denied w s n g r e f h k d =
-      d ∙ ap (λ (m : ℕ). judged_numbers m g r) f ∙ ap (λ (m : ℕ). judged_numbers (denial_number w) m r) h ∙ ap (judged_numbers (denial_number w) (index_or_none (denial_group w))) k ∙ told (Denied w s) e
-
-  pub call_broken : (i : ℕ) (b : Breach) (g : ℕ) (r : ReasonInNumbers) → place ≡ NotNarrower i b → g ≡ index_number i → r ≡ breach_numbers b → x ≡ judged_numbers 8 g r → x ≡ host_call_for (call_place_as place)
-  call_broken i b g r e h k d = d ∙ ap (λ (m : ℕ). judged_numbers 8 m r) h ∙ ap (judged_numbers 8 (index_number i)) k ∙ told (NotNarrower i b) e

@@ -59,13 +59,13 @@ host_file_of n file =
     else file_numbers out_of_range 0 unnamed
 
 -- "inputs: 0 none, 1 KM0, 2 ACL, 3 request, 4 new ACL, 5 hints"
-abbrev pub input_number : Input → ℕ
-input_number input.Nothing = 0
-input_number input.Km0 = 1
-input_number input.Acl = 2
-input_number input.Request = 3
-input_number input.NewAcl = 4
-input_number input.Hints = 5
+abbrev pub input_number : Option Input → ℕ
+input_number none = 0
+input_number (some input.Km0) = 1
+input_number (some input.Acl) = 2
+input_number (some input.Request) = 3
+input_number (some input.NewAcl) = 4
+input_number (some input.Hints) = 5
 
 -- What breaks a rule: the reason, and the index of the item.
 pub record ReasonInNumbers : Type 0 where

@@ -3,6 +3,7 @@
 #![tactic(auto)]
 
 ghost use Rattle.std.specs.Prelude.{◌≡◌};
+ghost use Rattle.std.proofs.Math.Option.{some};
 ghost use Rattle.refusals.specs.Refusals.{denial_group};
 ghost use Rattle.gate.specs.Outcomes.{ledger_as};
 ghost use Rattle.reason_files.specs.Places.{place_as};
@@ -54,10 +55,7 @@ pub struct Reason {
 fn index_number(i: usize) -> u32
     ensures { result ≡ index_number i }
 {
-    if i < 4294967295 {
-        return i as u32;
-    }
-    UNNAMED
+    u32::try_from(i).unwrap_or(UNNAMED)
 }
 
 // A file's place in its three numbers.
@@ -72,14 +70,24 @@ fn file_numbers(refusal: u32, part: u32, index: u32) -> HostFilePlace
 }
 
 // A file's place as the host gets it.
-fn host_file(place: FilePlace) -> HostFilePlace
-    ensures { host_file_as result ≡ host_file_for (place_as place) }
-{
-    match place {
-        FilePlace::Sound => file_numbers(0, 0, UNNAMED),
-        FilePlace::Length => file_numbers(1, 1, UNNAMED),
-        FilePlace::Record(why, i) => file_numbers(refusals::number(why) as u32, 2, index_number(i)),
-        FilePlace::End(why, n) => file_numbers(refusals::number(why) as u32, 3, index_number(n)),
+impl From<Result<(), FilePlace>> for HostFilePlace {
+    ghost from_gives = { λ found host. host_file_as host ≡ host_file_for (place_as found) };
+
+    fn from(found: Result<(), FilePlace>) -> HostFilePlace {
+        match found {
+            Ok(()) => file_numbers(0, 0, UNNAMED),
+            Err(FilePlace::Length) => file_numbers(1, 1, UNNAMED),
+            Err(FilePlace::Record(why, i)) => file_numbers(
+                u32::from(u8::from(why)),
+                2,
+                index_number(i),
+            ),
+            Err(FilePlace::End(why, n)) => file_numbers(
+                u32::from(u8::from(why)),
+                3,
+                index_number(n),
+            ),
+        }
     }
 }
 
@@ -89,21 +97,20 @@ pub extern "C" fn akubolinfe_locate_file(kind: u32, file: &[u8]) -> HostFilePlac
     ensures { host_file_as result ≡ host_file_of kind file.now }
 {
     match kind {
-        0 => host_file(reason_files::locate(Kind::Acl, file)),
-        1 => host_file(reason_files::locate(Kind::Request, file)),
-        2 => host_file(reason_files::locate(Kind::Requests, file)),
-        3 => host_file(reason_files::locate(Kind::Bundle, file)),
-        4 => host_file(reason_files::locate(Kind::Hints, file)),
+        0 => HostFilePlace::from(reason_files::locate(Kind::Acl, file)),
+        1 => HostFilePlace::from(reason_files::locate(Kind::Request, file)),
+        2 => HostFilePlace::from(reason_files::locate(Kind::Requests, file)),
+        3 => HostFilePlace::from(reason_files::locate(Kind::Bundle, file)),
+        4 => HostFilePlace::from(reason_files::locate(Kind::Hints, file)),
         _ => file_numbers(10, 0, UNNAMED),
     }
 }
 
 // The number of an input.
 fn input_number(input: Input) -> u32
-    ensures { result ≡ input_number input }
+    ensures { result ≡ input_number (some input) }
 {
     match input {
-        Input::Nothing => 0,
         Input::Km0 => 1,
         Input::Acl => 2,
         Input::Request => 3,
@@ -186,21 +193,26 @@ fn judged_call(refusal: u32, group: u32, why: Reason) -> HostCallPlace
 }
 
 // A call's place as the host gets it.
-fn host_call(place: CallPlace) -> HostCallPlace
-    ensures { host_call_as result ≡ host_call_for (call_place_as place) }
-{
-    match place {
-        CallPlace::Permitted => judged_call(0, UNNAMED, reason_numbers(0, UNNAMED)),
-        CallPlace::BadInput(input, at) => input_call(input_number(input), host_file(at)),
-        CallPlace::Denied(d, by) => {
-            judged_call(
-                refusals::denial_number(d) as u32,
+impl From<Result<(), CallPlace>> for HostCallPlace {
+    ghost from_gives = { λ found host. host_call_as host ≡ host_call_for (call_place_as found) };
+
+    fn from(found: Result<(), CallPlace>) -> HostCallPlace {
+        match found {
+            Ok(()) => judged_call(0, UNNAMED, reason_numbers(0, UNNAMED)),
+            Err(CallPlace::BadInput(input, at)) => input_call(
+                input_number(input),
+                HostFilePlace::from(Err(at)),
+            ),
+            Err(CallPlace::Denied(d, by)) => judged_call(
+                u32::from(u8::from(d)),
                 nearest(d),
                 spent_reason(by),
-            )
-        }
-        CallPlace::NotNarrower(group, why) => {
-            judged_call(8, index_number(group), breach_reason(why))
+            ),
+            Err(CallPlace::NotNarrower(group, why)) => judged_call(
+                8,
+                index_number(group),
+                breach_reason(why),
+            ),
         }
     }
 }
@@ -217,7 +229,7 @@ pub extern "C" fn akubolinfe_locate_request(
 {
     let loaded = ledger.loaded;
     let last = ledger.last;
-    host_call(reason_calls::locate_request(
+    HostCallPlace::from(reason_calls::locate_request(
         &ledger.counts,
         &ledger.counters,
         loaded,
@@ -242,7 +254,7 @@ pub extern "C" fn akubolinfe_locate_narrow(
 {
     let loaded = ledger.loaded;
     let last = ledger.last;
-    host_call(reason_calls::locate_narrow(
+    HostCallPlace::from(reason_calls::locate_narrow(
         &ledger.counts,
         &ledger.counters,
         loaded,
@@ -268,7 +280,7 @@ pub extern "C" fn akubolinfe_locate_expand(
 {
     let loaded = ledger.loaded;
     let last = ledger.last;
-    host_call(reason_calls::locate_expand(
+    HostCallPlace::from(reason_calls::locate_expand(
         &ledger.counts,
         &ledger.counters,
         loaded,

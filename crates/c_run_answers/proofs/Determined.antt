@@ -12,7 +12,6 @@ use Rattle.rules.specs.Prepared.{Preparation, prepared, unprepared}
 use Rattle.rules.specs.CabinetRuns.{CabinetRan}
 use Rattle.gate.specs.declared.Ledger.{Ledger}
 use Rattle.gate.proofs.Determined.{ledger_back}
-use Rattle.run_form.specs.Forms.{preparation_for}
 use Rattle.run_form.proofs.Determined.{form_back}
 use Rattle.c_run_answers.specs.declared.HostRunReply.{HostRunReply}
 use Rattle.c_run_answers.specs.declared.HostRun.{HostRun}
@@ -94,9 +93,9 @@ FormTellable (unprepared n) = 1 ≤ n
 abbrev preparation_back : FormInNumbers → Preparation
 preparation_back t = if eqb t.refusal 0 then prepared t.form else unprepared t.refusal
 
-preparation_back_lem : (p : Preparation) → FormTellable p → preparation_back (host_form_for (preparation_for p)) ≡ p
+preparation_back_lem : (p : Preparation) → FormTellable p → preparation_back (host_form_for p) ≡ p
 preparation_back_lem (prepared f) h = refl
 preparation_back_lem (unprepared n) h = rw (not_zero_lem n h)
 
-pub preparation_told : (p q : Preparation) → FormTellable p → FormTellable q → host_form_for (preparation_for p) ≡ host_form_for (preparation_for q) → p ≡ q
+pub preparation_told : (p q : Preparation) → FormTellable p → FormTellable q → host_form_for p ≡ host_form_for q → p ≡ q
 preparation_told p q h k e = sym (preparation_back_lem p h) ∙ ap preparation_back e ∙ preparation_back_lem q k

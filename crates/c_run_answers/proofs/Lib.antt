@@ -1,2 +1,1 @@
 pub mod Determined
-pub mod Laws

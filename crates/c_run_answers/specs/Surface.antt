@@ -1,16 +1,15 @@
 -- Runs and prepared forms in plain numbers, as the code gives them and as the definitions do. "refusal first, 0 where there is none"
-use Rattle.std.specs.Prelude.{ℕ}
-use Rattle.std.proofs.Math.Option.{Option, none, some}
+use Rattle.std.specs.Prelude.{ℕ, []}
 use Rattle.rules.specs.Basics.{Bytes}
 use Rattle.rules.specs.Ledger as rules
 use Rattle.rules.specs.Runs.{RunReply, ran, refused_whole, RunOutcome}
-use Rattle.rules.specs.Prepared.{Form}
+use Rattle.rules.specs.Prepared.{Form, Preparation, prepared, unprepared, form_of}
 use Rattle.rules.specs.Cabinet.{Cabinet}
 use Rattle.rules.specs.CabinetRuns.{CabinetRan}
 use Rattle.gate.specs.declared.Ledger.{Ledger}
 use Rattle.gate.specs.Outcomes.{ledger_as}
 use Rattle.cabinet.specs.declared.Cabinet as kept
-use Rattle.run_form.specs.Forms.{form_as, Answered}
+use Rattle.run_form.specs.Forms.{form_as}
 use Rattle.cabinet.specs.Kept.{cabinet_as}
 use Rattle.c_run_answers.specs.declared.HostRunReply.{HostRunReply}
 use Rattle.c_run_answers.specs.declared.HostRun.{HostRun}
@@ -69,9 +68,6 @@ pub record FormInNumbers : Type 0 where
 abbrev pub host_form_as : HostForm → FormInNumbers
 host_form_as r = record { refusal = r.refusal; form = form_as r.form }
 
-abbrev pub fault_number : Option ℕ → ℕ
-fault_number none = 0
-fault_number (some n) = n
-
-abbrev pub host_form_for : Answered → FormInNumbers
-host_form_for a = record { refusal = fault_number a.fault; form = a.form }
+abbrev pub host_form_for : Preparation → FormInNumbers
+host_form_for (prepared f) = record { refusal = 0; form = f }
+host_form_for (unprepared n) = record { refusal = n; form = form_of [] }

@@ -7,7 +7,7 @@ ghost use Rattle.rules.specs.Prepared.{prepare, prepared_run};
 ghost use Rattle.rules.specs.CabinetRuns.{cabinet_run, cabinet_prepared_run};
 ghost use Rattle.gate.specs.Outcomes.{ledger_as};
 ghost use Rattle.cabinet.specs.Kept.{cabinet_as};
-ghost use Rattle.run_form.specs.Forms.{form_as, preparation_for};
+ghost use Rattle.run_form.specs.Forms.{form_as};
 ghost use Rattle.run_certificates.specs.Rows.{row_as};
 ghost use Rattle.c_run_answers.specs.Surface.{host_run_as, host_run_in, host_run_for, host_cabinet_run_as, host_cabinet_run_in, host_cabinet_run_for, host_form_as, host_form_for};
 
@@ -20,9 +20,9 @@ use run_form::Prepared;
 // The form of an ACL.
 #[unsafe(no_mangle)]
 pub extern "C" fn akubolinfe_prepare(acl: &[u8]) -> HostForm
-    ensures { host_form_as result ≡ host_form_for (preparation_for (prepare acl.now)) }
+    ensures { host_form_as result ≡ host_form_for (prepare acl.now) }
 {
-    c_run_answers::form(run_form::prepare(acl))
+    HostForm::from(run_form::prepare(acl))
 }
 
 // A run over decoded certificates.
@@ -38,7 +38,7 @@ pub extern "C" fn akubolinfe_run(
     ensures { host_run_as result answers.new ≡ host_run_for (run (ledger_as ledger) km0.now acl.now (row_as row.now)
         requests.now answers.old) }
 {
-    c_run_answers::run(runs::run(ledger, km0, acl, row, requests, answers))
+    HostRun::from(runs::run(ledger, km0, acl, row, requests, answers))
 }
 
 // A run over decoded certificates in place.
@@ -56,10 +56,7 @@ pub extern "C" fn akubolinfe_run_in_place(
 {
     let o = akubolinfe_run(*ledger, km0, acl, row, requests, answers);
     *ledger = o.ledger;
-    HostRunReply {
-        refusal: o.refusal,
-        count: o.count,
-    }
+    HostRunReply::from(o)
 }
 
 // A run on a prepared ACL.
@@ -76,7 +73,7 @@ pub extern "C" fn akubolinfe_prepared_run(
     ensures { host_run_as result answers.new ≡ host_run_for (prepared_run (ledger_as ledger) km0.now acl.now (row_as row.now)
         (form_as form) requests.now answers.old) }
 {
-    c_run_answers::run(runs::prepared_run(ledger, km0, acl, row, form, requests, answers))
+    HostRun::from(runs::prepared_run(ledger, km0, acl, row, form, requests, answers))
 }
 
 // A run on a prepared ACL in place.
@@ -95,10 +92,7 @@ pub extern "C" fn akubolinfe_prepared_run_in_place(
 {
     let o = akubolinfe_prepared_run(*ledger, km0, acl, row, form, requests, answers);
     *ledger = o.ledger;
-    HostRunReply {
-        refusal: o.refusal,
-        count: o.count,
-    }
+    HostRunReply::from(o)
 }
 
 // A run over decoded certificates in a slot of a cabinet.
@@ -117,7 +111,7 @@ pub extern "C" fn akubolinfe_cabinet_run(
         (cabinet_run (cabinet_as cabinet) slot km0.now acl.now (row_as row.now) requests.now
         answers.old) }
 {
-    c_run_answers::cabinet_run(cabinet_runs::run(cabinet, slot, km0, acl, row, requests, answers))
+    HostCabinetRun::from(cabinet_runs::run(cabinet, slot, km0, acl, row, requests, answers))
 }
 
 // A run over decoded certificates in a slot, in place.
@@ -138,10 +132,7 @@ pub extern "C" fn akubolinfe_cabinet_run_in_place(
 {
     let o = akubolinfe_cabinet_run(*cabinet, slot, km0, acl, row, requests, answers);
     *cabinet = o.cabinet;
-    HostRunReply {
-        refusal: o.refusal,
-        count: o.count,
-    }
+    HostRunReply::from(o)
 }
 
 // A run on a prepared ACL in a slot of a cabinet.
@@ -161,7 +152,7 @@ pub extern "C" fn akubolinfe_cabinet_prepared_run(
         (cabinet_prepared_run (cabinet_as cabinet) slot km0.now acl.now (row_as row.now) (form_as form)
         requests.now answers.old) }
 {
-    c_run_answers::cabinet_run(cabinet_runs::prepared_run(
+    HostCabinetRun::from(cabinet_runs::prepared_run(
         cabinet, slot, km0, acl, row, form, requests, answers,
     ))
 }
@@ -185,8 +176,5 @@ pub extern "C" fn akubolinfe_cabinet_prepared_run_in_place(
 {
     let o = akubolinfe_cabinet_prepared_run(*cabinet, slot, km0, acl, row, form, requests, answers);
     *cabinet = o.cabinet;
-    HostRunReply {
-        refusal: o.refusal,
-        count: o.count,
-    }
+    HostRunReply::from(o)
 }

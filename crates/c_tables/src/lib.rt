@@ -27,7 +27,7 @@ pub extern "C" fn akubolinfe_request_on_tables(
         (request (ledger_of_tables counts.old counters.old loaded last.old) km0.now acl.now
         req.now) }
 {
-    c_answers::host_reply(gate_in_place::request(counts, counters, loaded, last, km0, acl, req))
+    HostReply::from(gate_in_place::request(counts, counters, loaded, last, km0, acl, req))
 }
 
 // A narrowing.
@@ -48,7 +48,7 @@ pub extern "C" fn akubolinfe_narrow_on_tables(
         (narrow (ledger_of_tables counts.old counters.old loaded last.old) km0.now acl.now
         req.now new.now hints.now) }
 {
-    c_answers::host_reply(gate_in_place::narrow(
+    HostReply::from(gate_in_place::narrow(
         counts, counters, loaded, last, km0, acl, req, new, hints,
     ))
 }
@@ -70,5 +70,5 @@ pub extern "C" fn akubolinfe_expand_on_tables(
         (expand (ledger_of_tables counts.old counters.old loaded last.old) km0.now acl.now
         req.now new.now) }
 {
-    c_answers::host_reply(gate_in_place::expand(counts, counters, loaded, last, km0, acl, req, new))
+    HostReply::from(gate_in_place::expand(counts, counters, loaded, last, km0, acl, req, new))
 }

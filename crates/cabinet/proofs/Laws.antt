@@ -4,8 +4,8 @@ use native.Mathlib.Omega.{arith}
 use mathlib.Core.Path.{◌≡◌, refl, sym, ◌∙◌, ap}
 use mathlib.Core.List.{List, [], ◌∷◌, map}
 use mathlib.Core.Option.{none}
-use mathlib.Core.Bool.{Bool, true, false, not}
-use borrow.Author.Tests.{lt-ltb, le-ltb, not-true, not-false}
+use mathlib.Core.Bool.{Bool, true, false}
+use borrow.Author.Tests.{lt-ltb, le-ltb}
 use lib.ListN.{get_or, set, get_or-map}
 use lib.Seq.{set-get_or}
 use lib.Dec.{ltb}
@@ -13,9 +13,13 @@ use Rattle.rules.specs.Sizes.{slots_max}
 use Rattle.rules.specs.Numbers.{no_slot}
 use Rattle.rules.specs.Acl.{Group}
 use Rattle.rules.specs.Ledger.{Ledger}
-use Rattle.rules.specs.Gate.{Answer, refuse, Outcome}
+use Rattle.rules.specs.Gate.{Answer, refuse, refused, Outcome}
 use Rattle.rules.proofs.Choices.{pick_ge, pick_lt}
 use Rattle.rules.specs.Cabinet as rules
+use Rattle.refusals.specs.declared.Refusal.TheVariants.{NoSlot}
+use Rattle.gate_charge.specs.declared.Reply.{Reply}
+use Rattle.gate_charge.specs.declared.Reply.TheVariants.{Refuse}
+use Rattle.gate_charge.specs.Charges.{answer_as}
 use Rattle.gate.specs.Outcomes.{Settles}
 use Rattle.gate.proofs.Settling.{settles_refused}
 use Rattle.cabinet.specs.declared.Slot.{Slot}
@@ -28,13 +32,11 @@ place_of slot r h e = (rw e h, e ∙ sym (rw (lt-ltb slot slots_max h)))
 pub place_past : (slot r : ℕ) → slots_max ≤ slot → r ≡ 0 → (r < slots_max) × (r ≡ slot_index slot)
 place_past slot r h e = (omega (arith, e), e ∙ sym (rw (le-ltb slot slots_max h)))
 
--- a call where there is a slot, and where there is none: that one charges nothing
-module _ (l : Ledger) (gs : List Group) (time : ℕ) (after : Answer → List ℕ → List ℕ) (o : Outcome) (there : Bool) where
-  pub not_there : after (refuse no_slot none) l.counts ≡ l.counts → not there ≡ true → Settles l gs time after (refuse no_slot none) (if_there there l o)
-  not_there k h = settles_refused l gs time after (if_there there l o) no_slot k (sym (rw (not-true there h)))
-
-  pub is_there : (a : Answer) → not there ≡ false → Settles l gs time after a o → Settles l gs time after a (if_there there l o)
-  is_there a h s = rw (not-false there h) s
+-- the reply to a call where there is a slot, and where there is none: that one charges nothing
+pub settled_in : (l : Ledger) (gs : List Group) (time : ℕ) (after : Answer → List ℕ → List ℕ) (o : Outcome) (there : Bool) (r : Reply) → after (refuse no_slot none) l.counts ≡ l.counts
+    → (there ≡ true → Settles l gs time after (answer_as r) o) → (there ≡ false → r ≡ Refuse NoSlot) → Settles l gs time after (answer_as r) (if_there there l o)
+settled_in l gs time after o true r k s e = s refl
+settled_in l gs time after o false r k s e = rw (e refl) (settles_refused l gs time after (refused l no_slot) no_slot k refl)
 
 -- the ledger made of a slot and the counters
 pub ledger_made : (xs : List Slot) (counters : List ℕ) (k : ℕ)

@@ -2,18 +2,14 @@
 // slot's counts and times and the shared counters. A call copies one slot's counts out of the cabinet, and lends them and the counters.
 #![tactic(auto)]
 
-ghost use Rattle.std.specs.Prelude.{◌≡◌, ◌<◌, length, ltb};
+ghost use Rattle.std.specs.Prelude.{◌≡◌, ◌<◌, true, false, length, ltb};
 ghost use Rattle.rules.specs.Sizes.{groups_max, slots_max};
-ghost use Rattle.rules.specs.Gate.{request, narrow, expand};
 ghost use Rattle.rules.specs.Cabinet.{fresh_cabinet, as_gate, cabinet_refused, cabinet_load, cabinet_clear, cabinet_request, cabinet_narrow, cabinet_expand};
 ghost use Rattle.gate_decision.specs.Standings.{ledger_of_tables};
-ghost use Rattle.gate_charge.specs.Charges.{answer_as, CountersRoom, counters_charged, counts_charged};
-ghost use Rattle.gate_counts.specs.Carried.{counts_after, no_counts};
-ghost use Rattle.gate.specs.Outcomes.{narrowed_counts, Settles};
+ghost use Rattle.gate_charge.specs.Charges.{answer_as, CountersRoom, counters_charged};
 ghost use Rattle.rules.specs.Acl.{acl_of};
-ghost use Rattle.rules.specs.Request.{request_of, hints_of};
 ghost use Rattle.refusals.specs.Refusals.{refusal_number};
-ghost use Rattle.cabinet.specs.Kept.{slot_index, if_there, cabinet_as, cabinet_outcome_as};
+ghost use Rattle.cabinet.specs.Kept.{slot_index, cabinet_as, cabinet_outcome_as};
 
 use gate::Ledger;
 use gate_charge::Reply;
@@ -61,83 +57,23 @@ fn slot_index(slot: usize) -> usize
     slot
 }
 
-// The counts of a slot, as many as there may be groups.
+// The counts of a slot, as many as there may be groups: what `charge_count` requires, and what is not known of an array that is read out of a slot.
 fn counts_of(s: Slot) -> [u32; Ledger::GROUPS]
     ensures { (result ≡ s.counts) × (length result ≡ groups_max) }
 {
     s.counts
 }
 
-// The reply to a request, where there is the slot that it is made to; else 13, before anything else is looked at.
-fn request_in<'a>(
-    there: bool,
-    counts: &'a [u32; Ledger::GROUPS],
-    counters: &'a [u32; Ledger::COUNTERS],
-    loaded: u64,
-    last: u64,
-    km0: &[u8],
-    acl: &[u8],
-    req: &[u8],
-) -> Reply
-    ensures { Settles (ledger_of_tables counts.now counters.now loaded last) (acl_of acl.now) (request_of req.now).time
-        counts_charged (answer_as result)
-        (if_there there (ledger_of_tables counts.now counters.now loaded last)
-        (request (ledger_of_tables counts.now counters.now loaded last) km0.now acl.now
-        req.now)) }
+// The reply to a call, where there is the slot that it is made to; else 13, before anything else is looked at.
+fn reply_in<F: FnOnce() -> Reply>(there: bool, call: F) -> Reply
+    requires { F.IsAlwaysCallable call }
+    ensures reply { there ≡ true → F.post call result }
+    ensures none { there ≡ false → result ≡ Reply.Refuse Refusal.NoSlot }
 {
     if !there {
         return Reply::Refuse(Refusal::NoSlot);
     }
-    gate::request_reply(counts, counters, loaded, last, km0, acl, req)
-}
-
-// The reply to a narrowing, if the slot exists; else 13.
-fn narrow_in<'a>(
-    there: bool,
-    counts: &'a [u32; Ledger::GROUPS],
-    counters: &'a [u32; Ledger::COUNTERS],
-    loaded: u64,
-    last: u64,
-    km0: &[u8],
-    acl: &[u8],
-    req: &[u8],
-    new: &[u8],
-    hints: &[u8],
-) -> Reply
-    ensures { Settles (ledger_of_tables counts.now counters.now loaded last) (acl_of acl.now) (request_of req.now).time
-        (narrowed_counts (hints_of hints.now)) (answer_as result)
-        (if_there there (ledger_of_tables counts.now counters.now loaded last)
-        (narrow (ledger_of_tables counts.now counters.now loaded last) km0.now acl.now
-        req.now new.now hints.now)) }
-{
-    if !there {
-        return Reply::Refuse(Refusal::NoSlot);
-    }
-    gate::narrow_reply(counts, counters, loaded, last, km0, acl, req, new, hints)
-}
-
-// The reply to an expansion, if the slot exists; else 13.
-fn expand_in<'a>(
-    there: bool,
-    counts: &'a [u32; Ledger::GROUPS],
-    counters: &'a [u32; Ledger::COUNTERS],
-    loaded: u64,
-    last: u64,
-    km0: &[u8],
-    acl: &[u8],
-    req: &[u8],
-    new: &[u8],
-) -> Reply
-    ensures { Settles (ledger_of_tables counts.now counters.now loaded last) (acl_of acl.now) (request_of req.now).time
-        (counts_after no_counts) (answer_as result)
-        (if_there there (ledger_of_tables counts.now counters.now loaded last)
-        (expand (ledger_of_tables counts.now counters.now loaded last) km0.now acl.now
-        req.now new.now)) }
-{
-    if !there {
-        return Reply::Refuse(Refusal::NoSlot);
-    }
-    gate::expand_reply(counts, counters, loaded, last, km0, acl, req, new)
+    call()
 }
 
 impl Cabinet {
@@ -243,12 +179,19 @@ impl Cabinet {
         let at = slot_index(slot);
         let s = self.slots[at];
         let mut counts = counts_of(s);
-        let loaded = s.loaded;
-        let last = s.last;
-        let reply = request_in(there, &counts, &self.counters, loaded, last, km0, acl, req);
+        let request = || gate::request_reply(
+            &counts,
+            &self.counters,
+            s.loaded,
+            s.last,
+            km0,
+            acl,
+            req,
+        );
+        let reply = reply_in(there, request);
         gate_charge::charge_count(&mut counts, reply);
-        let after = gate_charge::last_after(reply, last, request_reader::time(req));
-        self.hand_back(at, counts, loaded, after, reply, acl)
+        let after = gate_charge::last_after(reply, s.last, request_reader::time(req));
+        self.hand_back(at, counts, s.loaded, after, reply, acl)
     }
 
     // A narrowing in a slot.
@@ -268,24 +211,22 @@ impl Cabinet {
         let at = slot_index(slot);
         let s = self.slots[at];
         let mut counts = counts_of(s);
-        let loaded = s.loaded;
-        let last = s.last;
-        let reply = narrow_in(
-            there,
+        let narrow = || gate::narrow_reply(
             &counts,
             &self.counters,
-            loaded,
-            last,
+            s.loaded,
+            s.last,
             km0,
             acl,
             req,
             new,
             hints,
         );
+        let reply = reply_in(there, narrow);
         gate_charge::charge_count(&mut counts, reply);
         gate_counts::carry_counts(&mut counts, reply, hints);
-        let after = gate_charge::last_after(reply, last, request_reader::time(req));
-        self.hand_back(at, counts, loaded, after, reply, acl)
+        let after = gate_charge::last_after(reply, s.last, request_reader::time(req));
+        self.hand_back(at, counts, s.loaded, after, reply, acl)
     }
 
     // An expansion in a slot.
@@ -303,21 +244,19 @@ impl Cabinet {
         let at = slot_index(slot);
         let s = self.slots[at];
         let mut counts = counts_of(s);
-        let loaded = s.loaded;
-        let last = s.last;
-        let reply = expand_in(
-            there,
+        let expand = || gate::expand_reply(
             &counts,
             &self.counters,
-            loaded,
-            last,
+            s.loaded,
+            s.last,
             km0,
             acl,
             req,
             new,
         );
+        let reply = reply_in(there, expand);
         gate_counts::zero_counts(&mut counts, reply);
-        let after = gate_charge::last_after(reply, last, request_reader::time(req));
-        self.hand_back(at, counts, loaded, after, reply, acl)
+        let after = gate_charge::last_after(reply, s.last, request_reader::time(req));
+        self.hand_back(at, counts, s.loaded, after, reply, acl)
     }
 }

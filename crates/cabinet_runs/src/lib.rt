@@ -1,5 +1,5 @@
-// Runs in a slot of a cabinet: the gate's own run, on the slot's counts and times and the shared counters. Each of the entries, which
-// take the row of certificates, reads it and leaves the rest to one function with plain parameters.
+// Runs in a slot of a cabinet: the gate's own run, on the slot's counts and times and the shared counters. Each of the entries reads the row of
+// certificates and leaves the rest to one function that takes what was read.
 #![tactic(auto)]
 
 ghost use Rattle.std.specs.Prelude.{◌≡◌, ◌<◌};
@@ -17,15 +17,15 @@ ghost use Rattle.cabinet_runs.specs.Handed.{cabinet_ran_as, not_run};
 use cabinet::{Cabinet, Slot};
 use gate::Ledger;
 use refusals::Refusal;
-use run_certificates::{Certificate, RowSummary};
+use run_certificates::Certificate;
 use run_form::Prepared;
-use runs::{RunOutcome, RunReply};
+use runs::{Asked, RunOutcome};
 
 // The cabinet after a run, with the reply.
 #[derive(Clone, Copy)]
 pub struct CabinetRan {
     pub cabinet: Cabinet,
-    pub reply: RunReply,
+    pub reply: Result<usize, Refusal>,
 }
 
 // The ledger of a slot: its counts and times, and the shared counters.
@@ -80,35 +80,20 @@ fn no_slot(cabinet: Cabinet) -> CabinetRan
 {
     CabinetRan {
         cabinet,
-        reply: RunReply::Refused(Refusal::NoSlot),
+        reply: Err(Refusal::NoSlot),
     }
 }
 
 // A run in a slot, by what was read of its row.
-fn run_judged(
-    cabinet: Cabinet,
-    slot: usize,
-    km0: &[u8],
-    acl: &[u8],
-    seen: RowSummary,
-    requests: &[u8],
-    answers: &mut [u8],
-) -> CabinetRan
+fn run_judged(cabinet: Cabinet, slot: usize, asked: &Asked, answers: &mut [u8]) -> CabinetRan
     ensures { cabinet_ran_as result answers.new ≡
-        run_in_slot (cabinet_as cabinet) slot answers.old (run_seen (ledger_at (cabinet_as cabinet) slot) km0.now acl.now seen
-        requests.now answers.old) }
+        run_in_slot (cabinet_as cabinet) slot answers.old (run_seen (ledger_at (cabinet_as cabinet) slot) asked.now.km0.now
+        asked.now.acl.now asked.now.seen asked.now.requests.now answers.old) }
 {
     if Cabinet::SLOTS <= slot {
         return no_slot(cabinet);
     }
-    let o = runs::run_judged(
-        slot_ledger(cabinet, slot),
-        km0,
-        acl,
-        seen,
-        requests,
-        answers,
-    );
+    let o = runs::run_judged(slot_ledger(cabinet, slot), asked, answers);
     put_back(cabinet, slot, o)
 }
 
@@ -116,30 +101,19 @@ fn run_judged(
 fn prepared_judged(
     cabinet: Cabinet,
     slot: usize,
-    km0: &[u8],
-    acl: &[u8],
-    seen: RowSummary,
+    asked: &Asked,
     form: Prepared,
-    requests: &[u8],
     answers: &mut [u8],
 ) -> CabinetRan
     ensures { cabinet_ran_as result answers.new ≡
         run_in_slot (cabinet_as cabinet) slot answers.old
-        (prepared_seen (ledger_at (cabinet_as cabinet) slot) km0.now acl.now seen (form_as form) requests.now
-        answers.old) }
+        (prepared_seen (ledger_at (cabinet_as cabinet) slot) asked.now.km0.now asked.now.acl.now asked.now.seen (form_as form)
+        asked.now.requests.now answers.old) }
 {
     if Cabinet::SLOTS <= slot {
         return no_slot(cabinet);
     }
-    let o = runs::prepared_judged(
-        slot_ledger(cabinet, slot),
-        km0,
-        acl,
-        seen,
-        form,
-        requests,
-        answers,
-    );
+    let o = runs::prepared_judged(slot_ledger(cabinet, slot), asked, form, answers);
     put_back(cabinet, slot, o)
 }
 
@@ -156,15 +130,14 @@ pub fn run(
     ensures { cabinet_ran_as result answers.new ≡
         cabinet_run (cabinet_as cabinet) slot km0.now acl.now (row_as row.now) requests.now answers.old }
 {
-    run_judged(
-        cabinet,
-        slot,
+    let seen = run_certificates::read_row(acl, row);
+    let asked = Asked {
         km0,
         acl,
-        run_certificates::read_row(acl, row),
+        seen,
         requests,
-        answers,
-    )
+    };
+    run_judged(cabinet, slot, &asked, answers)
 }
 
 // A run on a prepared ACL in a slot: the form besides.
@@ -182,14 +155,12 @@ pub fn prepared_run(
         cabinet_prepared_run (cabinet_as cabinet) slot km0.now acl.now (row_as row.now) (form_as form) requests.now
         answers.old }
 {
-    prepared_judged(
-        cabinet,
-        slot,
+    let seen = run_certificates::read_row(acl, row);
+    let asked = Asked {
         km0,
         acl,
-        run_certificates::read_row(acl, row),
-        form,
+        seen,
         requests,
-        answers,
-    )
+    };
+    prepared_judged(cabinet, slot, &asked, form, answers)
 }

@@ -3,10 +3,11 @@
 // All but `prefix` only read, or print on standard error, so that they promise no more than a bound of what they read.
 #![tactic(auto)]
 
-ghost use Rattle.std.specs.Prelude.{◌≡◌, ◌≤◌, length, take};
+ghost use Rattle.std.specs.Prelude.{◌≡◌, ◌≤◌, IfOk, length, take};
 ghost use Rattle.std.specs.Io.{WritesAtMost};
 
 use std::env::{Env, FillError};
+use std::fmt::Display;
 use std::fs::File;
 use std::io::{Cursor, Read, Write};
 use std::{io, str};
@@ -26,43 +27,29 @@ const NO_TEXT: i32 = 84;
 
 const NONE: i32 = 0;
 
-// What became of a file: how many bytes of it were read, or that it could not be.
-#[derive(Clone, Copy)]
-pub enum Input {
-    Read(usize),
-    Unreadable,
-}
-
 // The first n bytes, or all where there are fewer.
 pub fn prefix(s: &[u8], n: usize) -> &[u8]
     ensures { result.now ≡ take n s.now }
 {
-    if s.len() < n {
-        return s;
-    }
-    &s[0..n]
+    &s[..n.min(s.len())]
 }
 
 // Prints on standard error. What is lost there cannot be reported anywhere.
-pub fn say(rt: &HostRuntime, text: &[u8]) {
-    let _ = Print::write_all(&rt.stderr(), text);
+pub fn say<D: Display + Drop>(rt: &HostRuntime, value: D) {
+    let _ = Print::print(&rt.stderr(), value);
 }
 
-// Prints a number on standard error.
-pub fn say_number(rt: &HostRuntime, n: u64) {
-    let _ = Print::print(&rt.stderr(), n);
+// Prints bytes as they are on standard error: an argument need not be text.
+pub fn say_bytes(rt: &HostRuntime, bytes: &[u8]) {
+    let _ = Print::write_all(&rt.stderr(), bytes);
 }
 
-// The length of an error's text without the number that std puts behind the system's words, as ` (os error 2)`.
-fn words_length(text: &[u8]) -> usize {
-    let mut i = text.len();
-    while 0 < i {
-        i -= 1;
-        if text[i] == b'(' {
-            return i.saturating_sub(1);
-        }
+// An error's text without the number that std puts behind the system's words, as ` (os error 2)`.
+fn words(text: &[u8]) -> &[u8] {
+    match text.iter().rposition(|b| *b == b'(') {
+        Some(i) => prefix(text, i.saturating_sub(1)),
+        None => text,
     }
-    text.len()
 }
 
 // Prints a line on standard error: what failed, a colon and why.
@@ -72,81 +59,65 @@ pub fn fail(rt: &HostRuntime, what: &[u8], why: io::Error) {
     let written = text.position() as usize;
     let bytes = text.into_inner();
     let whole = prefix(&bytes, written);
-    say(rt, what);
-    say(rt, b": ");
+    say_bytes(rt, what);
+    say(rt, ": ");
     match why.raw_os_error() {
-        Some(_) => say(rt, prefix(whole, words_length(whole))),
-        None => say(rt, whole),
+        Some(_) => say_bytes(rt, words(whole)),
+        None => say_bytes(rt, whole),
     }
-    say(rt, b"\n");
+    say(rt, "\n");
 }
 
-// Argument i at the front of the buffer, and its length; an error where it is not there, or longer than the buffer.
-pub fn argument(rt: &HostRuntime, i: usize, buffer: &mut [u8]) -> io::Result<usize>
-    ensures { WritesAtMost result buffer.new }
+// The system's error for an argument that cannot be had.
+fn error_of(why: FillError) -> io::Error {
+    match why {
+        FillError::TooLong => io::Error::from_raw_os_error(TOO_LONG),
+        FillError::NotPresent => io::Error::from_raw_os_error(MISSING),
+    }
+}
+
+// Argument i, in the buffer; an error where it is not there, or longer than the buffer.
+pub fn argument<'a>(rt: &HostRuntime, i: usize, buffer: &'a mut [u8]) -> io::Result<&'a [u8]>
+    ensures { IfOk result (λ word. length word.now ≤ length buffer.old) }
 {
     match rt.arg(i, buffer) {
-        Ok(n) => Ok(n),
-        Err(FillError::TooLong) => Err(io::Error::from_raw_os_error(TOO_LONG)),
-        Err(FillError::NotPresent) => Err(io::Error::from_raw_os_error(MISSING)),
+        Ok(n) => Ok(&buffer[..n]),
+        Err(why) => Err(error_of(why)),
     }
 }
 
-// Argument i as above; its length is 0 where it cannot be had.
-pub fn argument_or_none(rt: &HostRuntime, i: usize, buffer: &mut [u8]) -> usize
-    ensures { result ≤ length buffer.new }
+// Argument i as above; nothing where it cannot be had.
+pub fn argument_or_none<'a>(rt: &HostRuntime, i: usize, buffer: &'a mut [u8]) -> &'a [u8]
+    ensures { length result.now ≤ length buffer.old }
 {
-    match argument(rt, i, buffer) {
-        Ok(n) => n,
-        Err(_) => 0,
-    }
+    argument(rt, i, buffer).unwrap_or(&[])
 }
 
 // Whether there is an argument i.
 fn is_given(rt: &HostRuntime, i: usize) -> bool {
-    let mut first = [0u8; 1];
-    match rt.arg(i, &mut first) {
-        Ok(_) => true,
-        Err(FillError::TooLong) => true,
-        Err(FillError::NotPresent) => false,
-    }
+    !matches!(rt.arg(i, &mut [0u8; 1]), Err(FillError::NotPresent))
 }
 
 // How many arguments the program has, its own name among them.
 pub fn count(rt: &HostRuntime) -> usize {
-    for i in 0..usize::MAX {
-        if !is_given(rt, i) {
-            return i;
-        }
-    }
-    usize::MAX
+    (0..usize::MAX)
+        .find(|i| !is_given(rt, *i))
+        .unwrap_or(usize::MAX)
 }
 
 // Whether the first argument is `--help`.
 fn asks_for_help(rt: &HostRuntime) -> bool {
-    let mut word = [0u8; 6];
-    let n = argument_or_none(rt, 1, &mut word);
-    (n == 6)
-        & (word[0] == b'-')
-        & (word[1] == b'-')
-        & (word[2] == b'h')
-        & (word[3] == b'e')
-        & (word[4] == b'l')
-        & (word[5] == b'p')
+    argument_or_none(rt, 1, &mut [0u8; 6]) == b"--help".as_slice()
 }
 
 // Prints how the program is used.
-pub fn print_usage(rt: &HostRuntime, usage: &[u8]) {
-    say(rt, b"usage: ");
-    say(rt, usage);
-    say(rt, b"\n");
+pub fn print_usage(rt: &HostRuntime, usage: &str) {
+    say(rt, format_args!("usage: {usage}\n"));
 }
 
 // Whether the program has `count` arguments, its own name among them, and the first after it does not ask for help. If not, prints the usage.
-pub fn are_given(rt: &HostRuntime, count: usize, usage: &[u8]) -> bool {
-    let given = self::count(rt);
-    let help = asks_for_help(rt);
-    if (given == count) & !help {
+pub fn are_given(rt: &HostRuntime, count: usize, usage: &str) -> bool {
+    if self::count(rt) == count && !asks_for_help(rt) {
         return true;
     }
     print_usage(rt, usage);
@@ -155,10 +126,7 @@ pub fn are_given(rt: &HostRuntime, count: usize, usage: &[u8]) -> bool {
 
 // A path as std takes it: as text.
 pub fn text(path: &[u8]) -> io::Result<&str> {
-    match str::from_utf8(path) {
-        Ok(text) => Ok(text),
-        Err(_) => Err(io::Error::from_raw_os_error(NO_TEXT)),
-    }
+    str::from_utf8(path).map_err(|_| io::Error::from_raw_os_error(NO_TEXT))
 }
 
 // Reads until the buffer is full or the input ends, and returns how many bytes it put at the buffer's front.
@@ -177,44 +145,42 @@ pub fn read_full<R: Read>(from: &mut R, buffer: &mut [u8]) -> io::Result<usize>
 }
 
 // What is read of an open file, up to the buffer's length. One more read has to tell that nothing comes behind what seems to be the file's end.
-fn read_open(file: &mut File, buffer: &mut [u8]) -> io::Result<usize> {
+fn read_open<'a>(file: &mut File, buffer: &'a mut [u8]) -> io::Result<&'a [u8]> {
     let n = read_full(file, buffer)?;
-    let mut more = [0u8; 1];
-    let got = file.read(&mut more)?;
-    if (0 < got) & (n < buffer.len()) {
+    let got = file.read(&mut [0u8; 1])?;
+    if 0 < got && n < buffer.len() {
         return Err(io::Error::from_raw_os_error(NONE));
     }
-    Ok(n)
+    Ok(&buffer[..n])
 }
 
 // What is read of the file of a path.
-fn read_path(rt: &HostRuntime, path: &[u8], buffer: &mut [u8]) -> io::Result<usize> {
+fn read_path<'a>(rt: &HostRuntime, path: &[u8], buffer: &'a mut [u8]) -> io::Result<&'a [u8]> {
     let mut file = File::open(rt, text(path)?)?;
     read_open(&mut file, buffer)
 }
 
-// The file that argument i names, up to the buffer's length. A message about an argument that cannot be had names it by `what`.
-pub fn read(rt: &HostRuntime, i: usize, what: &[u8], buffer: &mut [u8]) -> Input {
-    let mut path = [0u8; PATH];
-    let n = match argument(rt, i, &mut path) {
-        Ok(n) => n,
+// The file that argument i names, up to the buffer's length, in the buffer; nothing where it cannot be read, which is reported. A message about an argument
+// that cannot be had names it by `what`.
+pub fn read<'a>(rt: &HostRuntime, i: usize, what: &[u8], buffer: &'a mut [u8]) -> Option<&'a [u8]> {
+    let mut room = [0u8; PATH];
+    let path = match argument(rt, i, &mut room) {
+        Ok(path) => path,
         Err(why) => {
             fail(rt, what, why);
-            return Input::Unreadable;
+            return None;
         }
     };
-    match read_path(rt, prefix(&path, n), buffer) {
-        Ok(m) => Input::Read(m),
+    match read_path(rt, path, buffer) {
+        Ok(bytes) => Some(bytes),
         Err(why) => {
-            fail(rt, prefix(&path, n), why);
-            Input::Unreadable
+            fail(rt, path, why);
+            None
         }
     }
 }
 
 // Argument i, as it was given, on standard error: what a message begins with.
 pub fn print(rt: &HostRuntime, i: usize) {
-    let mut path = [0u8; PATH];
-    let n = argument_or_none(rt, i, &mut path);
-    say(rt, prefix(&path, n));
+    say_bytes(rt, argument_or_none(rt, i, &mut [0u8; PATH]));
 }

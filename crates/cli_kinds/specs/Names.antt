@@ -1,15 +1,14 @@
--- The names of the kinds of file, as the programs' arguments have them.
-use Rattle.std.specs.Prelude.{if◌then◌else◌}
+-- The names of the kinds of file, as the programs' arguments have them; any other names none.
+use Rattle.std.specs.Prelude.{Option, Some, None, if◌then◌else◌}
 use Rattle.rules.specs.Basics.{Bytes, ascii, same}
+use Rattle.text_files.specs.declared.Kind.{Kind}
 use Rattle.text_files.specs.declared.Kind.TheVariants.{Acl, Request, Requests, Bundle, Hints}
-use Rattle.cli_kinds.specs.declared.Named.{Named}
-use Rattle.cli_kinds.specs.declared.Named.TheVariants.{Is, Unknown}
 
-unfoldable pub kind_named : Bytes → Named
+unfoldable pub kind_named : Bytes → Option Kind
 kind_named name =
-    if same name (ascii "acl") then Is Acl
-    else if same name (ascii "request") then Is Request
-    else if same name (ascii "requests") then Is Requests
-    else if same name (ascii "bundle") then Is Bundle
-    else if same name (ascii "hints") then Is Hints
-    else Unknown
+    if same name (ascii "acl") then Some Acl
+    else if same name (ascii "request") then Some Request
+    else if same name (ascii "requests") then Some Requests
+    else if same name (ascii "bundle") then Some Bundle
+    else if same name (ascii "hints") then Some Hints
+    else None

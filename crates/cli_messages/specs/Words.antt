@@ -5,10 +5,6 @@ use Rattle.rules.specs.Basics.{Bytes, ascii}
 use Rattle.rules.specs.Numbers as numbers
 use Rattle.rules.specs.Desk as rules
 
--- room for the words of any number or step
-abbrev pub words_bytes : ℕ
-words_bytes = 160
-
 -- a number and its words
 pub record Entry : Type 0 where
   pub number : ℕ

@@ -4,10 +4,9 @@
 // These functions call the system, so that no contract says what becomes of the files; `checks/programs` tries it.
 #![tactic(auto)]
 
-ghost use Rattle.std.specs.Prelude.{◌≡◌, ◌+◌, ◌≤◌, length};
-ghost use Rattle.std.specs.Io.{WritesAtMost};
+ghost use Rattle.std.specs.Prelude.{◌≤◌, IfOk, IfSome, length};
 
-use cli_arguments::{PATH, argument_or_none, prefix, say};
+use cli_arguments::{PATH, argument_or_none, say, say_bytes};
 use std::fs::{File, OpenOptions};
 use std::io::{ErrorKind, Write};
 use std::os::unix::fs::MetadataExt;
@@ -19,20 +18,31 @@ const ROOM: usize = 4112;
 // Links that are followed, as many as the system follows.
 const LINKS: usize = 40;
 
-// The name of the temporary file beside the file of a path, and its length.
-fn temporary(rt: &HostRuntime, path: &[u8], name: &mut [u8]) -> usize
-    requires { length path.now + 16 ≤ length name.old }
-    ensures { result ≤ length name.new }
+// A file is not saved, and why has been reported.
+#[derive(Clone, Copy, Debug, PartialEq, Eq)]
+pub struct Unsaved;
+
+// The name of the temporary file beside the file of a path, in the room for it.
+fn temporary<'a>(rt: &HostRuntime, path: &[u8], room: &'a mut [u8; ROOM]) -> &'a [u8]
+    requires { length path.now ≤ 4096 }
 {
-    let named = text_bytes::append(path, 0, name);
-    let numbered = text_bytes::number_if(true, b".", process::id(rt.process()), named, name);
-    text_bytes::append(b".tmp", numbered, name)
+    let named = text_bytes::append(path, 0, room);
+    let numbered = text_bytes::number_if(true, b".", process::id(rt.process()), named, room);
+    let end = text_bytes::append(b".tmp", numbered, room);
+    &room[..end]
 }
 
-// Prints what is wrong with the file of a path.
-fn say_of(rt: &HostRuntime, path: &[u8], what: &[u8]) {
-    say(rt, path);
+// Reports what is wrong with the file of a path.
+fn report(rt: &HostRuntime, path: &[u8], what: &str) -> Result<(), Unsaved> {
+    say_bytes(rt, path);
     say(rt, what);
+    Err(Unsaved)
+}
+
+// Reports why the system does not save the file of a path.
+fn report_error(rt: &HostRuntime, path: &[u8], why: io::Error) -> Result<(), Unsaved> {
+    cli_arguments::fail(rt, path, why);
+    Err(Unsaved)
 }
 
 // Whether a path is a symbolic link.
@@ -55,27 +65,21 @@ fn is_flushed(file: File) -> bool {
     file.sync_all().is_ok()
 }
 
-// Whether a file may take this name: there is none yet, or a regular file that may be written. Devices, pipes and terminals have nothing to flush.
-fn is_replaceable(rt: &HostRuntime, path: &[u8]) -> bool {
+// A file may take this name if there is none yet, or a regular file that may be written. Devices, pipes and terminals have nothing to flush.
+fn test_replaceable(rt: &HostRuntime, path: &[u8]) -> Result<(), Unsaved> {
     if let Ok(true) = is_link(rt, path) {
-        say_of(rt, path, b": a symbolic link\n");
-        return false;
+        return report(rt, path, ": a symbolic link\n");
     }
     match open_update(rt, path) {
         Ok(file) => {
             if is_flushed(file) {
-                return true;
+                Ok(())
+            } else {
+                report(rt, path, ": not a regular file\n")
             }
-            say_of(rt, path, b": not a regular file\n");
-            false
         }
-        Err(why) => {
-            if why.kind() == ErrorKind::NotFound {
-                return true;
-            }
-            cli_arguments::fail(rt, path, why);
-            false
-        }
+        Err(why) if why.kind() == ErrorKind::NotFound => Ok(()),
+        Err(why) => report_error(rt, path, why),
     }
 }
 
@@ -100,58 +104,43 @@ fn remove(rt: &HostRuntime, name: &[u8]) {
     }
 }
 
-// Whether all bytes are in the open file and on the disk, and closes it. `path` is the name that it is to get.
-fn is_written(rt: &HostRuntime, mut file: File, path: &[u8], bytes: &[u8]) -> bool {
-    match write_open(&mut file, bytes) {
-        Ok(()) => true,
-        Err(why) => {
-            cli_arguments::fail(rt, path, why);
-            false
-        }
-    }
+// Has all bytes in the new file and on the disk, and closes it.
+fn write_and_close(mut file: File, bytes: &[u8]) -> io::Result<()> {
+    write_open(&mut file, bytes)
 }
 
-// Whether a new file of that name has all bytes. If not, there is none.
-fn write_new(rt: &HostRuntime, path: &[u8], name: &[u8], bytes: &[u8]) -> bool {
+// Writes all bytes to a new file of that name; where that fails there is none. `path` is the name that it is to get.
+fn write_new(rt: &HostRuntime, path: &[u8], name: &[u8], bytes: &[u8]) -> Result<(), Unsaved> {
     match create(rt, name) {
         Ok(file) => {
-            let written = is_written(rt, file, path, bytes);
-            if !written {
+            if let Err(why) = write_and_close(file, bytes) {
+                cli_arguments::fail(rt, path, why);
                 remove(rt, name);
+                return Err(Unsaved);
             }
-            written
+            Ok(())
         }
-        Err(why) => {
-            let taken = why.kind() == ErrorKind::AlreadyExists;
-            cli_arguments::fail(rt, if taken { name } else { path }, why);
-            false
-        }
+        Err(why) if why.kind() == ErrorKind::AlreadyExists => report_error(rt, name, why),
+        Err(why) => report_error(rt, path, why),
     }
 }
 
-// Whether the bytes for the file that argument i names are in its temporary file. A message about an argument that cannot be had names it by `what`.
-pub fn prepare(rt: &HostRuntime, i: usize, what: &[u8], bytes: &[u8]) -> bool {
-    let mut path = [0u8; PATH];
-    let n = match cli_arguments::argument(rt, i, &mut path) {
-        Ok(n) => n,
-        Err(why) => {
-            cli_arguments::fail(rt, what, why);
-            return false;
+// Writes the bytes for the file that argument i names to its temporary file. A message about an argument that cannot be had names it by `what`.
+pub fn prepare(rt: &HostRuntime, i: usize, what: &[u8], bytes: &[u8]) -> Result<(), Unsaved> {
+    let mut room = [0u8; PATH];
+    match cli_arguments::argument(rt, i, &mut room) {
+        Ok(path) => {
+            test_replaceable(rt, path)?;
+            let mut name = [0u8; ROOM];
+            write_new(rt, path, temporary(rt, path, &mut name), bytes)
         }
-    };
-    if !is_replaceable(rt, &path[..n]) {
-        return false;
+        Err(why) => report_error(rt, what, why),
     }
-    let mut name = [0u8; ROOM];
-    let m = temporary(rt, &path[..n], &mut name);
-    write_new(rt, &path[..n], &name[..m], bytes)
 }
 
-// Whether the file of that name can be read.
-fn is_readable(rt: &HostRuntime, name: &[u8]) -> io::Result<()> {
-    let text = cli_arguments::text(name)?;
-    let _file = File::open(rt, text)?;
-    Ok(())
+// Opens the file of that name.
+fn open(rt: &HostRuntime, name: &[u8]) -> io::Result<File> {
+    File::open(rt, cli_arguments::text(name)?)
 }
 
 // Whether the file of a path has a temporary file: one that was prepared for it under this or another path.
@@ -159,67 +148,77 @@ fn has_temporary(rt: &HostRuntime, path: &[u8]) -> bool
     requires { length path.now ≤ 4096 }
 {
     let mut name = [0u8; ROOM];
-    let m = temporary(rt, path, &mut name);
-    is_readable(rt, &name[..m]).is_ok()
+    open(rt, temporary(rt, path, &mut name)).is_ok()
 }
 
-// How much of a path is kept in front of what its link says: nothing where that begins at the root, else the path's folder.
-fn kept_length(first: u8, path: &[u8]) -> usize
-    ensures { result ≤ length path.now }
+// The path's folder, with the slash that ends it; empty where the path has none.
+fn folder(path: &[u8]) -> &[u8]
+    ensures { length result.now ≤ length path.now }
 {
-    if first == b'/' {
-        return 0;
+    match path.iter().rposition(|b| *b == b'/') {
+        Some(i) => &path[..i + 1],
+        None => &[],
     }
-    folder_length(path)
 }
 
-// Where the symbolic link of a path leads, at the front of the buffer, and its length; 0 where the path is no link, or the buffer is too short.
-fn link_of(rt: &HostRuntime, path: &[u8], target: &mut [u8]) -> io::Result<usize>
-    ensures { WritesAtMost result target.new }
+// What of a path is kept in front of what its link says: nothing where that begins at the root, else the path's folder.
+fn kept<'a>(target: &[u8], path: &'a [u8]) -> &'a [u8]
+    ensures { length result.now ≤ length path.now }
 {
+    if target.first() == Some(&b'/') {
+        &[]
+    } else {
+        folder(path)
+    }
+}
+
+// Where the symbolic link of a path leads, in the buffer; none where the path is no link, or the buffer is too short.
+fn link_of<'a>(
+    rt: &HostRuntime,
+    path: &[u8],
+    buffer: &'a mut [u8],
+) -> io::Result<Option<&'a [u8]>> {
     let Ok(true) = is_link(rt, path) else {
-        return Ok(0);
+        return Ok(None);
     };
     let to = fs::read_link(rt, cli_arguments::text(path)?)?;
     let bytes = to.as_str().as_bytes();
-    if target.len() < bytes.len() {
-        return Ok(0);
+    if bytes.is_empty() || buffer.len() < bytes.len() {
+        return Ok(None);
     }
-    Ok(text_bytes::append(bytes, 0, target))
+    let n = text_bytes::append(bytes, 0, buffer);
+    Ok(Some(&buffer[..n]))
 }
 
-// The path that the link of a path of n bytes leads to, in its place, and its length; 0 where it is no link, or one that is too long. An error where the
+// The path that the link of a path of n bytes leads to, in its place, and its length; none where it is no link, or one that is too long. An error where the
 // link cannot be read.
-fn follow(rt: &HostRuntime, n: usize, path: &mut [u8]) -> io::Result<usize>
-    requires { (n ≤ length path.old) × (length path.old ≡ 4096) }
-    ensures { WritesAtMost result path.new }
+fn follow(rt: &HostRuntime, n: usize, path: &mut [u8; PATH]) -> io::Result<Option<usize>>
+    requires { n ≤ 4096 }
+    ensures { IfOk result (λ next. IfSome next (λ m. m ≤ 4096)) }
 {
-    let mut target = [0u8; PATH];
-    let m = link_of(rt, &path[..n], &mut target)?;
-    if m == 0 {
-        return Ok(0);
+    let mut room = [0u8; PATH];
+    let Some(target) = link_of(rt, &path[..n], &mut room)? else {
+        return Ok(None);
+    };
+    let kept = kept(target, &path[..n]).len();
+    if path.len() - kept < target.len() {
+        return Ok(None);
     }
-    let kept = kept_length(target[0], &path[..n]);
-    if path.len() - kept < m {
-        return Ok(0);
-    }
-    Ok(text_bytes::append(&target[..m], kept, path))
+    Ok(Some(text_bytes::append(target, kept, path)))
 }
 
 // Whether the file that argument i names, or one that it leads to, has a temporary file. An error where that cannot be decided.
 fn is_prepared(rt: &HostRuntime, i: usize) -> io::Result<bool> {
     let mut path = [0u8; PATH];
-    let mut n = argument_or_none(rt, i, &mut path);
-    let mut links = 0;
-    while links < LINKS {
+    let mut n = argument_or_none(rt, i, &mut path).len();
+    for _ in 0..LINKS {
         if has_temporary(rt, &path[..n]) {
             return Ok(true);
         }
-        n = follow(rt, n, &mut path)?;
-        if n == 0 {
+        let Some(m) = follow(rt, n, &mut path)? else {
             return Ok(false);
-        }
-        links += 1;
+        };
+        n = m;
     }
     Ok(false)
 }
@@ -227,17 +226,16 @@ fn is_prepared(rt: &HostRuntime, i: usize) -> io::Result<bool> {
 // Removes the temporary file of the file that argument i names.
 pub fn discard(rt: &HostRuntime, i: usize) {
     let mut path = [0u8; PATH];
-    let n = argument_or_none(rt, i, &mut path);
     let mut name = [0u8; ROOM];
-    let m = temporary(rt, &path[..n], &mut name);
-    remove(rt, &name[..m]);
+    let path = argument_or_none(rt, i, &mut path);
+    remove(rt, temporary(rt, path, &mut name));
 }
 
 // The device and the number of the file that argument i names.
 fn node(rt: &HostRuntime, i: usize) -> io::Result<(u64, u64)> {
     let mut path = [0u8; PATH];
-    let n = argument_or_none(rt, i, &mut path);
-    let about = fs::metadata(rt, cli_arguments::text(&path[..n])?)?;
+    let path = argument_or_none(rt, i, &mut path);
+    let about = fs::metadata(rt, cli_arguments::text(path)?)?;
     Ok((about.dev(), about.ino()))
 }
 
@@ -245,77 +243,46 @@ fn node(rt: &HostRuntime, i: usize) -> io::Result<(u64, u64)> {
 fn is_one_file(rt: &HostRuntime, i: usize, j: usize) -> io::Result<bool> {
     match node(rt, i) {
         Ok(old) => Ok(node(rt, j)? == old),
-        Err(why) => {
-            if why.kind() == ErrorKind::NotFound {
-                return Ok(false);
-            }
-            Err(why)
-        }
+        Err(why) if why.kind() == ErrorKind::NotFound => Ok(false),
+        Err(why) => Err(why),
     }
 }
 
 // Whether argument j leads to the file that was prepared for argument i: by its temporary file or, where a link on the way cannot be read, by its number.
 fn leads_to(rt: &HostRuntime, i: usize, j: usize) -> io::Result<bool> {
-    match is_prepared(rt, j) {
-        Ok(found) => Ok(found),
-        Err(_) => is_one_file(rt, i, j),
-    }
+    is_prepared(rt, j).or_else(|_| is_one_file(rt, i, j))
 }
 
-// Prints why the file that argument i names cannot be distinguished from another.
-fn say_unknown(rt: &HostRuntime, i: usize, why: io::Error) {
+// Reports why the file that argument i names cannot be distinguished from another.
+fn report_unknown(rt: &HostRuntime, i: usize, why: io::Error) {
     let mut path = [0u8; PATH];
-    let n = argument_or_none(rt, i, &mut path);
-    cli_arguments::fail(rt, prefix(&path, n), why);
+    cli_arguments::fail(rt, argument_or_none(rt, i, &mut path), why);
 }
 
-// Whether argument j names the very file that was prepared for argument i, or that this cannot be decided. If so, nothing is written.
-pub fn is_same(rt: &HostRuntime, i: usize, j: usize) -> bool {
+// Fails if argument j names the very file that was prepared for argument i, or if this cannot be decided. Nothing is written then.
+pub fn tell_apart(rt: &HostRuntime, i: usize, j: usize) -> Result<(), Unsaved> {
     match leads_to(rt, i, j) {
-        Ok(false) => return false,
+        Ok(false) => return Ok(()),
         Ok(true) => {
             discard(rt, i);
             cli_arguments::print(rt, i);
-            say(rt, b": the same file as ");
+            say(rt, ": the same file as ");
             cli_arguments::print(rt, j);
-            say(rt, b"\n");
+            say(rt, "\n");
         }
         Err(why) => {
             discard(rt, i);
-            say_unknown(rt, j, why);
+            report_unknown(rt, j, why);
         }
     }
-    true
+    Err(Unsaved)
 }
 
-// The length of the path's folder, with the slash that ends it; 0 where the path has none.
-fn folder_length(path: &[u8]) -> usize
-    ensures { result ≤ length path.now }
-{
-    let mut i = path.len();
-    while 0 < i {
-        if path[i - 1] == b'/' {
-            return i;
-        }
-        i -= 1;
-    }
-    0
-}
-
-// Opens a folder, and has it on the disk.
-fn flush_open(rt: &HostRuntime, folder: &[u8]) -> io::Result<()> {
-    let text = cli_arguments::text(folder)?;
-    let open = File::open(rt, text)?;
+// Has the folder of a path on the disk.
+fn flush_folder(rt: &HostRuntime, path: &[u8]) -> io::Result<()> {
+    let folder = folder(path);
+    let open = open(rt, if folder.is_empty() { b"." } else { folder })?;
     open.sync_all()
-}
-
-// Whether the folder of a path is on the disk.
-fn flush_folder(rt: &HostRuntime, path: &[u8]) -> bool {
-    let n = folder_length(path);
-    if n == 0 {
-        return flush_open(rt, b".").is_ok();
-    }
-    flush_open(rt, &path[..n]).is_ok()
 }
 
 // Gives a file another name.
@@ -325,23 +292,23 @@ fn rename(rt: &HostRuntime, from: &[u8], to: &[u8]) -> io::Result<()> {
     fs::rename(rt, from, to)
 }
 
-// Whether the temporary file of the file that argument i names has got its name. If not, it is gone and the old file is as it was.
-pub fn put(rt: &HostRuntime, i: usize) -> bool {
+// Gives the temporary file of the file that argument i names its name. Where that fails, it is gone and the old file is as it was.
+pub fn put(rt: &HostRuntime, i: usize) -> Result<(), Unsaved> {
     let mut path = [0u8; PATH];
-    let n = argument_or_none(rt, i, &mut path);
     let mut name = [0u8; ROOM];
-    let m = temporary(rt, &path[..n], &mut name);
-    if let Err(why) = rename(rt, &name[..m], &path[..n]) {
-        cli_arguments::fail(rt, &path[..n], why);
-        remove(rt, &name[..m]);
-        return false;
+    let path = argument_or_none(rt, i, &mut path);
+    let name = temporary(rt, path, &mut name);
+    if let Err(why) = rename(rt, name, path) {
+        cli_arguments::fail(rt, path, why);
+        remove(rt, name);
+        return Err(Unsaved);
     }
-    if !flush_folder(rt, &path[..n]) {
-        say_of(
+    if flush_folder(rt, path).is_err() {
+        say_bytes(rt, path);
+        say(
             rt,
-            &path[..n],
-            b": written, but its folder could not be flushed to the disk\n",
+            ": written, but its folder could not be flushed to the disk\n",
         );
     }
-    true
+    Ok(())
 }

@@ -7,8 +7,6 @@ ghost use Rattle.rules.specs.Request.{request_record_fault};
 ghost use Rattle.rules.specs.Day.{day_lengths_fit, day_fault};
 ghost use Rattle.files.specs.Faults.{fault_as};
 
-use files::Checked;
-use gate::Ledger;
 use refusals::Refusal;
 
 // Request records of one day.
@@ -24,29 +22,24 @@ fn lengths_fit(km0: &[u8], acl: &[u8], requests: &[u8]) -> bool
 }
 
 // The first fault of the request records, each by itself.
-fn each_request(requests: &[u8]) -> Checked
+fn each_request(requests: &[u8]) -> Result<(), Refusal>
     ensures { fault_as result ≡ each_fault request_record_fault (records requests.now) }
 {
-    let mut at = 0;
-    while Ledger::RECORD <= requests.len() - at {
-        if !request_reader::stands_alone(&requests[at..at + Ledger::RECORD]) {
-            return Checked::Refused(Refusal::Malformed);
+    for rec in record_fields::records(requests) {
+        if !request_reader::stands_alone(rec) {
+            return Err(Refusal::Malformed);
         }
-        at += Ledger::RECORD;
     }
-    Checked::Sound
+    Ok(())
 }
 
 // The first fault of the day's files: lengths, the ACL's records, the request records.
-pub fn first_fault(km0: &[u8], acl: &[u8], requests: &[u8]) -> Checked
+pub fn first_fault(km0: &[u8], acl: &[u8], requests: &[u8]) -> Result<(), Refusal>
     ensures { fault_as result ≡ day_fault km0.now acl.now requests.now }
 {
     if !lengths_fit(km0, acl, requests) {
-        return Checked::Refused(Refusal::BadLength);
+        return Err(Refusal::BadLength);
     }
-    let first = acl_reader::acl_records(acl);
-    match first {
-        Checked::Refused(r) => Checked::Refused(r),
-        Checked::Sound => each_request(requests),
-    }
+    acl_reader::acl_records(acl)?;
+    each_request(requests)
 }

@@ -10,7 +10,7 @@ use lib.ListN.{replicate}
 use lib.Dec.{eqb, leb}
 use Rattle.rules.specs.Sizes.{bundle_records, acl_records}
 use Rattle.rules.specs.Numbers.{bad_length}
-use Rattle.std.specs.Prelude.{if◌then◌else◌}
+use Rattle.std.specs.Prelude.{Result, Ok, Err, if◌then◌else◌}
 use Rattle.rules.specs.Basics.{Bytes, or_next, first_fault, fits, records}
 use Rattle.rules.specs.Suites.{suite}
 use Rattle.rules.specs.Acl.{Action, permissions, make_blob, make_archive, Group, acl_of, acl_fault}
@@ -18,14 +18,12 @@ use Rattle.rules.specs.Bundle.{Policy, policy_of, bundle_fault}
 use Rattle.rules.proofs.Laws.{never}
 use Rattle.rules.specs.Desk.{Step, KV3, Acceptance, approach1, approach2, action_protection, soft_parameters, smallest, officers_group, key_protection, recoverable_key, before_acl, acl_failure, full_failure, basic_failure, grade_of, accepted_unless, attested, desk_fault, desk}
 use Rattle.bundle_facts.specs.Places.{entries, offsets_of}
-use Rattle.desk_steps.specs.declared.Failure.{Failure}
-use Rattle.desk_steps.specs.declared.Failure.TheVariants.{Nothing, At}
 use Rattle.desk_steps.specs.declared.Step as codeStep
-use Rattle.desk_steps.specs.Steps.{step_as, failure_as, csr_failure}
+use Rattle.desk_steps.specs.Steps.{step_as, csr_failure}
 use Rattle.suites.specs.Calls.{Calls, SuiteAnswer, calls, refuses, called_for}
 use Rattle.suites.proofs.Laws.{suite_in, suite_found, suite_measured}
 use Rattle.desk.specs.Replies as replies
-use Rattle.desk.specs.Replies.{DeskReply, protection_number, acceptance_as, acceptance_for, verdict_as, verdict_for, verdict_from, suite_fault, places_read, grade_failure}
+use Rattle.desk.specs.Replies.{DeskReply, protection_number, acceptance_as, acceptance_for, judged_as, verdict_for, suite_fault, places_read, grade_failure}
 use Rattle.desk_grading.specs.Grades.{Graded, acl_graded}
 use Rattle.desk_grading.proofs.Laws.{protection_most}
 use Rattle.desk.specs.declared.Protection.{Protection}
@@ -79,9 +77,9 @@ module _ (bundle acl : Bytes) (r s : Bool) (p : r ≡ fits bundle_records bundle
   unfolding desk_fault first_fault
   bad_lengths h = rw (sym lengths ∙ not-true (r && s) h)
 
-  pub good_lengths : (x y f g k : Option ℕ) → not (r && s) ≡ false → x ≡ or_next f y → y ≡ or_next g k → f ≡ bundle_fault (records bundle) → g ≡ acl_fault (records acl) → k ≡ suite_fault (records bundle) → x ≡ desk_fault bundle acl
+  pub good_lengths : (x f g k : Option ℕ) → not (r && s) ≡ false → f ≡ bundle_fault (records bundle) → g ≡ acl_fault (records acl) → k ≡ suite_fault (records bundle) → x ≡ or_next f (or_next g k) → x ≡ desk_fault bundle acl
   unfolding desk_fault first_fault suite_fault
-  good_lengths x y f g k h a b c d e = rw (a, b, c, d, e, sym lengths ∙ not-false (r && s) h)
+  good_lengths x f g k h c d e a = rw (a, c, d, e, sym lengths ∙ not-false (r && s) h)
 
   pub table_kept : (places : List ℕ) → places ≡ replicate entries 0 → not (r && s) ≡ true → places ≡ places_read bundle acl
   table_kept places e h = e ∙ sym (rw (sym lengths ∙ not-true (r && s) h))
@@ -115,9 +113,11 @@ unfolding full_failure grade_failure first_fault
 full_is b gs = ap (λ (z : Option Step). or_next (before_acl b) (or_next (acl_failure b gs) z)) (sym (or_none (grade_failure b (key_protection b gs))))
 
 -- the verdict of a run of steps
-pub verdict_of : (f : Failure) (a : code.Acceptance) (spec : Acceptance) (o : Option Step) → failure_as f ≡ o → acceptance_as a ≡ acceptance_for spec → verdict_as (verdict_from f a) ≡ verdict_for (accepted_unless o spec)
-verdict_of Nothing a spec o e n = rw (← e, n)
-verdict_of (At s) a spec o e n = rw (← e)
+pub judged_failed : (x : Result code.Acceptance codeStep.Step) (s : codeStep.Step) (spec : Acceptance) (o : Option Step) → x ≡ Err s → some (step_as s) ≡ o → judged_as x ≡ verdict_for (accepted_unless o spec)
+judged_failed x s spec o e d = rw (e, ← d)
+
+pub judged_passed : (a : code.Acceptance) (spec : Acceptance) (o : Option Step) → none ≡ o → acceptance_as a ≡ acceptance_for spec → judged_as (Ok a) ≡ verdict_for (accepted_unless o spec)
+judged_passed a spec o e n = rw (← e, n)
 
 -- the approach that the policy names
 pub approach_two : (b : List Bytes) (gs : List Group) (p : Policy) (x : DeskReply) → p ≡ policy_of b → p.approach ≡ 2 → x ≡ verdict_for (accepted_unless (full_failure b gs) (approach2 (grade_of b gs))) → x ≡ verdict_for (attested b gs)
@@ -163,9 +163,7 @@ module _ (b : List Bytes) (gs : List Group) (g : Graded) (e : g ≡ acl_graded b
       → acceptance_as (record { approach = 2; protection = p; recoverable = g.recoverable }) ≡ acceptance_for (approach2 (grade_of b gs))
   named_from p q = rw (q, protection_is, recoverable_is)
 
--- a step before the ACL fails, or none does
-pub failed_early : (b : List Bytes) (gs : List Group) (f : Failure) (s : codeStep.Step) (a : Acceptance) → failure_as f ≡ before_acl b → f ≡ At s → replies.failing (step_as s) ≡ verdict_for (accepted_unless (full_failure b gs) a)
+-- a step before the ACL fails
+pub failed_early : (b : List Bytes) (gs : List Group) (f : Step) → some f ≡ before_acl b → some f ≡ full_failure b gs
 unfolding full_failure first_fault
-failed_early b gs f s a e d =
-    let p : before_acl b ≡ some (step_as s) = sym e ∙ ap failure_as d in
-    sym (rw p)
+failed_early b gs f e = rw (← e)

@@ -1,6 +1,6 @@
 -- The desk's answers by document 01's numbers, values and step names, as the code gives them and as the definitions do. Both readings keep all that an
 -- answer says, so that an equation between them determines the code's answer.
-use Rattle.std.specs.Prelude.{ℕ, List, [], ◌∷◌, Bool, false, ◌&&◌, replicate, leb, if◌then◌else◌}
+use Rattle.std.specs.Prelude.{Result, Ok, Err, ℕ, List, [], ◌∷◌, Bool, false, ◌&&◌, replicate, leb, if◌then◌else◌}
 use Rattle.std.proofs.Math.Option.{Option}
 use Rattle.rules.specs.Sizes.{bundle_records, acl_records}
 use Rattle.rules.specs.Numbers as numbers
@@ -10,8 +10,7 @@ use Rattle.rules.specs.Bundle.{policy_of}
 use Rattle.rules.specs.Desk as rules
 use Rattle.refusals.specs.Refusals.{refusal_number}
 use Rattle.bundle_facts.specs.Places.{entries, offsets_of}
-use Rattle.desk_steps.specs.declared.Failure.{Failure}
-use Rattle.desk_steps.specs.declared.Failure.TheVariants.{Nothing, At}
+use Rattle.desk_steps.specs.declared.Step.{Step}
 use Rattle.desk_steps.specs.Steps.{step_as}
 use Rattle.desk.specs.declared.Protection.{Protection}
 use Rattle.desk.specs.declared.Protection.TheVariants.{NotJudged, Module, Softcard, Cardset, NotKept}
@@ -43,6 +42,11 @@ protection_number NotKept = numbers.not_kept
 abbrev pub acceptance_as : Acceptance → Named
 acceptance_as a = record { approach = a.approach; protection = protection_number a.protection; recoverable = a.recoverable }
 
+-- the code's answer for files that were read
+abbrev pub judged_as : Result Acceptance Step → DeskReply
+judged_as (Ok a) = accepting (acceptance_as a)
+judged_as (Err s) = failing (step_as s)
+
 -- the code's answer
 abbrev pub verdict_as : Verdict → DeskReply
 verdict_as (Accepted a) = accepting (acceptance_as a)
@@ -59,11 +63,6 @@ abbrev pub verdict_for : rules.Verdict → DeskReply
 verdict_for (rules.accepted a) = accepting (acceptance_for a)
 verdict_for (rules.failed s) = failing s
 verdict_for (rules.faulty n) = refusing n
-
--- an acceptance, unless a step fails
-abbrev pub verdict_from : Failure → Acceptance → Verdict
-verdict_from Nothing a = Accepted a
-verdict_from (At s) a = Failed s
 
 -- "suite not 1 to 4", and with document 02 not 1 to 5
 unfoldable pub suite_fault : List Bytes → Option ℕ

@@ -1,27 +1,25 @@
 -- Laws of a single action: the table of classes, the loop over the permissions, flags that announce fields, the kinds of actions.
-use Prim.Native.Nat.{ℕ, zero, suc, ◌+◌, ◌-◌, ◌/◌, ◌^◌, ◌≤◌, ◌<◌}
+use Prim.Native.Nat.{ℕ, ◌≤◌, zero, suc, ◌+◌, ◌<◌}
 use native.Mathlib.Omega.{arith}
 use native.Mathlib.Numerals.{add-one}
 use mathlib.Core.Path.{◌≡◌, refl, sym, ◌∙◌, ap}
-use mathlib.Core.Logic.{◌⊎◌, inl, inr}
 use mathlib.Core.List.{List, [], ◌∷◌, map}
 use mathlib.Core.Option.{Option, none, some}
 use mathlib.Core.Bool.{Bool, true, false, not, ◌&&◌, ◌||◌}
-use borrow.Author.Tests.{eqb-true, eqb-false, ltb-true, ltb-false, not-true, not-false}
-use lib.ListN.{length, take, drop, get_or, length-drop}
-use lib.Seq.{length-take-le, take-take}
-use lib.Pow.{shr-shr, shr_le}
-use lib.Dec.{eqb, ltb}
+use borrow.Author.Tests.{not-true, not-false}
+use lib.ListN.{length, drop, get_or}
+use lib.Seq.{take-take}
+use lib.Dec.{eqb}
 use Rattle.std.specs.Prelude.{if◌then◌else◌}
 use Rattle.rules.specs.Basics.{Bytes, implies, bit, all_below, part, number, kind, flag, optional, present, both_same, unless, first_fault}
 use Rattle.rules.specs.Acl.{blob_rule_of, archive_rule_of, parameters_at, BlobfileRule, Action, permissions, make_blob, make_archive, action_of}
 use Rattle.rules.specs.Bundle.{Policy}
 use Rattle.rules.specs.Suites.{suite_mechanism}
 use Rattle.rules.specs.Desk.{Step, Class, class_of, policy_admits, ACLV3, WB1, WB2, WB3, WB6, permissions_failure, blob_failure, is_mechanism, soft_parameters}
-use Rattle.rules.proofs.Laws.{all_below_at, all_below_all, not_both, decided}
-use Rattle.desk_evidence.specs.Given.{given}
-use Rattle.desk_evidence.proofs.Laws.{given_some}
-use Rattle.suites.specs.Calls.{Calls, SuiteAnswer, calls, refuses, called_for}
+use Rattle.std.specs.Prelude.{Result, Ok, Err, MatchResult}
+use Rattle.refusals.specs.declared.Refusal.{Refusal}
+use Rattle.suites.specs.declared.Suite.{Suite}
+use Rattle.suites.specs.Calls.{lookup_as, called_for}
 use Rattle.suites.proofs.Laws.{suite_found}
 use Rattle.desk_actions.specs.Classes.{admitted_bit}
 
@@ -41,7 +39,7 @@ module _ (policy : Policy) (bits b : ℕ) (t : Bool) (is : t ≡ bit b bits) whe
   unfolding admitted_bit
   bit_set c r h k e = e ∙ ap (policy_admits policy) k ∙ sym (rw (← is, not-false t h))
 
--- The loop over the permissions: whether every one below b passes.
+-- Whether every permission passes, from the least on: after one more.
 pub below_none : (p : ℕ → Bool) → true ≡ all_below 0 p
 unfolding all_below
 below_none p = refl
@@ -50,46 +48,8 @@ pub below_next : (p : ℕ → Bool) (b : ℕ) (t r : Bool) → t ≡ p b → r �
 unfolding all_below
 below_next p b t r is h = rw (add-one, is, h)
 
--- From b on no bit is set: the rest of the number is zero.
-module _ (policy : Policy) (bits left b : ℕ) (is : left ≡ bits / 2 ^ b) where
-  pub left_below : bits < 65536 → b ≤ 16 → 0 < left → b < 16
-  left_below h l z = pick (decided (eqb b 16))
-    where
-      pick : (eqb b 16 ≡ true) ⊎ (eqb b 16 ≡ false) → b < 16
-      pick (inl q) = let e : left ≡ bits / 2 ^ 16 = is ∙ ap (λ (i : ℕ). bits / 2 ^ i) (eqb-true b 16 q) in absurd (omega arith)
-      pick (inr q) = let n : b ≡ 16 → ⊥ = eqb-false b 16 q in omega arith
-
-  pub left_room : bits < 65536 → b ≤ 16 → 0 < left → b + 1 ≤ 16
-  left_room h l z = let k = left_below h l z in omega arith
-
-  pub left_next : left / 2 ≡ bits / 2 ^ (b + 1)
-  left_next = ap (λ (n : ℕ). n / 2) is ∙ shr-shr bits b 1
-
-  unset : (i : ℕ) → left ≤ 0 → b ≤ i → bit i bits ≡ false
-  unset i z h =
-      let e : left ≡ 0 = omega arith in
-      let k : b + (i - b) ≡ i = omega arith in
-      let f : bits / 2 ^ b / 2 ^ (i - b) ≡ bits / 2 ^ i = shr-shr bits b (i - b) ∙ ap (λ (j : ℕ). bits / 2 ^ j) k in
-      let g : bits / 2 ^ b / 2 ^ (i - b) ≤ bits / 2 ^ b = shr_le (bits / 2 ^ b) (i - b) in
-      let d : bits / 2 ^ i ≡ 0 = omega arith in
-      rw d
-
-  -- those from b on pass, so that all pass exactly if those below b do
-  pub left_none : (r : Bool) → r ≡ all_below b (admitted_bit policy bits) → b ≤ 16 → left ≤ 0 → r ≡ all_below 16 (admitted_bit policy bits)
-  unfolding admitted_bit
-  left_none r e l z = pick r e
-    where
-      above : (i : ℕ) → all_below b (admitted_bit policy bits) ≡ true → (ltb i b ≡ true) ⊎ (ltb i b ≡ false) → admitted_bit policy bits i ≡ true
-      above i h (inl q) = all_below_at b (admitted_bit policy bits) i (ltb-true i b q) h
-      above i h (inr q) = rw (unset i z (ltb-false i b q))
-
-      none_above : (a : Bool) → all_below 16 (admitted_bit policy bits) ≡ a → all_below b (admitted_bit policy bits) ≡ false → false ≡ a
-      none_above true q h = absurd (not_both (all_below b (admitted_bit policy bits)) (all_below_all b (admitted_bit policy bits) (λ i k. all_below_at 16 (admitted_bit policy bits) i (omega arith) q)) h)
-      none_above false q h = refl
-
-      pick : (t : Bool) → t ≡ all_below b (admitted_bit policy bits) → t ≡ all_below 16 (admitted_bit policy bits)
-      pick true h = sym (all_below_all 16 (admitted_bit policy bits) (λ i k. above i (sym h) (decided (ltb i b))))
-      pick false h = none_above (all_below 16 (admitted_bit policy bits)) refl (sym h)
+pub below_whole : (p : ℕ → Bool) (b : ℕ) (r : Bool) → b ≤ 16 → 16 ≤ b → r ≡ all_below b p → r ≡ all_below 16 p
+below_whole p b r h k e = let d : b ≡ 16 = omega arith in e ∙ ap (λ (n : ℕ). all_below n p) d
 
 -- ACLV3
 module _ (p : Policy) (bits n : ℕ) (r : Bool) (f : bits ≡ n) (is : r ≡ all_below 16 (admitted_bit p bits)) where
@@ -105,22 +65,6 @@ module _ (p : Policy) (bits n : ℕ) (r : Bool) (f : bits ≡ n) (is : r ≡ all
 pub present_optional : {A : Type 0} (t : Bool) (a : A) → present (optional t a) ≡ t
 present_optional true a = refl
 present_optional false a = refl
-
-same_as_none : (o : Option Bytes) → false ≡ both_same o none
-same_as_none none = refl
-same_as_none (some x) = refl
-
-module _ (off : ℕ) (rec : Bytes) (o : Option Bytes) (r t : Bool) (is : r ≡ t) where
-  pub named_there : (s : Bool) → length rec ≡ 64 → off + 20 ≤ 64 → not r ≡ false → s ≡ both_same o (given (take (off + 20 - off) (drop off rec)))
-      → s ≡ both_same o (optional t (part off 20 rec))
-  named_there s l h e q =
-      let k : off + 20 - off ≡ 20 = omega arith in
-      let m : length (part off 20 rec) ≡ 20 = length-take-le 20 (drop off rec) (omega (arith, length-drop off rec)) in
-      let g : given (take (off + 20 - off) (drop off rec)) ≡ some (part off 20 rec) = rw k (given_some (part off 20 rec) (λ z. omega arith)) in
-      rw (← is, not-false r e) (q ∙ ap (both_same o) g)
-
-  pub named_not : not r ≡ true → false ≡ both_same o (optional t (part off 20 rec))
-  named_not e = rw (← is, not-true r e) (same_as_none o)
 
 -- WB1 to WB6, by the flags
 pub by_flags : (hkm : Option Bytes) (rec : Bytes) (x : Option Step)
@@ -138,13 +82,11 @@ module _ {F : Type 0} (f : F) (ts : List (Option F)) (x : Option F) (r t : Bool)
   unfolding first_fault
   fault_unless h p = p ∙ rw (← e, h)
 
--- RB3, by what the match on the suite's number gave
-module _ (suite : ℕ) (a : SuiteAnswer) (e : a ≡ called_for suite) where
-  pub called_none : (m f : ℕ) → refuses f ≡ a → false ≡ is_mechanism (suite_mechanism suite) m
-  called_none m f d = sym (rw (← suite_found suite a e, ← d))
-
-  pub called_under : (c : Calls) (m n : ℕ) → calls c ≡ a → m ≡ n → eqb c.suite.mechanism m ≡ is_mechanism (suite_mechanism suite) n
-  called_under c m n d g = sym (rw (← suite_found suite a e, ← d, g))
+-- RB3, by what the suite's number gave
+pub called_is : (suite n : ℕ) (r : Result Suite Refusal) (x : Bool) → lookup_as r ≡ called_for suite → MatchResult r (λ s. x ≡ eqb s.mechanism n) (λ _. x ≡ false)
+    → x ≡ is_mechanism (suite_mechanism suite) n
+called_is suite n (Err f) x e h = h ∙ sym (rw (← suite_found suite (lookup_as (Err f)) e))
+called_is suite n (Ok s) x e h = h ∙ sym (rw (← suite_found suite (lookup_as (Ok s)) e))
 
 -- What is made of an action, by the kind of its record.
 pub by_kind : {A : Type 0} (f : Action → A) (r : Bytes) (file : Option BlobfileRule) (x : A)

@@ -2,23 +2,24 @@
 // whether or not the file was tested. A record of kind 15 after the action changes nothing here.
 #![tactic(auto)]
 
-ghost use Rattle.std.specs.Prelude.{◌≡◌, ◌+◌, ◌≤◌, ◌<◌, length};
+ghost use Rattle.std.specs.Prelude.{◌≡◌, ◌+◌, ◌≤◌, ◌<◌};
 ghost use Rattle.std.proofs.Math.Option.{Option, none};
 ghost use Rattle.rules.specs.Sizes.{record_bytes, hash_bytes};
-ghost use Rattle.rules.specs.Basics.{all_below, both_same, part, number, flag, optional};
+ghost use Rattle.rules.specs.Basics.{all_below, both_same, part, number, flag, optional, records};
 ghost use Rattle.rules.specs.Acl.{blob_rule_of, archive_rule_of, BlobfileRule, make_blob, action_of};
 ghost use Rattle.rules.specs.Suites.{suite_mechanism};
-ghost use Rattle.rules.specs.Desk.{class_of, policy_admits, permissions_failure, blob_failure, is_mechanism, archive_failure, failure_under, action_protection};
-ghost use Rattle.bundle_facts.specs.Found.{policy_as};
-ghost use Rattle.desk_evidence.specs.Given.{given};
+ghost use Rattle.rules.specs.Desk.{class_of, policy_admits, permissions_failure, blob_failure, is_mechanism, archive_failure, action_protection};
+ghost use Rattle.bundle_facts.specs.Found.{bytes_as, policy_as};
 ghost use Rattle.desk_steps.specs.Steps.{failure_as};
 ghost use Rattle.desk_actions.specs.Classes.{class_as, admitted_bit};
+ghost use Rattle.desk_actions.specs.Judging.{TermsOf, failure_by};
 
-use bundle_facts::Policy;
-use desk_steps::{Failure, Step};
-use suites::Lookup;
+use bundle_facts::{Facts, Policy};
+use desk_steps::Step;
+use record_sizes::Record;
 
 // The numbers of the protections, the smallest the weakest.
+// stays: numbers, for the policy's lowest protection is one, and an enum would be turned into a number wherever two are compared.
 const BY_MODULE: u8 = 1;
 
 const BY_SOFTCARD: u8 = 2;
@@ -88,132 +89,146 @@ pub fn bit_admitted(policy: Policy, bits: u16, b: u16) -> bool
     class_admitted(policy, class_of(b))
 }
 
-// Whether a policy admits every permission that is set: the table of classes is read for each of them. `left` are those from b on: after the highest that
-// is set there are no more.
+// Whether a policy admits every permission that is set. Every one is looked at, also after one that is not admitted.
 fn bits_admitted(policy: Policy, bits: u16) -> bool
     ensures { result ≡ all_below 16 (admitted_bit (policy_as policy) bits) }
 {
     let mut admitted = true;
-    let mut left = bits;
-    let mut b = 0;
-    while 0 < left {
+    for b in 0..16 {
         admitted = bit_admitted(policy, bits, b) & admitted;
-        left = left / 2;
-        b += 1;
     }
     admitted
 }
 
 // Whether a record names a key by the hash that flag f announces: the key is there, the flag is set, and the hash is the key's.
-pub fn names_key(key: &[u8], f: u16, off: usize, rec: &[u8]) -> bool
-    requires { (f < 16) × (length rec.now ≡ record_bytes) × (off + hash_bytes ≤ record_bytes) }
-    ensures { result ≡ both_same (given key.now) (optional (flag f rec.now) (part off hash_bytes rec.now)) }
+fn names_key(key: Option<&[u8]>, f: u16, off: usize, rec: &Record) -> bool
+    requires { (f < 16) × (off + hash_bytes ≤ record_bytes) }
+    ensures { result ≡ both_same (bytes_as key.entry) (optional (flag f rec.now) (part off hash_bytes rec.now)) }
 {
     if !record_fields::flag_of(f, rec) {
         return false;
     }
-    desk_evidence::both_same(key, &rec[off..off + record_sizes::HASH])
+    key.is_some_and(|key| record_fields::same_bytes(key, &rec[off..off + record_sizes::HASH]))
 }
 
 // OpPermissions: no permission that is forbidden, or that the policy lacks.
-pub fn permission_step(policy: Policy, rec: &[u8]) -> Failure
-    requires { length rec.now ≡ record_bytes }
+pub fn permission_step(policy: Policy, rec: &Record) -> Result<(), Step>
     ensures { failure_as result ≡ permissions_failure (policy_as policy) (number 4 2 rec.now) }
 {
     if !bits_admitted(policy, record_fields::be16(rec, 4)) {
-        return Failure::At(Step::ACLV3);
+        return Err(Step::ACLV3);
     }
-    Failure::Nothing
+    Ok(())
 }
 
 // Whether a MakeBlob action names the trusted module key.
-fn under_module_key(hkm: &[u8], rec: &[u8]) -> bool
-    requires { length rec.now ≡ record_bytes }
-    ensures { result ≡ both_same (given hkm.now) (blob_rule_of rec.now).kmhash }
+fn under_module_key(hkm: Option<&[u8]>, rec: &Record) -> bool
+    ensures { result ≡ both_same (bytes_as hkm.entry) (blob_rule_of rec.now).kmhash }
 {
     names_key(hkm, 2, 4, rec)
 }
 
 // MakeBlob: protected by the module or a token, under the trusted module key, never the null key, and a token with its parameters.
-pub fn blob_steps(hkm: &[u8], rec: &[u8]) -> Failure
-    requires { length rec.now ≡ record_bytes }
-    ensures { failure_as result ≡ blob_failure (given hkm.now) (blob_rule_of rec.now) }
+pub fn blob_steps(hkm: Option<&[u8]>, rec: &Record) -> Result<(), Step>
+    ensures { failure_as result ≡ blob_failure (bytes_as hkm.entry) (blob_rule_of rec.now) }
 {
     if !(record_fields::flag_of(record_kinds::ALLOW_KM_ONLY, rec)
         | record_fields::flag_of(record_kinds::KTHASH, rec))
     {
-        return Failure::At(Step::WB1);
+        return Err(Step::WB1);
     }
     if !under_module_key(hkm, rec) {
-        return Failure::At(Step::WB2);
+        return Err(Step::WB2);
     }
     if record_fields::flag_of(record_kinds::ALLOW_NULL_KM_TOKEN, rec) {
-        return Failure::At(Step::WB3);
+        return Err(Step::WB3);
     }
     if !(!record_fields::flag_of(record_kinds::KTHASH, rec)
         | record_fields::flag_of(record_kinds::KTPARAMS, rec))
     {
-        return Failure::At(Step::WB6);
+        return Err(Step::WB6);
     }
-    Failure::Nothing
+    Ok(())
 }
 
 // Whether an archive action's mechanism is that of the policy's suite.
-fn called_for(policy: Policy, rec: &[u8]) -> bool
-    requires { length rec.now ≡ record_bytes }
+fn called_for(policy: Policy, rec: &Record) -> bool
     ensures { result ≡ is_mechanism (suite_mechanism (policy_as policy).suite) (number 24 2 rec.now) }
 {
     let due = suites::suite_of(policy.suite as u64);
-    match due {
-        Lookup::Refused(_) => false,
-        Lookup::Known(s) => s.mechanism == record_fields::be16(rec, 24),
-    }
+    due.is_ok_and(|s| s.mechanism == record_fields::be16(rec, 24))
 }
 
 // Whether a MakeArchiveBlob action names the trusted recovery key.
-fn under_recovery_key(hkre: &[u8], rec: &[u8]) -> bool
-    requires { length rec.now ≡ record_bytes }
-    ensures { result ≡ both_same (given hkre.now) (archive_rule_of rec.now).kahash }
+fn under_recovery_key(hkre: Option<&[u8]>, rec: &Record) -> bool
+    ensures { result ≡ both_same (bytes_as hkre.entry) (archive_rule_of rec.now).kahash }
 {
     names_key(hkre, 0, 4, rec)
 }
 
 // MakeArchiveBlob: under the trusted recovery key, by the suite's mechanism.
-pub fn archive_steps(policy: Policy, hkre: &[u8], rec: &[u8]) -> Failure
-    requires { length rec.now ≡ record_bytes }
-    ensures { failure_as result ≡ archive_failure (policy_as policy) (given hkre.now) (archive_rule_of rec.now) }
+#[tactic(auto, using(desk_steps::proofs::Laws::tests))]
+pub fn archive_steps(policy: Policy, hkre: Option<&[u8]>, rec: &Record) -> Result<(), Step>
+    ensures { failure_as result ≡ archive_failure (policy_as policy) (bytes_as hkre.entry) (archive_rule_of rec.now) }
 {
-    if !desk_evidence::is_there(hkre) {
-        return Failure::At(Step::RB1);
+    if hkre.is_none() {
+        return Err(Step::RB1);
     }
     if !under_recovery_key(hkre, rec) {
-        return Failure::At(Step::RB2);
+        return Err(Step::RB2);
     }
     if !called_for(policy, rec) {
-        return Failure::At(Step::RB3);
+        return Err(Step::RB3);
     }
-    Failure::Nothing
+    Ok(())
 }
 
-// The first step that an action fails, under a policy and the keys that are trusted; an empty part for one that is not.
-pub fn action_steps(policy: Policy, hkm: &[u8], hkre: &[u8], rec: &[u8]) -> Failure
-    requires { length rec.now ≡ record_bytes }
-    ensures { (file : Option BlobfileRule) → failure_as result ≡
-        failure_under (policy_as policy) (given hkm.now) (given hkre.now) (action_of rec.now file) }
-{
-    let kind = rec[0];
-    if kind == record_kinds::OP_PERMISSIONS {
-        return permission_step(policy, rec);
+// What an ACL is judged by: the policy, the officer's key, and the module key and the recovery key if they are trusted.
+#[derive(Clone, Copy)]
+pub struct Terms<'a> {
+    pub policy: Policy,
+    pub officer: Option<&'a [u8]>,
+    pub hkm: Option<&'a [u8]>,
+    pub hkre: Option<&'a [u8]>,
+}
+
+impl<'a> Terms<'a> {
+    // The terms of a bundle. The keys are looked for once, not for each action.
+    pub fn of(facts: Facts<'a>) -> Terms<'a>
+        ensures { TermsOf (records facts.entry.bundle.now) result }
+    {
+        Terms {
+            policy: facts.policy(),
+            officer: facts.content(4),
+            hkm: desk_evidence::module_key(facts),
+            hkre: desk_evidence::recovery_key(facts),
+        }
     }
-    if kind == record_kinds::MAKE_BLOB {
-        return blob_steps(hkm, rec);
+
+    // Whether a group record names the officer's key as its certifier.
+    pub fn names_officer(self, rec: &Record) -> bool
+        ensures { result ≡ both_same (bytes_as self.entry.officer) (optional (flag 0 rec.now) (part 4 hash_bytes rec.now)) }
+    {
+        names_key(self.officer, 0, 4, rec)
     }
-    archive_steps(policy, hkre, rec)
+
+    // The first step that an action fails.
+    pub fn action_steps(self, rec: &Record) -> Result<(), Step>
+        ensures { (file : Option BlobfileRule) → failure_as result ≡ failure_by self.entry (action_of rec.now file) }
+    {
+        let kind = rec[0];
+        if kind == record_kinds::OP_PERMISSIONS {
+            return permission_step(self.policy, rec);
+        }
+        if kind == record_kinds::MAKE_BLOB {
+            return blob_steps(self.hkm, rec);
+        }
+        archive_steps(self.policy, self.hkre, rec)
+    }
 }
 
 // The protection of a MakeBlob action.
-pub fn blob_protection(rec: &[u8]) -> u8
-    requires { length rec.now ≡ record_bytes }
+pub fn blob_protection(rec: &Record) -> u8
     ensures { result ≡ action_protection (make_blob (blob_rule_of rec.now) none) }
 {
     if record_fields::flag_of(record_kinds::ALLOW_KM_ONLY, rec) {

@@ -1,174 +1,125 @@
-// What a bundle gives evidence of: fields that are present and equal, signatures that are good, and the keys that world certificates vouch for. A hash that
-// may be absent is a part of the bundle, empty where there is none.
+// What a bundle gives evidence of: fields that are present and equal, signatures that are good, and the keys that world certificates vouch for.
 #![tactic(auto)]
 
 ghost use Rattle.std.specs.Prelude.{◌≡◌, ◌&&◌, ◌||◌, ◌<◌};
-ghost use Rattle.rules.specs.Basics.{present, both_same, records};
-ghost use Rattle.rules.specs.Bundle.{field, has_field, reported, is_good, good, policy_of};
+ghost use Rattle.rules.specs.Basics.{both_same, records};
+ghost use Rattle.rules.specs.Bundle.{field, has_field, reported, good};
 ghost use Rattle.rules.specs.Desk.{km_vouched, km_fips_vouched, kre_vouched, module_key, recovery_key, is_listed, csr_linked};
-ghost use Rattle.bundle_facts.specs.Found.{signature_as, policy_as};
-ghost use Rattle.bundle_facts.specs.Places.{Found};
-ghost use Rattle.desk_evidence.specs.Given.{given};
+ghost use Rattle.bundle_facts.specs.Found.{bytes_as};
 
-use bundle_facts::{Policy, Signature};
+use bundle_facts::Facts;
 
-// Whether a part is present. A hash has twenty bytes, so an empty part means an absent one.
-pub fn is_there(hash: &[u8]) -> bool
-    ensures { result ≡ present (given hash.now) }
+// Whether two hashes are both there and equal: an absent one equals nothing, not even another absent one.
+fn both_same(a: Option<&[u8]>, b: Option<&[u8]>) -> bool
+    ensures { result ≡ both_same (bytes_as a.entry) (bytes_as b.entry) }
 {
-    hash.len() != 0
-}
-
-// Whether two parts are both there and equal: an absent one equals nothing, not even another absent one.
-pub fn both_same(a: &[u8], b: &[u8]) -> bool
-    ensures { result ≡ both_same (given a.now) (given b.now) }
-{
-    is_there(a) & record_fields::same_bytes(a, b)
-}
-
-// Whether an outcome is reported, and good.
-fn good_outcome(s: Signature) -> bool
-    ensures { result ≡ is_good (signature_as s) }
-{
-    match s {
-        Signature::Absent => false,
-        Signature::Bad => false,
-        Signature::Good => true,
-    }
-}
-
-// Whether an outcome is reported.
-fn any_outcome(s: Signature) -> bool
-    ensures { result ≡ present (signature_as s) }
-{
-    match s {
-        Signature::Absent => false,
-        Signature::Bad => true,
-        Signature::Good => true,
+    match (a, b) {
+        (Some(a), Some(b)) => record_fields::same_bytes(a, b),
+        _ => false,
     }
 }
 
 // Whether signature n is reported, and good.
-pub fn is_good(n: u8, places: &[usize; bundle_facts::ENTRIES], bundle: &[u8]) -> bool
-    requires { (n < 8) × Found bundle.now places.now }
-    ensures { result ≡ good n (records bundle.now) }
+pub fn is_good(n: u8, facts: Facts) -> bool
+    requires { n < 8 }
+    ensures { result ≡ good n (records facts.entry.bundle.now) }
 {
-    good_outcome(bundle_facts::outcome(n, places, bundle))
+    facts.outcome(n).unwrap_or(false)
 }
 
 // Whether signature n is reported, good or not.
-pub fn is_signed(n: u8, places: &[usize; bundle_facts::ENTRIES], bundle: &[u8]) -> bool
-    requires { (n < 8) × Found bundle.now places.now }
-    ensures { result ≡ reported n (records bundle.now) }
+pub fn is_signed(n: u8, facts: Facts) -> bool
+    requires { n < 8 }
+    ensures { result ≡ reported n (records facts.entry.bundle.now) }
 {
-    any_outcome(bundle_facts::outcome(n, places, bundle))
-}
-
-// The content of field n; an empty part where the field is absent.
-pub fn field_of<'a>(n: u8, places: &[usize; bundle_facts::ENTRIES], bundle: &'a [u8]) -> &'a [u8]
-    requires { (n < 16) × Found bundle.now places.now }
-    ensures { given result.now ≡ field n (records bundle.now) }
-{
-    bundle_facts::content(n, places, bundle)
+    facts.outcome(n).is_some()
 }
 
 // Whether field n is present.
-pub fn has_field(n: u8, places: &[usize; bundle_facts::ENTRIES], bundle: &[u8]) -> bool
-    requires { (n < 16) × Found bundle.now places.now }
-    ensures { result ≡ has_field n (records bundle.now) }
+pub fn has_field(n: u8, facts: Facts) -> bool
+    requires { n < 16 }
+    ensures { result ≡ has_field n (records facts.entry.bundle.now) }
 {
-    is_there(field_of(n, places, bundle))
+    facts.content(n).is_some()
 }
 
 // Whether two fields are both there and equal.
-pub fn same_fields(m: u8, n: u8, places: &[usize; bundle_facts::ENTRIES], bundle: &[u8]) -> bool
-    requires { (m < 16) × (n < 16) × Found bundle.now places.now }
-    ensures { result ≡ both_same (field m (records bundle.now)) (field n (records bundle.now)) }
+pub fn same_fields(m: u8, n: u8, facts: Facts) -> bool
+    requires { (m < 16) × (n < 16) }
+    ensures { result ≡ both_same (field m (records facts.entry.bundle.now)) (field n (records facts.entry.bundle.now)) }
 {
-    both_same(field_of(m, places, bundle), field_of(n, places, bundle))
+    both_same(facts.content(m), facts.content(n))
 }
 
 // What certificates 3 and 4 both vouch with: the officer's key, the module key and its confirmation.
-fn km_confirmed(places: &[usize; bundle_facts::ENTRIES], bundle: &[u8]) -> bool
-    requires { Found bundle.now places.now }
-    ensures { result ≡ (has_field 5 (records bundle.now) && has_field 6 (records bundle.now) && has_field 12 (records bundle.now)) }
+fn km_confirmed(facts: Facts) -> bool
+    ensures { result ≡
+        (has_field 5 (records facts.entry.bundle.now)
+        && has_field 6 (records facts.entry.bundle.now)
+        && has_field 12 (records facts.entry.bundle.now)) }
 {
-    has_field(5, places, bundle) & has_field(6, places, bundle) & has_field(12, places, bundle)
+    has_field(5, facts) & has_field(6, facts) & has_field(12, facts)
 }
 
 // Certificate 3.
-pub fn km_vouched(places: &[usize; bundle_facts::ENTRIES], bundle: &[u8]) -> bool
-    requires { Found bundle.now places.now }
-    ensures { result ≡ km_vouched (records bundle.now) }
+pub fn km_vouched(facts: Facts) -> bool
+    ensures { result ≡ km_vouched (records facts.entry.bundle.now) }
 {
-    is_good(3, places, bundle) & km_confirmed(places, bundle)
+    is_good(3, facts) & km_confirmed(facts)
 }
 
 // Certificate 4: with the FIPS key too.
-pub fn km_fips_vouched(places: &[usize; bundle_facts::ENTRIES], bundle: &[u8]) -> bool
-    requires { Found bundle.now places.now }
-    ensures { result ≡ km_fips_vouched (records bundle.now) }
+pub fn km_fips_vouched(facts: Facts) -> bool
+    ensures { result ≡ km_fips_vouched (records facts.entry.bundle.now) }
 {
-    is_good(4, places, bundle) & km_confirmed(places, bundle) & has_field(13, places, bundle)
+    is_good(4, facts) & km_confirmed(facts) & has_field(13, facts)
 }
 
 // Certificate 5: the officer's key, the recovery key and its authorisation.
-pub fn kre_vouched(places: &[usize; bundle_facts::ENTRIES], bundle: &[u8]) -> bool
-    requires { Found bundle.now places.now }
-    ensures { result ≡ kre_vouched (records bundle.now) }
+pub fn kre_vouched(facts: Facts) -> bool
+    ensures { result ≡ kre_vouched (records facts.entry.bundle.now) }
 {
-    is_good(5, places, bundle)
-        & has_field(5, places, bundle)
-        & has_field(7, places, bundle)
-        & has_field(11, places, bundle)
+    is_good(5, facts) & has_field(5, facts) & has_field(7, facts) & has_field(11, facts)
 }
 
 // Whether certificate 3 or 4 vouches for the module key. The second is looked for only where the first does not.
-fn km_trusted(places: &[usize; bundle_facts::ENTRIES], bundle: &[u8]) -> bool
-    requires { Found bundle.now places.now }
-    ensures { result ≡ (km_vouched (records bundle.now) || km_fips_vouched (records bundle.now)) }
+fn km_trusted(facts: Facts) -> bool
+    ensures { result ≡ (km_vouched (records facts.entry.bundle.now) || km_fips_vouched (records facts.entry.bundle.now)) }
 {
-    if km_vouched(places, bundle) {
-        return true;
-    }
-    km_fips_vouched(places, bundle)
+    km_vouched(facts) || km_fips_vouched(facts)
 }
 
-// The module key, where a world certificate vouches for it: that it is listed is not enough. An empty part where it is not trusted.
-pub fn module_key<'a>(places: &[usize; bundle_facts::ENTRIES], bundle: &'a [u8]) -> &'a [u8]
-    requires { Found bundle.now places.now }
-    ensures { given result.now ≡ module_key (records bundle.now) }
+// The module key, if a world certificate vouches for it: that it is listed is not enough.
+pub fn module_key<'a>(facts: Facts<'a>) -> Option<&'a [u8]>
+    ensures { bytes_as result ≡ module_key (records facts.entry.bundle.now) }
 {
-    if km_trusted(places, bundle) {
-        return field_of(6, places, bundle);
+    if km_trusted(facts) {
+        return facts.content(6);
     }
-    &bundle[0..0]
+    None
 }
 
-// The recovery key, where its certificate vouches for it; an empty part where it is not trusted.
-pub fn recovery_key<'a>(places: &[usize; bundle_facts::ENTRIES], bundle: &'a [u8]) -> &'a [u8]
-    requires { Found bundle.now places.now }
-    ensures { given result.now ≡ recovery_key (records bundle.now) }
+// The recovery key, if its certificate vouches for it.
+pub fn recovery_key<'a>(facts: Facts<'a>) -> Option<&'a [u8]>
+    ensures { bytes_as result ≡ recovery_key (records facts.entry.bundle.now) }
 {
-    if kre_vouched(places, bundle) {
-        return field_of(7, places, bundle);
+    if kre_vouched(facts) {
+        return facts.content(7);
     }
-    &bundle[0..0]
+    None
 }
 
 // Whether the module key, if it is present, is listed.
-pub fn module_key_listed(places: &[usize; bundle_facts::ENTRIES], bundle: &[u8]) -> bool
-    requires { Found bundle.now places.now }
-    ensures { result ≡ is_listed (field 6 (records bundle.now)) (records bundle.now) }
+pub fn module_key_listed(facts: Facts) -> bool
+    ensures { result ≡ is_listed (field 6 (records facts.entry.bundle.now)) (records facts.entry.bundle.now) }
 {
-    let key = field_of(6, places, bundle);
-    !is_there(key) | bundle_facts::is_listed(key, bundle)
+    let key = facts.content(6);
+    key.is_none_or(|key| bundle_facts::is_listed(key, facts.bundle))
 }
 
 // Whether the CSR, if the policy says that one is in use, is for the key.
-pub fn csr_linked(policy: Policy, places: &[usize; bundle_facts::ENTRIES], bundle: &[u8]) -> bool
-    requires { (policy_as policy ≡ policy_of (records bundle.now)) × Found bundle.now places.now }
-    ensures { result ≡ csr_linked (records bundle.now) }
+pub fn csr_linked(facts: Facts) -> bool
+    ensures { result ≡ csr_linked (records facts.entry.bundle.now) }
 {
-    !policy.csr | same_fields(10, 9, places, bundle)
+    !facts.policy().csr | same_fields(10, 9, facts)
 }

@@ -7,6 +7,8 @@ use Rattle.rules.specs.Acl.{Action, Group}
 use Rattle.rules.specs.Bundle.{Policy}
 use Rattle.rules.specs.Desk.{Step, failure_under, acl_failure, action_protection, key_protection, is_archive, recoverable_key}
 use Rattle.desk_steps.specs.Steps.{failure_as}
+use Rattle.bundle_facts.specs.Found.{bytes_as, policy_as}
+use Rattle.desk_actions.specs.declared.Terms.{Terms}
 use Rattle.desk_grading.specs.declared.Grade.{Grade}
 
 -- the first failing step, the protection, whether the key is recoverable
@@ -58,3 +60,16 @@ groups_graded officer policy hkm hkre gs = all_graded (group_graded officer poli
 -- an ACL, by the desk's definitions
 unfoldable pub acl_graded : List Bytes → List Group → Graded
 acl_graded b gs = record { failure = acl_failure b gs; protection = key_protection b gs; recoverable = recoverable_key b gs }
+
+-- the same by the terms of judging: an action, the actions of a group, a group, the groups
+abbrev pub action_by : Terms → Action → Graded
+action_by t a = action_graded (policy_as t.policy) (bytes_as t.hkm) (bytes_as t.hkre) a
+
+abbrev pub actions_by : Terms → List Action → Graded
+actions_by t list = actions_graded (policy_as t.policy) (bytes_as t.hkm) (bytes_as t.hkre) list
+
+abbrev pub group_by : Terms → Group → Graded
+group_by t g = group_graded (bytes_as t.officer) (policy_as t.policy) (bytes_as t.hkm) (bytes_as t.hkre) g
+
+abbrev pub groups_by : Terms → List Group → Graded
+groups_by t gs = groups_graded (bytes_as t.officer) (policy_as t.policy) (bytes_as t.hkm) (bytes_as t.hkre) gs

@@ -1,12 +1,11 @@
 -- Runs of steps: what the code's answers say of one, and one after the other.
-use mathlib.Core.Path.{◌≡◌, refl}
+use mathlib.Core.Path.{◌≡◌, refl, ◌∙◌, ap}
 use mathlib.Core.List.{List, [], ◌∷◌, ◌++◌}
 use mathlib.Core.Option.{Option, none, some}
 use Rattle.rules.specs.Basics.{Bytes, or_next, first_fault}
 use Rattle.rules.specs.Desk.{before_acl, basic_failure}
 use Rattle.rules.proofs.Choices.{and_is}
 use Rattle.rules.proofs.Faults.{fault_here, fault_later}
-use Rattle.desk_evidence.proofs.Laws.{or_is, implies_is}
 use Rattle.desk_steps.specs.Steps.{warrant_failure, state_failure, world_failure, key_failure, csr_failure}
 
 -- Runs of steps, one after the other.
@@ -22,7 +21,7 @@ unfolding first_fault
 no_fault = refl
 
 -- tests, one after the other: what the code's answers say of a run of steps
-pub ruleset tests = (fault_here, fault_later, no_fault, and_is, or_is, implies_is)
+pub ruleset tests = (fault_here, fault_later, no_fault, and_is)
 
 -- the runs of both approaches
 pub approach_2 : (b : List Bytes) → or_next (or_next (warrant_failure b) (state_failure b)) (or_next (world_failure b) (key_failure b)) ≡ before_acl b
@@ -33,9 +32,10 @@ pub approach_1 : (b : List Bytes) → or_next (warrant_failure b) (or_next (key_
 unfolding warrant_failure key_failure csr_failure basic_failure
 approach_1 b = rw (joined, joined)
 
-pub four_runs : {F : Type 0} (x y z a b c d f g h i : Option F) → x ≡ or_next y z → y ≡ or_next a b → z ≡ or_next c d → a ≡ f → b ≡ g → c ≡ h → d ≡ i
-    → x ≡ or_next (or_next f g) (or_next h i)
-four_runs x y z a b c d f g h i e p q k l m n = rw (e, p, q, k, l, m, n)
+-- a run that fails, and one that passes before the next
+module _ {F : Type 0} (x a b : Option F) where
+  pub run_failed : (f : F) → x ≡ some f → some f ≡ a → x ≡ or_next a b
+  run_failed f e d = e ∙ ap (λ (o : Option F). or_next o b) d
 
-pub three_runs : {F : Type 0} (x y a b c f g h : Option F) → x ≡ or_next a y → y ≡ or_next b c → a ≡ f → b ≡ g → c ≡ h → x ≡ or_next f (or_next g h)
-three_runs x y a b c f g h p q i j k = rw (p, q, i, j, k)
+  pub run_passed : none ≡ a → x ≡ b → x ≡ or_next a b
+  run_passed d e = e ∙ ap (λ (o : Option F). or_next o b) d

@@ -1,5 +1,5 @@
 -- The steps and answers of this crate in the definitions' terms, and the runs of steps that the two approaches share. b is a bundle's list of records.
-use Rattle.std.specs.Prelude.{ℕ, List, [], ◌∷◌, ◌&&◌}
+use Rattle.std.specs.Prelude.{Result, Ok, Err, ℕ, List, [], ◌∷◌, ◌&&◌}
 use Rattle.std.proofs.Math.Option.{Option, none, some}
 use Rattle.rules.specs.Basics.{Bytes, implies, both_same, unless, first_fault}
 use Rattle.rules.specs.Bundle.{field, has_field, reported, good}
@@ -7,8 +7,6 @@ use Rattle.rules.specs.Desk as desk
 use Rattle.rules.specs.Desk.{km_vouched, km_fips_vouched, kre_vouched, is_listed, csr_linked}
 use Rattle.desk_steps.specs.declared.Step.{Step}
 use Rattle.desk_steps.specs.declared.Step.TheVariants.{WV1, MSCV1, MSCV2, MSCV3, MSCV4, MSCV5, WBCV1, WBCV2, WBCV3, KGCV1, KGCV2, ACLV3, WB1, WB2, WB3, WB6, RB1, RB2, RB3, KV3, CSRL1}
-use Rattle.desk_steps.specs.declared.Failure.{Failure}
-use Rattle.desk_steps.specs.declared.Failure.TheVariants.{Nothing, At}
 
 -- a step, by its name
 abbrev pub step_as : Step → desk.Step
@@ -59,9 +57,9 @@ step_number desk.KV3 = 20
 step_number desk.CSRL1 = 21
 
 -- the first failing step, if any fails
-abbrev pub failure_as : Failure → Option desk.Step
-failure_as Nothing = none
-failure_as (At s) = some (step_as s)
+abbrev pub failure_as : {A : Type 0} → Result A Step → Option desk.Step
+failure_as (Ok x) = none
+failure_as (Err s) = some (step_as s)
 
 -- "WV1 (signature 1 good, field 1 present); MSCV1 (2 good); MSCV2 (fields 2, 3 present)"
 unfoldable pub warrant_failure : List Bytes → Option desk.Step

@@ -1,7 +1,7 @@
 // A verdict of the desk as a line of text: `accept 1`, `accept 2 protection P recoverable yes` or `no`, `fail STEP`, `refuse N`.
 #![tactic(auto)]
 
-ghost use Rattle.std.specs.Prelude.{◌+◌, ◌≤◌, length};
+ghost use Rattle.std.specs.Prelude.{◌≡◌, ◌+◌, ◌≤◌, length};
 ghost use Rattle.refusals.specs.Refusals.{refusal_number};
 ghost use Rattle.desk_steps.specs.Steps.{step_as};
 ghost use Rattle.desk.specs.Replies.{acceptance_as, verdict_as};
@@ -17,14 +17,40 @@ use refusals::Refusal;
 pub const LINE: usize = 64;
 
 // The name of a step, with a space before it.
+fn step_name(s: Step) -> &'static [u8]
+    ensures { result.now ≡ spaced (step_text (step_as s)) }
+{
+    match s {
+        Step::WV1 => b" WV1",
+        Step::MSCV1 => b" MSCV1",
+        Step::MSCV2 => b" MSCV2",
+        Step::MSCV3 => b" MSCV3",
+        Step::MSCV4 => b" MSCV4",
+        Step::MSCV5 => b" MSCV5",
+        Step::WBCV1 => b" WBCV1",
+        Step::WBCV2 => b" WBCV2",
+        Step::WBCV3 => b" WBCV3",
+        Step::KGCV1 => b" KGCV1",
+        Step::KGCV2 => b" KGCV2",
+        Step::ACLV3 => b" ACLV3",
+        Step::WB1 => b" WB1",
+        Step::WB2 => b" WB2",
+        Step::WB3 => b" WB3",
+        Step::WB6 => b" WB6",
+        Step::RB1 => b" RB1",
+        Step::RB2 => b" RB2",
+        Step::RB3 => b" RB3",
+        Step::KV3 => b" KV3",
+        Step::CSRL1 => b" CSRL1",
+    }
+}
+
+// The name of a step into the buffer, with a space before it.
 pub fn append_step(s: Step, at: usize, buffer: &mut [u8]) -> usize
     requires { at + 6 ≤ length buffer.old }
     ensures { Held 6 (spaced (step_text (step_as s))) at buffer.old buffer.new result }
 {
-    let names =
-        b" WV1 MSCV1 MSCV2 MSCV3 MSCV4 MSCV5 WBCV1 WBCV2 WBCV3 KGCV1 KGCV2 ACLV3 WB1 WB2 WB3 WB6 RB1 RB2 RB3 KV3 CSRL1";
-    let place = (desk_steps::number(s) - 1) as usize;
-    text_bytes::append_name(names, place, at, buffer)
+    text_bytes::append(step_name(s), at, buffer)
 }
 
 // An acceptance.
@@ -35,9 +61,8 @@ fn acceptance_line(a: Acceptance, buffer: &mut [u8]) -> usize
     if a.approach != 2 {
         return text_bytes::append(b"accept 1\n", 0, buffer);
     }
-    let protection = a.protection;
-    let number = desk::protection_number(protection) as u32;
-    let graded = text_bytes::number_if(true, b"accept 2 protection ", number, 0, buffer);
+    let number = u8::from(a.protection) as u32;
+    let graded = text_bytes::word_and_number(b"accept 2 protection ", number, 0, buffer);
     if a.recoverable {
         return text_bytes::append(b" recoverable yes\n", graded, buffer);
     }
@@ -59,8 +84,8 @@ fn refusal_line(r: Refusal, buffer: &mut [u8]) -> usize
     requires { line_bytes ≤ length buffer.old }
     ensures { Put (refusal_line (refusal_number r)) 0 buffer.old buffer.new result }
 {
-    let number = refusals::number(r) as u32;
-    let named = text_bytes::number_if(true, b"refuse ", number, 0, buffer);
+    let number = u8::from(r) as u32;
+    let named = text_bytes::word_and_number(b"refuse ", number, 0, buffer);
     text_bytes::append(b"\n", named, buffer)
 }
 

@@ -2,10 +2,10 @@
 use Rattle.std.specs.Prelude.{ℕ}
 use Rattle.std.proofs.Math.Option.{Option, none, some}
 use Rattle.refusals.specs.Refusals.{refusal_number}
-use Rattle.files.specs.declared.Checked.{Checked}
-use Rattle.files.specs.declared.Checked.TheVariants.{Sound, Refused}
+use Rattle.refusals.specs.declared.Refusal.{Refusal}
+use Rattle.std.specs.Prelude.{Result, Ok, Err}
 
 -- the first fault that a reader found, if any, by its number
-abbrev pub fault_as : Checked → Option ℕ
-fault_as Sound = none
-fault_as (Refused r) = some (refusal_number r)
+abbrev pub fault_as : {A : Type 0} → Result A Refusal → Option ℕ
+fault_as (Ok x) = none
+fault_as (Err r) = some (refusal_number r)

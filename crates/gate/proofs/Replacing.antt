@@ -7,7 +7,7 @@ use mathlib.Core.Bool.{Bool, true, false}
 use lib.ListN.{length}
 use Rattle.rules.specs.Sizes.{groups_max}
 use Rattle.rules.specs.Numbers.{not_narrower}
-use Rattle.std.specs.Prelude.{if◌then◌else◌}
+use Rattle.std.specs.Prelude.{Result, Ok, Err, if◌then◌else◌}
 use Rattle.rules.specs.Basics.{Bytes}
 use Rattle.rules.specs.Acl.{Group, acl_of}
 use Rattle.rules.specs.Request.{Request, request_of, Hint, hints_of}
@@ -15,12 +15,10 @@ use Rattle.rules.specs.Ledger.{Ledger, charge, recounted, carried}
 use Rattle.rules.specs.Narrow.{narrows}
 use Rattle.rules.specs.Gate.{Answer, done, permit, refuse, Outcome, Judgement, granted, denied, judge, settle, refused, permitted, narrowed, expanded, narrow_files, narrow, expand_files, expand}
 use Rattle.request_reader.specs.Parts.{Sound}
+use Rattle.refusals.specs.declared.Denial as code
 use Rattle.refusals.specs.declared.Refusal.{Refusal}
 use Rattle.refusals.specs.Refusals.{refusal_number}
-use Rattle.files.specs.declared.Checked.{Checked}
-use Rattle.files.specs.declared.Checked.TheVariants as checked
 use Rattle.files.specs.Faults.{fault_as}
-use Rattle.gate_decision.specs.declared.Judged.{Judged}
 use Rattle.gate_decision.specs.Standings.{judged_for}
 use Rattle.gate_charge.specs.Charges.{decided, counters_charged, counts_charged, last_after}
 use Rattle.gate_counts.specs.Carried.{carried_of, no_counts, counts_after}
@@ -77,23 +75,23 @@ module _ (l : Ledger) (km0 : Bytes) (gs : List Group) (q : Request) (a : Answer)
   expand_settled p d = replaced_is no_counts d ∙ ap (replaced no_counts) p ∙ settled_expanded l q.time (judge l km0 gs q)
 
 -- A narrowing: its files have a fault, or it is judged.
-module _ (km0 acl req new hints : Bytes) (x : Checked) (e : fault_as x ≡ narrow_files km0 acl req new hints) where
-  pub narrow_begun : x ≡ checked.Sound → Sound req
-  narrow_begun p = (narrow_sound km0 acl req new hints (no_fault _ x e p)).0
+module _ (km0 acl req new hints : Bytes) (x : Result (Unit {0}) Refusal) (e : fault_as x ≡ narrow_files km0 acl req new hints) where
+  pub narrow_begun : x ≡ Ok tt → Sound req
+  narrow_begun p = (narrow_sound km0 acl req new hints (no_fault _ x e tt p)).0
 
-  pub narrow_refused : (l : Ledger) (why : Refusal) → x ≡ checked.Refused why
+  pub narrow_refused : (l : Ledger) (why : Refusal) → x ≡ Err why
       → Settles l (acl_of acl) (request_of req).time (narrowed_counts (hints_of hints)) (refuse (refusal_number why) none) (narrow l km0 acl req new hints)
   unfolding narrow counts_after
   narrow_refused l why p =
       settles_refused l (acl_of acl) (request_of req).time (narrowed_counts (hints_of hints)) (narrow l km0 acl req new hints) (refusal_number why) refl
       (refused_by l (narrow_files km0 acl req new hints) _ _ (refusal_number why) (a_fault _ x e why p) refl)
 
-  pub narrow_judged : (l : Ledger) (shown : Bool) (j : Judged) (a : Answer) → x ≡ checked.Sound → j ≡ judged_for (judge l km0 (acl_of acl) (request_of req)) → shown ≡ narrows (acl_of acl) (acl_of new) (hints_of hints) → a ≡ decided shown j
+  pub narrow_judged : (l : Ledger) (shown : Bool) (j : Result ℕ code.Denial) (a : Answer) → x ≡ Ok tt → j ≡ judged_for (judge l km0 (acl_of acl) (request_of req)) → shown ≡ narrows (acl_of acl) (acl_of new) (hints_of hints) → a ≡ decided shown j
       → Settles l (acl_of acl) (request_of req).time (narrowed_counts (hints_of hints)) a (narrow l km0 acl req new hints)
   unfolding narrow
   narrow_judged l shown j a p f s d =
       let q = request_of req in
-      let n = no_fault _ x e p in
+      let n = no_fault _ x e tt p in
       let t = narrow_sound km0 acl req new hints n in
       settles_judged l km0 acl q shown j a (narrowed_counts (hints_of hints)) (narrow l km0 acl req new hints) t.1 f d
       (not_refused l (narrow_files km0 acl req new hints) _ _ n
@@ -115,23 +113,23 @@ zeroed (permit place) counts = refl
 zeroed (refuse n near) counts = refl
 
 -- An expansion: its files have a fault, or it is judged.
-module _ (km0 acl req new : Bytes) (x : Checked) (e : fault_as x ≡ expand_files km0 acl req new) where
-  pub expand_begun : x ≡ checked.Sound → Sound req
-  expand_begun p = (expand_sound km0 acl req new (no_fault _ x e p)).0
+module _ (km0 acl req new : Bytes) (x : Result (Unit {0}) Refusal) (e : fault_as x ≡ expand_files km0 acl req new) where
+  pub expand_begun : x ≡ Ok tt → Sound req
+  expand_begun p = (expand_sound km0 acl req new (no_fault _ x e tt p)).0
 
-  pub expand_refused : (l : Ledger) (why : Refusal) → x ≡ checked.Refused why
+  pub expand_refused : (l : Ledger) (why : Refusal) → x ≡ Err why
       → Settles l (acl_of acl) (request_of req).time (counts_after no_counts) (refuse (refusal_number why) none) (expand l km0 acl req new)
   unfolding expand counts_after
   expand_refused l why p =
       settles_refused l (acl_of acl) (request_of req).time (counts_after no_counts) (expand l km0 acl req new) (refusal_number why) refl
       (refused_by l (expand_files km0 acl req new) _ _ (refusal_number why) (a_fault _ x e why p) refl)
 
-  pub expand_judged : (l : Ledger) (j : Judged) (a : Answer) → x ≡ checked.Sound → j ≡ judged_for (judge l km0 (acl_of acl) (request_of req)) → a ≡ decided true j
+  pub expand_judged : (l : Ledger) (j : Result ℕ code.Denial) (a : Answer) → x ≡ Ok tt → j ≡ judged_for (judge l km0 (acl_of acl) (request_of req)) → a ≡ decided true j
       → Settles l (acl_of acl) (request_of req).time (counts_after no_counts) a (expand l km0 acl req new)
   unfolding expand
   expand_judged l j a p f d =
       let q = request_of req in
-      let n = no_fault _ x e p in
+      let n = no_fault _ x e tt p in
       settles_judged l km0 acl q true j a (counts_after no_counts) (expand l km0 acl req new) (expand_sound km0 acl req new n).1 f d
       (not_refused l (expand_files km0 acl req new) _ _ n
       (expand_settled l km0 (acl_of acl) q a (counts_charged a l.counts) (counters_charged (acl_of acl) a l.counters) l.loaded l.last q.time _ _ refl refl

@@ -5,6 +5,7 @@ use mathlib.Core.List.{List}
 use mathlib.Core.Option.{Option, none, some}
 use mathlib.Core.Bool.{Bool, true, false}
 use lib.ListN.{drop}
+use Rattle.std.specs.Prelude.{Result, Ok, Err}
 use Rattle.rules.specs.Basics.{Bytes, records}
 use Rattle.rules.specs.Acl.{Limit, Group, acl_of, acl_fault}
 use Rattle.rules.specs.Request.{Request, request_of}
@@ -15,12 +16,8 @@ use Rattle.acl_groups.specs.Parts.{first_limits}
 use Rattle.refusals.specs.declared.Denial as code
 use Rattle.refusals.specs.declared.Refusal.{Refusal}
 use Rattle.refusals.specs.Refusals.{refusal_number, denial_number, denial_group}
-use Rattle.files.specs.declared.Checked.{Checked}
-use Rattle.files.specs.declared.Checked.TheVariants as checked
 use Rattle.files.specs.Faults.{fault_as}
 use Rattle.request_reader.specs.Parts.{Sound}
-use Rattle.gate_decision.specs.declared.Judged.{Judged}
-use Rattle.gate_decision.specs.declared.Judged.TheVariants.{Granted, Denied}
 use Rattle.gate_decision.specs.Standings.{denial_for, judged_for}
 use Rattle.gate_charge.specs.Charges.{permit_if, decided, counters_charged, counts_charged, last_after}
 use Rattle.gate_charge.proofs.Granting.{granted_limits, counters_room, count_room_for}
@@ -29,7 +26,7 @@ use Rattle.gate.specs.Outcomes.{charged_with, charged_by, permitted_if, outcome_
 
 -- The group that grants is charged by the limits at its index.
 module _ (l : Ledger) (km0 : Bytes) (gs : List Group) (q : Request) where
-  pub settle_granted : (on_permit : ℕ → Ledger → Outcome) (k time : ℕ) (o : Outcome) (ms : List Limit) → Granted k ≡ judged_for (judge l km0 gs q) → ms ≡ first_limits (drop k gs) → time ≡ q.time
+  pub settle_granted : (on_permit : ℕ → Ledger → Outcome) (k time : ℕ) (o : Outcome) (ms : List Limit) → Ok k ≡ judged_for (judge l km0 gs q) → ms ≡ first_limits (drop k gs) → time ≡ q.time
       → o ≡ on_permit k (charged_with l k ms time) → o ≡ settle l q.time on_permit (judge l km0 gs q)
   unfolding charge
   settle_granted on_permit k time o ms e m t p =
@@ -51,29 +48,29 @@ module _ (l : Ledger) (time : ℕ) (on_permit : ℕ → Ledger → Outcome) wher
   denial_kept (uncertified k g) d e = rw e
   denial_kept (exhausted k g) d e = rw e
 
-  denied_kept : (j : Judgement) (d : code.Denial) → Denied d ≡ judged_for j → refused_near l (denial_number d) (denial_group d) ≡ settle l time on_permit j
+  denied_kept : (j : Judgement) (d : code.Denial) → Err d ≡ judged_for j → refused_near l (denial_number d) (denial_group d) ≡ settle l time on_permit j
   denied_kept (granted k g) d e = absurd (never (cc))
   denied_kept (denied x) d e = let q : d ≡ denial_for x = cc in denial_kept x d q
 
 pub settle_denied : (l : Ledger) (km0 : Bytes) (gs : List Group) (q : Request) (on_permit : ℕ → Ledger → Outcome) (d : code.Denial) (o : Outcome)
-    → Denied d ≡ judged_for (judge l km0 gs q) → o ≡ refused_near l (denial_number d) (denial_group d) → o ≡ settle l q.time on_permit (judge l km0 gs q)
+    → Err d ≡ judged_for (judge l km0 gs q) → o ≡ refused_near l (denial_number d) (denial_group d) → o ≡ settle l q.time on_permit (judge l km0 gs q)
 settle_denied l km0 gs q on_permit d o e p = p ∙ denied_kept l q.time on_permit (judge l km0 gs q) d e
 
 -- The tables charged by the answer are those of the outcome.
 module _ (l : Ledger) (km0 : Bytes) (gs : List Group) (q : Request) (shown : Bool) where
-  charged_is : (j : Judged) → j ≡ judged_for (judge l km0 gs q)
+  charged_is : (j : Result ℕ code.Denial) → j ≡ judged_for (judge l km0 gs q)
       → outcome_with (decided shown j) (counts_charged (decided shown j) l.counts) (counters_charged gs (decided shown j) l.counters) l.loaded l.last q.time
       ≡ settle l q.time (permitted_if l shown) (judge l km0 gs q)
   unfolding permit_if permitted_if
-  charged_is (Granted k) e = settle_granted l km0 gs q (permitted_if l shown) k q.time _ (first_limits (drop k gs)) e refl refl (pick shown)
+  charged_is (Ok k) e = settle_granted l km0 gs q (permitted_if l shown) k q.time _ (first_limits (drop k gs)) e refl refl (pick shown)
     where
       pick : (b : Bool) → outcome_with (permit_if b k) (counts_charged (permit_if b k) l.counts) (counters_charged gs (permit_if b k) l.counters) l.loaded l.last q.time
           ≡ permitted_if l b k (charged_with l k (first_limits (drop k gs)) q.time)
       pick true = refl
       pick false = refl
-  charged_is (Denied d) e = settle_denied l km0 gs q (permitted_if l shown) d _ e refl
+  charged_is (Err d) e = settle_denied l km0 gs q (permitted_if l shown) d _ e refl
 
-  pub settled_by : (j : Judged) (a : Answer) (counts counters : List ℕ) → j ≡ judged_for (judge l km0 gs q) → a ≡ decided shown j
+  pub settled_by : (j : Result ℕ code.Denial) (a : Answer) (counts counters : List ℕ) → j ≡ judged_for (judge l km0 gs q) → a ≡ decided shown j
       → counters ≡ counters_charged gs a l.counters → counts ≡ counts_charged a l.counts
       → outcome_with a counts counters l.loaded l.last q.time ≡ settle l q.time (permitted_if l shown) (judge l km0 gs q)
   settled_by j a counts counters e d f g = rw (f, g, d) (charged_is j e)
@@ -97,7 +94,7 @@ settles_refused l gs time after o n k e =
     }
 
 -- The outcome of a judgement settles a call on an ACL without fault, where the tables charged by it are the outcome's.
-pub settles_judged : (l : Ledger) (km0 acl : Bytes) (q : Request) (shown : Bool) (j : Judged) (a : Answer) (after : Answer → List ℕ → List ℕ) (o : Outcome) → acl_fault (records acl) ≡ none
+pub settles_judged : (l : Ledger) (km0 acl : Bytes) (q : Request) (shown : Bool) (j : Result ℕ code.Denial) (a : Answer) (after : Answer → List ℕ → List ℕ) (o : Outcome) → acl_fault (records acl) ≡ none
     → j ≡ judged_for (judge l km0 (acl_of acl) q) → a ≡ decided shown j → outcome_with a (after a l.counts) (counters_charged (acl_of acl) a l.counters) l.loaded l.last q.time ≡ o
     → Settles l (acl_of acl) q.time after a o
 settles_judged l km0 acl q shown j a after o sound e d p =
@@ -108,22 +105,22 @@ settles_judged l km0 acl q shown j a after o sound e d p =
     }
 
 -- A request: its files have a fault, or it is judged.
-module _ (km0 acl req : Bytes) (x : Checked) (e : fault_as x ≡ request_files km0 acl req) where
-  pub request_sound : x ≡ checked.Sound → Sound req
-  request_sound p = (files_sound km0 acl req (no_fault _ x e p)).0
+module _ (km0 acl req : Bytes) (x : Result (Unit {0}) Refusal) (e : fault_as x ≡ request_files km0 acl req) where
+  pub request_sound : x ≡ Ok tt → Sound req
+  request_sound p = (files_sound km0 acl req (no_fault _ x e tt p)).0
 
-  pub request_refused : (l : Ledger) (why : Refusal) → x ≡ checked.Refused why
+  pub request_refused : (l : Ledger) (why : Refusal) → x ≡ Err why
       → Settles l (acl_of acl) (request_of req).time counts_charged (refuse (refusal_number why) none) (request l km0 acl req)
   unfolding request
   request_refused l why p =
       settles_refused l (acl_of acl) (request_of req).time counts_charged (request l km0 acl req) (refusal_number why) refl
       (refused_by l (request_files km0 acl req) _ _ (refusal_number why) (a_fault _ x e why p) refl)
 
-  pub request_judged : (l : Ledger) (j : Judged) (a : Answer) → x ≡ checked.Sound → j ≡ judged_for (judge l km0 (acl_of acl) (request_of req)) → a ≡ decided true j
+  pub request_judged : (l : Ledger) (j : Result ℕ code.Denial) (a : Answer) → x ≡ Ok tt → j ≡ judged_for (judge l km0 (acl_of acl) (request_of req)) → a ≡ decided true j
       → Settles l (acl_of acl) (request_of req).time counts_charged a (request l km0 acl req)
   unfolding request permitted_if
   request_judged l j a p f d =
-      let n = no_fault _ x e p in
+      let n = no_fault _ x e tt p in
       settles_judged l km0 acl (request_of req) true j a counts_charged (request l km0 acl req) (files_sound km0 acl req n).1 f d
       (not_refused l (request_files km0 acl req) _ _ n (settled_by l km0 (acl_of acl) (request_of req) true j a _ _ f d refl refl))
 

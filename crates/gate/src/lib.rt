@@ -12,7 +12,6 @@ ghost use Rattle.gate_charge.specs.Charges.{answer_as, CountersRoom, CountRoom, 
 ghost use Rattle.gate_counts.specs.Carried.{no_counts, counts_after};
 ghost use Rattle.gate.specs.Outcomes.{ledger_as, outcome_as, charged_by, narrowed_counts, Settles};
 
-use files::Checked;
 use gate_charge::Reply;
 use refusals::Refusal;
 
@@ -94,6 +93,7 @@ impl Ledger {
 
 // The reply to a request for a use or a blob, from tables lent for reading. It charges nothing: a permit still has to be charged by the caller, who has the
 // tables and the last time. It is public only because `cabinet` and `gate_in_place` charge tables of their own; a host calls an entry point, which does both.
+// stays: the three replies differ in their files and in the definition that they settle, and one function that takes these as closures would be no shorter.
 pub fn request_reply<'a>(
     counts: &'a [u32; Ledger::GROUPS],
     counters: &'a [u32; Ledger::COUNTERS],
@@ -108,10 +108,9 @@ pub fn request_reply<'a>(
         (request (ledger_of_tables counts.now counters.now loaded last) km0.now acl.now
         req.now) }
 {
-    let fault = gate_files::request_files(km0, acl, req);
-    match fault {
-        Checked::Refused(r) => Reply::Refuse(r),
-        Checked::Sound => gate_charge::decide(
+    match gate_files::request_files(km0, acl, req) {
+        Err(why) => Reply::Refuse(why),
+        Ok(()) => gate_charge::decide(
             gate_decision::judge_request(counts, counters, loaded, last, km0, acl, req),
             true,
         ),
@@ -165,10 +164,9 @@ pub fn narrow_reply<'a>(
         (narrow (ledger_of_tables counts.now counters.now loaded last) km0.now acl.now req.now
         new.now hints.now) }
 {
-    let fault = gate_files::narrow_files(km0, acl, req, new, hints);
-    match fault {
-        Checked::Refused(r) => Reply::Refuse(r),
-        Checked::Sound => gate_charge::decide(
+    match gate_files::narrow_files(km0, acl, req, new, hints) {
+        Err(why) => Reply::Refuse(why),
+        Ok(()) => gate_charge::decide(
             gate_decision::judge_request(counts, counters, loaded, last, km0, acl, req),
             gate_narrowing::shows_narrowing(acl, new, hints),
         ),
@@ -192,10 +190,9 @@ pub fn expand_reply<'a>(
         (expand (ledger_of_tables counts.now counters.now loaded last) km0.now acl.now req.now
         new.now) }
 {
-    let fault = gate_files::expand_files(km0, acl, req, new);
-    match fault {
-        Checked::Refused(r) => Reply::Refuse(r),
-        Checked::Sound => gate_charge::decide(
+    match gate_files::expand_files(km0, acl, req, new) {
+        Err(why) => Reply::Refuse(why),
+        Ok(()) => gate_charge::decide(
             gate_decision::judge_request(counts, counters, loaded, last, km0, acl, req),
             true,
         ),

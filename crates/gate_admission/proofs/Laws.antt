@@ -1,5 +1,5 @@
 -- The tests of this crate in the definitions' terms.
-use Prim.Native.Nat.{ℕ, ◌+◌, ◌-◌, ◌/◌, ◌^◌, ◌≤◌, ◌<◌}
+use Prim.Native.Nat.{ℕ, ◌+◌, ◌/◌, ◌^◌, ◌≤◌, ◌<◌}
 use native.Mathlib.Omega.{arith}
 use native.Mathlib.Nat.{div-eq_of_lt}
 use mathlib.Core.Path.{◌≡◌, refl, sym, ◌∙◌, ap}
@@ -8,55 +8,15 @@ use mathlib.Core.Option.{Option, none}
 use mathlib.Core.Bool.{Bool, true, false, not, ◌&&◌, ◌||◌, false≢true}
 use borrow.Author.Tests.{eq-eqb, ne_eqb, eqb-true, eqb-false, not-true, not-false}
 use lib.ListN.{length, drop, get_or}
+use Rattle.std.specs.Prelude.{if◌then◌else◌}
 use lib.Dec.{eqb}
 use lib.Pow.{pow_mono}
-use Rattle.rules.specs.Basics.{Bytes, any, same, bit, part, number, byte, kind, flag, optional, present, matches, records, records_from}
-use Rattle.rules.specs.Acl.{Parameters, parameters_of, blob_rule_of, archive_rule_of, BlobfileRule, blobfile_rule_next, action_of, Action, actions_of}
-use Rattle.rules.specs.Request.{token_of, working_blob_of, recovery_blob_of, Blobfile, wanted_of}
-use Rattle.rules.specs.Grant.{tighter, meets, null_key, admits_direct, admits_token, admits_key, admits_blob, admits_archive, admits_blobfile, admits_use, admits_working, admits_recovery, admits}
-use Rattle.rules.proofs.Rows.{lent_record, lent_rest, lent_record_lem, kind_at}
-use Rattle.acl_groups.specs.Parts.{passed_over, action_from, actions_from, NextAction}
-use Rattle.acl_groups.proofs.Laws.{acts_group, acts_here, acts_over, acts_end, lent_action}
-
--- a field that a flag announces: absent, or to be compared
-module _ (u : Bool) (h k : Bytes) where
-  pub matches_absent : not u ≡ true → true ≡ matches (optional u h) k
-  matches_absent e = sym (rw (not-true u e))
-
-  pub matches_present : (r : Bool) → not u ≡ false → r ≡ same h k → r ≡ matches (optional u h) k
-  matches_present r e p = p ∙ sym (rw (not-false u e))
-
-module _ (u : Bool) (o p : Parameters) where
-  pub meets_absent : not u ≡ true → true ≡ meets (optional u o) p
-  meets_absent e = sym (rw (not-true u e))
-
-  pub meets_present : (r : Bool) → not u ≡ false → r ≡ tighter p o → r ≡ meets (optional u o) p
-  meets_present r e q = q ∙ sym (rw (not-false u e))
-
-present_optional : {A : Type 0} (t : Bool) (a : A) → present (optional t a) ≡ t
-present_optional true a = refl
-present_optional false a = refl
-
-pub direct_is : (act key : Bytes) (a b c d : Bool) → a ≡ flag 0 act → b ≡ flag 3 act → c ≡ flag 4 act → d ≡ same key null_key
-    → (a && not b && not c && not d) ≡ admits_direct (blob_rule_of act) key
-direct_is act key a b c d p q r s =
-    let e = present_optional (flag 3 act) (part 24 20 act) in
-    let f = present_optional (flag 4 act) (parameters_of (part 44 8 act)) in
-    rw (p, q, r, s) (sym (rw (e, f)))
-
--- a working blob, with its token or direct
-module _ (km0 act rec : Bytes) (f a : Bool) (e : f ≡ flag 0 rec) (p : a ≡ admits_key km0 (blob_rule_of act) (part 4 20 rec)) where
-  pub blob_token : (b : Bool) → f ≡ true → b ≡ admits_token (blob_rule_of act) (part 4 20 rec) (token_of rec) → (a && b) ≡ admits_blob km0 (blob_rule_of act) (working_blob_of rec)
-  blob_token b h q = rw (p, q) (sym (rw (sym e ∙ h)))
-
-  pub blob_direct : (b : Bool) → f ≡ false → b ≡ admits_direct (blob_rule_of act) (part 4 20 rec) → (a && b) ≡ admits_blob km0 (blob_rule_of act) (working_blob_of rec)
-  blob_direct b h q = rw (p, q) (sym (rw (sym e ∙ h)))
-
--- a token's blob
-pub token_is : (act key rec : Bytes) (f g m n z w : Bool) → f ≡ flag 3 act → m ≡ matches (optional f (part 24 20 act)) (part 24 20 rec) → g ≡ flag 4 act
-    → n ≡ meets (optional g (parameters_of (part 44 8 act))) (parameters_of (part 44 8 rec)) → z ≡ same key null_key → w ≡ flag 5 act
-    → (m && n && (not z || w)) ≡ admits_token (blob_rule_of act) key (token_of rec)
-token_is act key rec f g m n z w a b c d e h = rw (b, a, d, c, e, h)
+use Rattle.rules.specs.Basics.{Bytes, any, bit, number, byte, kind}
+use Rattle.rules.specs.Acl.{blob_rule_of, archive_rule_of, BlobfileRule, blobfile_rule_next, action_of, Action, actions_of}
+use Rattle.rules.specs.Request.{working_blob_of, recovery_blob_of, Blobfile, wanted_of}
+use Rattle.rules.specs.Grant.{admits_blob, admits_archive, admits_blobfile, admits_use, admits_working, admits_recovery, admits}
+use Rattle.record_fields.proofs.Walks.{left_at, left_none}
+use Rattle.acl_groups.specs.Parts.{passed_over}
 
 and_false : (a : Bool) → (a && false) ≡ false
 and_false true = refl
@@ -113,13 +73,20 @@ module _ (km0 rec : Bytes) (stored : Option Blobfile) (act : Bytes) (file : Opti
         q ∙ sym (rw (ne_eqb (kind act) 3 (λ x. omega arith), eq-eqb (kind act) 4 e, f) (and_true (admits_blob km0 (blob_rule_of act) (working_blob_of rec))))
 
 module _ (rec : Bytes) (stored : Option Blobfile) (act : Bytes) (file : Option BlobfileRule) where
-  pub recovery_use : kind act ≡ 3 → false ≡ admits_recovery (recovery_blob_of rec) stored (action_of act file)
+  recovery_use : kind act ≡ 3 → false ≡ admits_recovery (recovery_blob_of rec) stored (action_of act file)
   unfolding admits_recovery action_of
   recovery_use e = sym (rw (eq-eqb (kind act) 3 e))
 
-  pub recovery_blob_lem : kind act ≡ 4 → false ≡ admits_recovery (recovery_blob_of rec) stored (action_of act file)
+  recovery_blob_lem : kind act ≡ 4 → false ≡ admits_recovery (recovery_blob_of rec) stored (action_of act file)
   unfolding admits_recovery action_of
   recovery_blob_lem e = sym (rw (ne_eqb (kind act) 3 (λ x. omega arith), eq-eqb (kind act) 4 e))
+
+  pub recovery_low : 3 ≤ kind act → kind act < 5 → false ≡ admits_recovery (recovery_blob_of rec) stored (action_of act file)
+  recovery_low h l = pick (eqb (kind act) 3) refl
+    where
+      pick : (b : Bool) → eqb (kind act) 3 ≡ b → false ≡ admits_recovery (recovery_blob_of rec) stored (action_of act file)
+      pick true e = recovery_use (eqb-true (kind act) 3 e)
+      pick false e = let n = eqb-false (kind act) 3 e in recovery_blob_lem (omega arith)
 
   pub recovery_is : (r t : Bool) → (kind act ≡ 3 → ⊥) → (kind act ≡ 4 → ⊥) → r ≡ admits_archive (archive_rule_of act) (recovery_blob_of rec) → t ≡ admits_blobfile file stored
       → (r && t) ≡ admits_recovery (recovery_blob_of rec) stored (action_of act file)
@@ -146,60 +113,64 @@ module _ (km0 rec : Bytes) (stored : Option Blobfile) where
   unfolding admits wanted_of
   asks_recovery act file r n m q = q ∙ sym (rw (ne_eqb (kind rec) 6 n, ne_eqb (kind rec) 7 m))
 
--- A loop over a group's actions.
-module _ (p : Action → Bool) (s : Bytes) (at : ℕ) (x : Bool) (inv : any p (actions_of (records_from s at)) ≡ x) where
-  module _ (t : Bool) (step : actions_of (records (drop at s)) ≡ actions_from s at) (e : t ≡ p (action_from s at)) where
-    one_found : t ≡ true → true ≡ x
-    unfolding any records_from
-    one_found y = sym (ap (any p) step ∙ rw (sym e ∙ y)) ∙ inv
-
-    one_more : t ≡ false → any p (actions_of (records_from s (at + 64))) ≡ x
-    unfolding any records_from
-    one_more y = sym (ap (any p) step ∙ rw (sym e ∙ y)) ∙ inv
-
-  module _ (t : Bool) (h : 64 ≤ length s - at) (step : 64 ≤ length s - at → actions_of (records (drop at s)) ≡ actions_from s at)
-      (e : t ≡ p (action_of (lent_record s at) (blobfile_rule_next (records (lent_rest s (at + 64)))))) where
+-- A loop over a group's actions, by those that are left, of which a is the next.
+module _ (p : Action → Bool) (x : Bool) (left : List Action) (inv : any p left ≡ x) where
+  module _ (a : Action) (bs : List Action) (step : left ≡ a ∷ bs) (t : Bool) (e : t ≡ p a) where
     pub acts_found : t ≡ true → true ≡ x
-    acts_found y = one_found t (step h) (e ∙ ap p (lent_action s at)) y
+    unfolding any
+    acts_found y = sym (ap (any p) step ∙ rw (sym e ∙ y)) ∙ inv
 
-    pub acts_next : t ≡ false → (r : ℕ) → NextAction s (at + 64) r → any p (actions_of (records_from s r)) ≡ x
-    unfolding records_from
-    acts_next y r n = ap (any p) n.same ∙ one_more t (step h) (e ∙ ap p (lent_action s at)) y
+    pub acts_next : t ≡ false → any p bs ≡ x
+    unfolding any
+    acts_next y = sym (ap (any p) step ∙ rw (sym e ∙ y)) ∙ inv
 
-  pub acts_none : length s - at < 64 → false ≡ x
+  pub acts_none : left ≡ [] → false ≡ x
   unfolding any
-  acts_none h = sym (ap (any p) (acts_end s at h)) ∙ inv
+  acts_none e = sym (ap (any p) e) ∙ inv
 
-  pub acts_stop : 64 ≤ length s - at → get_or s at 0 ≡ 1 → false ≡ x
-  unfolding any
-  acts_stop h e = sym (ap (any p) (acts_group s at h e)) ∙ inv
+-- The loop for a use, over every record: one that is no action admits none, and neither does an action of another kind.
+module _ (p : ℕ) (xs : List Bytes) (i : ℕ) (x : Bool) (inv : any (admits_use p) (actions_of (drop i xs)) ≡ x) where
+  pub uses_none : length xs ≤ i → false ≡ x
+  unfolding actions_of
+  uses_none h = acts_none (admits_use p) x (actions_of (drop i xs)) inv (ap actions_of (left_none xs i h))
 
-pub acts_first : (p : Action → Bool) (s : Bytes) (at : ℕ) → NextAction s 0 at → any p (actions_of (records_from s at)) ≡ any p (actions_of (records s))
-unfolding records_from
-acts_first p s at e = ap (any p) e.same
+  module _ (h : i < length xs) where
+    pub uses_stop : kind (get_or xs i []) ≡ 1 → false ≡ x
+    unfolding actions_of
+    uses_stop e = acts_none (admits_use p) x (actions_of (drop i xs)) inv (ap actions_of (left_at xs i h) ∙ rw (eq-eqb (kind (get_or xs i [])) 1 e))
 
--- The loop for a use: a record that is no action admits none, and neither does an action of another kind.
-module _ (p : ℕ) (s : Bytes) (at : ℕ) (x : Bool) (inv : any (admits_use p) (actions_of (records_from s at)) ≡ x) (t : Bool) (h : 64 ≤ length s - at) (n : get_or s at 0 ≡ 1 → ⊥)
-    (e : (file : Option BlobfileRule) → t ≡ admits_use p (action_of (lent_record s at) file)) where
-  kind_is : kind (lent_record s at) ≡ get_or s at 0
-  kind_is = ap (λ (r : Bytes). get_or r 0 0) (lent_record_lem s at) ∙ kind_at s at
+    module _ (t : Bool) (n : kind (get_or xs i []) ≡ 1 → ⊥) (e : (file : Option BlobfileRule) → t ≡ admits_use p (action_of (get_or xs i []) file)) where
+      over : passed_over (kind (get_or xs i [])) ≡ true → actions_of (drop i xs) ≡ actions_of (drop (i + 1) xs)
+      unfolding actions_of
+      over d = ap actions_of (left_at xs i h) ∙ rw (ne_eqb (kind (get_or xs i [])) 1 n) (skipped (eqb (kind (get_or xs i [])) 2) (eqb (kind (get_or xs i [])) 15) _ _ d)
+        where
+          skipped : {A : Type 0} (a b : Bool) (y z : A) → (a || b) ≡ true → (if a then y else if b then y else z) ≡ y
+          skipped true b y z e = refl
+          skipped false true y z e = refl
+          skipped false false y z e = absurd (false≢true e)
 
-  other_none : (get_or s at 0 ≡ 3 → ⊥) → t ≡ false
-  other_none m = e none ∙ sym (use_other p (lent_record s at) none (λ k. m (sym kind_is ∙ k)))
+      here : passed_over (kind (get_or xs i [])) ≡ false → actions_of (drop i xs) ≡ action_of (get_or xs i []) (blobfile_rule_next (drop (i + 1) xs)) ∷ actions_of (drop (i + 1) xs)
+      unfolding actions_of
+      here d = ap actions_of (left_at xs i h) ∙ rw (ne_eqb (kind (get_or xs i [])) 1 n) (taken (eqb (kind (get_or xs i [])) 2) (eqb (kind (get_or xs i [])) 15) _ _ d)
+        where
+          taken : {A : Type 0} (a b : Bool) (y z : A) → (a || b) ≡ false → (if a then y else if b then y else z) ≡ z
+          taken true b y z e = absurd (false≢true (sym e))
+          taken false true y z e = absurd (false≢true (sym e))
+          taken false false y z e = refl
 
-  here : t ≡ admits_use p (action_from s at)
-  here = let f = blobfile_rule_next (records (drop (at + 64) s)) in e f ∙ ap (λ (r : Bytes). admits_use p (action_of r f)) (lent_record_lem s at)
+      other_none : (kind (get_or xs i []) ≡ 3 → ⊥) → t ≡ false
+      other_none m = e none ∙ sym (use_other p (get_or xs i []) none m)
 
-  pub uses_found : t ≡ true → true ≡ x
-  uses_found y = pick (eqb (get_or s at 0) 3) refl
-    where
-      pick : (b : Bool) → eqb (get_or s at 0) 3 ≡ b → true ≡ x
-      pick true d = one_found (admits_use p) s at x inv t (acts_here s at h n (ap passed_over (eqb-true (get_or s at 0) 3 d))) here y
-      pick false d = absurd (false≢true (sym (other_none (eqb-false (get_or s at 0) 3 d)) ∙ y))
+      pub uses_found : t ≡ true → true ≡ x
+      uses_found y = pick (eqb (kind (get_or xs i [])) 3) refl
+        where
+          pick : (b : Bool) → eqb (kind (get_or xs i [])) 3 ≡ b → true ≡ x
+          pick true d = acts_found (admits_use p) x _ inv _ _ (here (ap passed_over (eqb-true (kind (get_or xs i [])) 3 d))) t (e (blobfile_rule_next (drop (i + 1) xs))) y
+          pick false d = absurd (false≢true (sym (other_none (eqb-false (kind (get_or xs i [])) 3 d)) ∙ y))
 
-  pub uses_next : t ≡ false → any (admits_use p) (actions_of (records_from s (at + 64))) ≡ x
-  uses_next y = pick (passed_over (get_or s at 0)) refl
-    where
-      pick : (b : Bool) → passed_over (get_or s at 0) ≡ b → any (admits_use p) (actions_of (records_from s (at + 64))) ≡ x
-      pick true d = sym (ap (any (admits_use p)) (acts_over s at h d)) ∙ inv
-      pick false d = one_more (admits_use p) s at x inv t (acts_here s at h n d) here y
+      pub uses_next : t ≡ false → any (admits_use p) (actions_of (drop (i + 1) xs)) ≡ x
+      uses_next y = pick (passed_over (kind (get_or xs i []))) refl
+        where
+          pick : (b : Bool) → passed_over (kind (get_or xs i [])) ≡ b → any (admits_use p) (actions_of (drop (i + 1) xs)) ≡ x
+          pick true d = sym (ap (any (admits_use p)) (over d)) ∙ inv
+          pick false d = acts_next (admits_use p) x _ inv _ _ (here d) t (e (blobfile_rule_next (drop (i + 1) xs))) y

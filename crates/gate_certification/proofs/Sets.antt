@@ -1,76 +1,54 @@
--- Sets of delegations, as numbers: laws for loops that make one (specs/Levels.antt).
-use Prim.Native.Nat.{ℕ, ◌+◌, ◌-◌, ◌*◌, ◌/◌, ◌%◌, ◌^◌, ◌<◌, ◌≤◌}
+-- Sets of delegations, as numbers: laws of a loop that makes one, from the last record to the first.
+use Prim.Native.Nat.{ℕ, suc, ◌+◌, ◌-◌, ◌*◌, ◌^◌, ◌<◌, ◌≤◌}
 use native.Mathlib.Omega.{arith}
-use mathlib.Core.Path.{◌≡◌, refl, sym, ◌∙◌, ap}
+use mathlib.Core.Path.{◌≡◌, sym, ◌∙◌, ap}
 use mathlib.Core.List.{List, [], ◌∷◌}
 use mathlib.Core.Bool.{Bool, true, false}
-use lib.ListN.{length, get_or, drop, length-drop}
-use lib.Pow.{pow_mono}
-use lib.Dec.{eqb}
 use borrow.Author.Tests.{eq-eqb, ne_eqb}
+use mir.Val.{bool_byte}
+use lib.ListN.{length, get_or, drop}
 use Rattle.std.specs.Prelude.{if◌then◌else◌}
-use Rattle.rules.specs.Basics.{Bytes, kind, set_of, records, records_from}
+use Rattle.rules.specs.Basics.{Bytes, kind, set_of}
 use Rattle.rules.specs.Request.{Delegation, delegation_of, delegations_of}
-use Rattle.rules.proofs.Laws.{chunks_length}
-use Rattle.rules.proofs.Rows.{rows_start, rows_lent, rows_end, lent_record, lent_record_lem, kind_at}
-use Rattle.rules.proofs.Sets.{set_bits_lem}
+use Rattle.record_fields.proofs.Walks.{left_at, left_none}
 
--- A loop that makes a set, from the last delegation back to the first: `at` is the byte at which the last record read begins, and a turn goes to
--- `at - 64`.
-module _ (test : Delegation → Bool) (s : Bytes) where
-  -- the set of those from a byte on
-  abbrev pub set_from : ℕ → ℕ
-  set_from at = set_of test (delegations_of (records_from s at))
+pub set_none : (t : Delegation → Bool) (rs : List Bytes) → 0 ≡ set_of t (delegations_of (drop (length rs) rs))
+unfolding set_of delegations_of
+set_none t rs = sym (ap (λ (l : List Bytes). set_of t (delegations_of l)) (left_none rs (length rs) (omega arith)))
 
-  pub set_start : 0 ≡ set_from (length s - length s % 64)
-  unfolding set_of delegations_of
-  set_start = sym (ap (λ (l : List Bytes). set_of test (delegations_of l)) (rows_end s (length s - length s % 64) (omega arith)))
+byte_is : (b : Bool) (m : ℕ) → m ≡ bool_byte b → m ≡ (if b then 1 else 0)
+byte_is true m e = e
+byte_is false m e = e
 
-  module _ (at set : ℕ) (inv : set ≡ set_from at) (low : 64 ≤ at) (high : at ≤ length s) where
-    row_before : records_from s (at - 64) ≡ lent_record s (at - 64) ∷ records_from s at
-    row_before =
-        let e : at - 64 + 64 ≡ at = omega arith in
-        rows_lent s (at - 64) (omega arith) ∙ ap (λ (i : ℕ). lent_record s (at - 64) ∷ records_from s i) e
+pub byte_small : (b : Bool) (m : ℕ) → m ≡ bool_byte b → m ≤ 1
+byte_small true m e = omega arith
+byte_small false m e = omega arith
 
-    pub set_skip : (get_or s (at - 64) 0 ≡ 14 → ⊥) → set ≡ set_from (at - 64)
-    unfolding delegations_of
-    set_skip n =
-        inv ∙ sym (ap (λ (l : List Bytes). set_of test (delegations_of l)) row_before ∙ rw (lent_record_lem s (at - 64), kind_at s (at - 64), ne_eqb (get_or s (at - 64) 0) 14 n))
+pub set_fits_none : (n : ℕ) → 0 < 2 ^ (n - n)
+set_fits_none n = let e : n - n ≡ 0 = omega arith in rw e (omega arith)
 
-    pub set_more : (mark : ℕ) → get_or s (at - 64) 0 ≡ 14 → mark ≡ (if test (delegation_of (lent_record s (at - 64))) then 1 else 0) → set * 2 + mark ≡ set_from (at - 64)
-    unfolding set_of delegations_of
-    set_more mark e d =
-        let f : set_from (at - 64) ≡ (if test (delegation_of (lent_record s (at - 64))) then 1 else 0) + 2 * set_from at =
-        ap (λ (l : List Bytes). set_of test (delegations_of l)) row_before ∙ rw (lent_record_lem s (at - 64), kind_at s (at - 64), eq-eqb (get_or s (at - 64) 0) 14 e) in
-        omega (arith, f, d, inv)
+-- a set of n has less than 2 ^ n for its number, and with one element more twice that
+pub set_fits : (n i set m : ℕ) → 0 < i → i ≤ n → set < 2 ^ (n - i) → m ≤ 1 → set * 2 + m < 2 ^ (n - (i - 1))
+set_fits n i set m l h f k = let e : n - (i - 1) ≡ suc (n - i) = omega arith in rw e (omega arith)
 
-  pub set_whole : (at set : ℕ) → at % 64 ≡ 0 → at < 64 → set ≡ set_from at → set ≡ set_of test (delegations_of (records s))
-  set_whole at set m h e =
-      let z : at ≡ 0 = omega arith in
-      e ∙ ap set_from z ∙ ap (λ (l : List Bytes). set_of test (delegations_of l)) (rows_start s)
+pub set_fits_still : (n i set : ℕ) → 0 < i → i ≤ n → set < 2 ^ (n - i) → set < 2 ^ (n - (i - 1))
+set_fits_still n i set l h f = let e : n - (i - 1) ≡ suc (n - i) = omega arith in rw e (omega arith)
 
-  -- a set of the delegations of a request file, which are less than 64, is a number of 64 bits, and so is one with a bit more
-  dels_few : (rs : List Bytes) → length (delegations_of rs) ≤ length rs
+module _ (t : Delegation → Bool) (rs : List Bytes) (i set : ℕ) (low : 0 < i) (high : i ≤ length rs) (inv : set ≡ set_of t (delegations_of (drop i rs))) where
+  before : drop (i - 1) rs ≡ get_or rs (i - 1) [] ∷ drop i rs
+  before =
+      let e : i - 1 + 1 ≡ i = omega arith in
+      left_at rs (i - 1) (omega arith) ∙ ap (λ (k : ℕ). get_or rs (i - 1) [] ∷ drop k rs) e
+
+  pub set_skip : (kind (get_or rs (i - 1) []) ≡ 14 → ⊥) → set ≡ set_of t (delegations_of (drop (i - 1) rs))
   unfolding delegations_of
-  dels_few [] = omega arith
-  dels_few (r ∷ rs) = pick (eqb (kind r) 14) refl (dels_few rs)
-    where
-      pick : (b : Bool) → eqb (kind r) 14 ≡ b → length (delegations_of rs) ≤ length rs → length (delegations_of (r ∷ rs)) ≤ length (r ∷ rs)
-      pick true e h = rw e (omega arith)
-      pick false e h = rw e (omega arith)
+  set_skip n = inv ∙ sym (ap (λ (l : List Bytes). set_of t (delegations_of l)) before ∙ rw (ne_eqb (kind (get_or rs (i - 1) [])) 14 n))
 
-  set_fits : (at : ℕ) → length s ≤ 4032 → set_from at < 9223372036854775808
-  unfolding records_from records
-  set_fits at h =
-      let rs = records_from s at in
-      let n : length rs ≡ length (drop at s) / 64 = chunks_length (length (drop at s) / 64) (drop at s) in
-      let d = length-drop at s in
-      let m = dels_few rs in
-      let i : length (delegations_of rs) ≤ 63 = omega arith in
-      let b : 2 ^ length (delegations_of rs) ≤ 2 ^ 63 = pow_mono i in
-      let t = set_bits_lem test (delegations_of rs) in
-      let p : 2 ^ 63 ≡ 9223372036854775808 = refl in
-      omega (arith, b, t, p)
-
-  pub set_doubled : (at set : ℕ) → set ≡ set_from at → length s ≤ 4032 → set * 2 + 1 < 18446744073709551616
-  set_doubled at set e h = omega (arith, e, set_fits at h)
+  pub set_more : (r : Bool) (m : ℕ) → kind (get_or rs (i - 1) []) ≡ 14 → r ≡ t (delegation_of (get_or rs (i - 1) [])) → m ≡ bool_byte r → set * 2 + m ≡ set_of t (delegations_of (drop (i - 1) rs))
+  unfolding set_of delegations_of
+  set_more r m e d f =
+      let x : set_of t (delegations_of (drop (i - 1) rs)) ≡ (if t (delegation_of (get_or rs (i - 1) [])) then 1 else 0) + 2 * set_of t (delegations_of (drop i rs)) =
+      ap (λ (l : List Bytes). set_of t (delegations_of l)) before ∙ rw (eq-eqb (kind (get_or rs (i - 1) [])) 14 e) in
+      let y = byte_is r m f in
+      let z : m ≡ (if t (delegation_of (get_or rs (i - 1) [])) then 1 else 0) = rw d at y in
+      omega (arith, x, z, inv)

@@ -1,11 +1,10 @@
 -- How the code searches for a chain: by levels. The delegations that end a chain of one, then of at most two, and so on, each level a set of the
 -- delegations presented. That this finds a chain exactly where the definition does: proofs/Levels.antt.
-use Rattle.std.specs.Prelude.{ℕ, zero, suc, ◌+◌, ◌-◌, ◌/◌, ◌%◌, ◌≤◌, List, [], ◌∷◌, ◌≡◌, Bool, false, ◌&&◌, ◌||◌, length, take, drop, get_or, eqb}
+use Rattle.std.specs.Prelude.{ℕ, zero, suc, ◌/◌, ◌%◌, ◌<◌, List, [], ◌∷◌, ◌≡◌, Bool, false, ◌&&◌, ◌||◌, length, get_or, eqb}
 use Rattle.std.proofs.Math.Option.{Option}
-use Rattle.rules.specs.Basics.{Bytes, any, same, part, set_of, matches_number, records}
+use Rattle.rules.specs.Basics.{Bytes, any, same, part, set_of, matches_number}
 use Rattle.rules.specs.Request.{Certificate, Delegation, delegations_of}
 use Rattle.rules.specs.Chain.{serves, holds}
-use Rattle.request_reader.specs.Parts.{Parted}
 
 -- some delegation of a set passes a test; the set is a number, as `set_of` makes it
 unfoldable pub any_in : ℕ → (Delegation → Bool) → List Delegation → Bool
@@ -41,21 +40,7 @@ level (suc n) p k ds = next_level p k ds (level n p k ds)
 unfoldable pub ends_at : Option ℕ → List Delegation → ℕ → Certificate → Bool
 ends_at m ds set c = any_in set (leads_to c.hash) ds && matches_number m c.mechanism
 
--- the entries of a table of sets
-abbrev pub table_records : ℕ
-table_records = 64
-
--- the record of a file that begins at a byte
-abbrev pub record_at : Bytes → ℕ → Bytes
-record_at s at = take (at + 64 - at) (drop at s)
-
 -- a table of the sets of the delegations that lead to the hash of each record: where a delegation starts, or the key of a certificate
-unfoldable pub Links : Bytes → Bytes → List ℕ → Type 0
+abbrev pub Links : List Bytes → List Bytes → List ℕ → Type 0
 Links recs dels links =
-    (at : ℕ) → 64 ≤ length recs - at → at % 64 ≡ 0 → get_or links (at / 64) 0 ≡ set_of (leads_to (part 4 20 (record_at recs at))) (delegations_of (records dels))
-
--- the tables of a request whose delegations begin at a byte
-pub record Linked (req : Bytes) (at : ℕ) (links shown : List ℕ) : Type 0 where
-  pub parted : Parted req at
-  pub delegations : Links (take (length req - at) (drop at req)) (take (length req - at) (drop at req)) links
-  pub certificates : Links (take (at - 64) (drop 64 req)) (take (length req - at) (drop at req)) shown
+    (i : ℕ) → i < length recs → get_or links i 0 ≡ set_of (leads_to (part 4 20 (get_or recs i []))) (delegations_of dels)

@@ -4,8 +4,8 @@ use native.Mathlib.Omega.{arith}
 use mathlib.Core.Path.{◌≡◌, refl, sym, ◌∙◌, ap}
 use mathlib.Core.List.{List, [], ◌∷◌}
 use mathlib.Core.Option.{none}
-use mathlib.Core.Bool.{Bool, true, false, not, ◌&&◌}
-use borrow.Author.Tests.{eqb-true, ltb-true, not-true, not-false}
+use mathlib.Core.Bool.{Bool, true, false, ◌&&◌}
+use borrow.Author.Tests.{eqb-true, ltb-true}
 use lib.ListN.{drop, get_or}
 use lib.Dec.{eqb, ltb}
 use Rattle.rules.specs.Sizes.{full_count}
@@ -21,8 +21,8 @@ use Rattle.rules.proofs.Judging.{judge_lowest}
 use Rattle.rules.specs.Fits.{Apart, GroupFits}
 use Rattle.rules.proofs.AclSizes.{acl_fits}
 use Rattle.acl_groups.specs.Parts.{first_limits}
-use Rattle.gate_decision.specs.declared.Judged.{Judged}
-use Rattle.gate_decision.specs.declared.Judged.TheVariants.{Granted, Denied}
+use Rattle.refusals.specs.declared.Denial.{Denial}
+use Rattle.std.specs.Prelude.{Result, Ok, Err}
 use Rattle.gate_decision.specs.Standings.{denial_for, judged_for}
 use Rattle.gate_charge.specs.Charges.{limit_not_full, Chargeable, permit_if, decided, CountersRoom, CountRoom}
 
@@ -71,15 +71,15 @@ limits_room counters own elapsed (m ∷ ms) e =
 
 module _ (l : Ledger) (km0 : Bytes) (gs : List Group) (q : Request) where
   -- what the code's answer says
-  granted_as : (k : ℕ) → Granted k ≡ judged_for (judge l km0 gs q) → (g : Group) × (judge l km0 gs q ≡ granted k g)
+  granted_as : (k : ℕ) → Ok k ≡ judged_for (judge l km0 gs q) → (g : Group) × (judge l km0 gs q ≡ granted k g)
   granted_as k e = pick (judge l km0 gs q) refl
     where
       pick : (j : Judgement) → judge l km0 gs q ≡ j → (g : Group) × (j ≡ granted k g)
-      pick (granted p g) d = let c : Granted k ≡ Granted p = e ∙ ap judged_for d in let n : p ≡ k = cc in (g, ap (λ (z : ℕ). granted z g) n)
-      pick (denied x) d = let c : Granted k ≡ Denied (denial_for x) = e ∙ ap judged_for d in absurd (never (cc))
+      pick (granted p g) d = let c : Ok k ≡ Ok p = e ∙ ap judged_for d in let n : p ≡ k = cc in (g, ap (λ (z : ℕ). granted z g) n)
+      pick (denied x) d = let c : Ok k ≡ Err (denial_for x) = e ∙ ap judged_for d in absurd (never (cc))
 
   -- the group that grants has the limits that follow its record
-  pub granted_limits : (k : ℕ) → Granted k ≡ judged_for (judge l km0 gs q) → (g : Group) × (judge l km0 gs q ≡ granted k g) × (first_limits (drop k gs) ≡ g.limits) × (grants l km0 q k g ≡ true)
+  pub granted_limits : (k : ℕ) → Ok k ≡ judged_for (judge l km0 gs q) → (g : Group) × (judge l km0 gs q ≡ granted k g) × (first_limits (drop k gs) ≡ g.limits) × (grants l km0 q k g ≡ true)
   granted_limits k e =
       let j = granted_as k e in
       let r = lowest_at (grants l km0 q) 0 gs k j.0 (judge_lowest l km0 gs q k j.0 j.1).1 in
@@ -93,7 +93,7 @@ module _ (l : Ledger) (km0 : Bytes) (gs : List Group) (q : Request) where
       let own = get_or l.counts k 0 in
       ltb-true own full_count (and_left (ltb own full_count) (limits_left l.counters own (q.time - l.loaded) g.limits) u)
 
-  charge_able : (k : ℕ) (ms : List Limit) → Every GroupFits gs → Granted k ≡ judged_for (judge l km0 gs q) → ms ≡ first_limits (drop k gs)
+  charge_able : (k : ℕ) (ms : List Limit) → Every GroupFits gs → Ok k ≡ judged_for (judge l km0 gs q) → ms ≡ first_limits (drop k gs)
       → (get_or l.counts k 0 < full_count) × Chargeable l.counters ms
   charge_able k ms f e m =
       let r = granted_limits k e in
@@ -106,19 +106,18 @@ module _ (l : Ledger) (km0 : Bytes) (gs : List Group) (q : Request) where
       )
 
 -- the same on an ACL without fault
-pub grant_able : (l : Ledger) (km0 acl : Bytes) (q : Request) (k : ℕ) (ms : List Limit) → acl_fault (records acl) ≡ none → Granted k ≡ judged_for (judge l km0 (acl_of acl) q)
+pub grant_able : (l : Ledger) (km0 acl : Bytes) (q : Request) (k : ℕ) (ms : List Limit) → acl_fault (records acl) ≡ none → Ok k ≡ judged_for (judge l km0 (acl_of acl) q)
     → ms ≡ first_limits (drop k (acl_of acl)) → (get_or l.counts k 0 < full_count) × Chargeable l.counters ms
 grant_able l km0 acl q k ms f = charge_able l km0 (acl_of acl) q k ms (acl_fits acl f).each
 
 -- A grant is a permit, but where hints do not show a narrowing.
-module _ (shown : Bool) (k : ℕ) (a : Answer) where
-  pub grant_not : not shown ≡ true → a ≡ refuse not_narrower none → a ≡ permit_if shown k
-  unfolding permit_if
-  grant_not h p = p ∙ sym (rw (not-true shown h))
+pub grant_not : (shown : Bool) (k : ℕ) → shown ≡ false → refuse not_narrower none ≡ permit_if shown k
+unfolding permit_if
+grant_not shown k h = sym (rw h)
 
-  pub grant_is : not shown ≡ false → a ≡ permit k → a ≡ permit_if shown k
-  unfolding permit_if
-  grant_is h p = p ∙ sym (rw (not-false shown h))
+pub grant_is : (shown : Bool) (k : ℕ) → shown ≡ true → permit k ≡ permit_if shown k
+unfolding permit_if
+grant_is shown k h = sym (rw h)
 
 permit_place : (b : Bool) (k place : ℕ) → permit_if b k ≡ permit place → k ≡ place
 unfolding permit_if
@@ -126,14 +125,14 @@ permit_place true k place e = cc
 permit_place false k place e = absurd (never (cc))
 
 -- Where the answer permits, the group can be charged.
-module _ (l : Ledger) (km0 acl : Bytes) (q : Request) (shown : Bool) (j : Judged) (a : Answer) (sound : acl_fault (records acl) ≡ none)
+module _ (l : Ledger) (km0 acl : Bytes) (q : Request) (shown : Bool) (j : Result ℕ Denial) (a : Answer) (sound : acl_fault (records acl) ≡ none)
     (e : j ≡ judged_for (judge l km0 (acl_of acl) q)) (d : a ≡ decided shown j) where
-  permit_granted : (place : ℕ) → a ≡ permit place → Granted place ≡ judged_for (judge l km0 (acl_of acl) q)
+  permit_granted : (place : ℕ) → a ≡ permit place → Ok place ≡ judged_for (judge l km0 (acl_of acl) q)
   permit_granted place p = pick j e (sym d ∙ p)
     where
-      pick : (x : Judged) → x ≡ judged_for (judge l km0 (acl_of acl) q) → decided shown x ≡ permit place → Granted place ≡ judged_for (judge l km0 (acl_of acl) q)
-      pick (Granted k) f g = ap Granted (sym (permit_place shown k place g)) ∙ f
-      pick (Denied x) f g = absurd (never (cc))
+      pick : (x : Result ℕ Denial) → x ≡ judged_for (judge l km0 (acl_of acl) q) → decided shown x ≡ permit place → Ok place ≡ judged_for (judge l km0 (acl_of acl) q)
+      pick (Ok k) f g = ap Ok (sym (permit_place shown k place g)) ∙ f
+      pick (Err x) f g = absurd (never (cc))
 
   pub counters_room : CountersRoom l.counters (acl_of acl) a
   counters_room place p = (grant_able l km0 acl q place _ sound (permit_granted place p) refl).1

@@ -1,5 +1,5 @@
 -- A reply by document 01's numbers, the reply to a judgement, and what a reply charges, by the limits alone.
-use Rattle.std.specs.Prelude.{ℕ, ◌<◌, List, ◌≡◌, Bool, true, false, get_or, drop, eqb, ltb, if◌then◌else◌}
+use Rattle.std.specs.Prelude.{ℕ, ◌<◌, List, ◌≡◌, Bool, true, false, Result, Ok, Err, get_or, drop, eqb, ltb, if◌then◌else◌}
 use Rattle.std.proofs.Math.Option.{none}
 use Rattle.rules.specs.Sizes.{full_count}
 use Rattle.rules.specs.Numbers.{not_narrower}
@@ -10,8 +10,7 @@ use Rattle.rules.specs.Gate as rulesGate
 use Rattle.rules.specs.Fits.{Apart}
 use Rattle.acl_groups.specs.Parts.{first_limits}
 use Rattle.refusals.specs.Refusals.{refusal_number, denial_number, denial_group}
-use Rattle.gate_decision.specs.declared.Judged.{Judged}
-use Rattle.gate_decision.specs.declared.Judged.TheVariants.{Granted, Denied}
+use Rattle.refusals.specs.declared.Denial.{Denial}
 use Rattle.gate_charge.specs.declared.Reply.{Reply}
 use Rattle.gate_charge.specs.declared.Reply.TheVariants.{Done, Permit, Refuse, Deny}
 
@@ -44,9 +43,9 @@ unfoldable pub permit_if : Bool → ℕ → rulesGate.Answer
 permit_if shown place = if shown then rulesGate.permit place else rulesGate.refuse not_narrower none
 
 -- the answer to a judgement
-abbrev pub decided : Bool → Judged → rulesGate.Answer
-decided shown (Granted place) = permit_if shown place
-decided shown (Denied d) = rulesGate.refuse (denial_number d) (denial_group d)
+abbrev pub decided : Bool → Result ℕ Denial → rulesGate.Answer
+decided shown (Ok place) = permit_if shown place
+decided shown (Err d) = rulesGate.refuse (denial_number d) (denial_group d)
 
 -- a reply that permits
 abbrev pub is_permit : rulesGate.Answer → Bool

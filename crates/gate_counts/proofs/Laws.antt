@@ -4,22 +4,21 @@ use native.Mathlib.Omega.{arith}
 use native.Mathlib.Numerals.{add-one}
 use mathlib.Core.Path.{◌≡◌, sym, ◌∙◌, ap}
 use mathlib.Core.List.{List, [], ◌∷◌, ◌++◌, map, append_assoc}
-use mathlib.Core.Bool.{Bool, true, false, not}
-use borrow.Author.Tests.{not-true, not-false}
+use mathlib.Core.Bool.{Bool, true, false}
 use lib.ListN.{length, take, drop, get_or, set, replicate, length-set, length-replicate, take-append-drop}
-use lib.Seq.{take-suc-set, drop-set-lt, set_out, get_or-take, get_or-drop}
+use lib.Seq.{take-suc-set, drop-set-lt, set_out}
 use Rattle.rules.specs.Sizes.{groups_max}
-use Rattle.rules.specs.Basics.{Bytes, part, byte, records_from}
-use Rattle.rules.specs.Request.{Hint, hint_of, hints_of}
+use Rattle.rules.specs.Basics.{Bytes, byte}
+use Rattle.rules.specs.Request.{Hint, hint_of}
 use Rattle.rules.specs.Ledger.{carried}
 use Rattle.rules.specs.Gate.{Answer}
-use Rattle.rules.proofs.Rows.{rows_start, rows_at, rows_end}
+use Rattle.record_fields.proofs.Walks.{left_at, left_none}
 use Rattle.gate_charge.specs.Charges.{is_permit}
 use Rattle.gate_counts.specs.Carried.{carried_from, counts_after}
 
 -- an index past the table changes nothing
-pub carry_past : (t : List ℕ) (i n v : ℕ) → length t ≡ n → n ≤ i → t ≡ set t i v
-carry_past t i n v e h = sym (set_out t i v (omega arith))
+pub carry_past : (t : List ℕ) (i v : ℕ) → length t ≤ i → t ≡ set t i v
+carry_past t i v h = sym (set_out t i v h)
 
 -- the table when the hints are done
 snoc : (xs : List ℕ) (v : ℕ) (ys : List ℕ) → (xs ++ (v ∷ [])) ++ ys ≡ xs ++ (v ∷ ys)
@@ -55,34 +54,22 @@ carried_is counts hs h =
     carried_table counts 0 hs (replicate groups_max 0) (omega arith)
     ∙ ap (λ (z : List ℕ). map (λ h. get_or counts h.source 0) hs ++ z) ((let e : 0 + length hs ≡ length hs = omega arith in ap (λ (m : ℕ). drop m (replicate groups_max 0)) e) ∙ drop_zeros groups_max (length hs))
 
--- A loop over the hints.
-unfoldable pub hints_left : Bytes → ℕ → List Hint
-hints_left s at = map hint_of (records_from s at)
+-- A loop over the hints: those from the i-th record on.
+module _ (counts : List ℕ) (rs : List Bytes) (i : ℕ) (table x : List ℕ) (inv : carried_from counts i (map hint_of (drop i rs)) table ≡ x) where
+  pub carry_next : (next : List ℕ) → i < length rs → next ≡ set table i (get_or counts (byte 4 (get_or rs i [])) 0) → carried_from counts (i + 1) (map hint_of (drop (i + 1) rs)) next ≡ x
+  unfolding carried_from
+  carry_next next h e = rw e (sym (ap (λ (l : List Bytes). carried_from counts i (map hint_of l) table) (left_at rs i h)) ∙ inv)
 
-hints_all : (s : Bytes) → hints_left s 0 ≡ hints_of s
-unfolding hints_left
-hints_all s = ap (map hint_of) (rows_start s)
-
-pub carry_start : (counts : List ℕ) (s : Bytes) (table : List ℕ) → carried_from counts 0 (hints_left s 0) table ≡ carried_from counts 0 (hints_of s) table
-carry_start counts s table = ap (λ (l : List Hint). carried_from counts 0 l table) (hints_all s)
-
-module _ (counts : List ℕ) (s : Bytes) (at i : ℕ) (table x : List ℕ) (inv : carried_from counts i (hints_left s at) table ≡ x) where
-  pub carry_next : (next : List ℕ) → 64 ≤ length s - at → next ≡ set table i (get_or counts (get_or s (at + 4) 0) 0) → carried_from counts (i + 1) (hints_left s (at + 64)) next ≡ x
-  unfolding carried_from hints_left
-  carry_next next h e =
-      let k : byte 4 (part at 64 s) ≡ get_or s (at + 4) 0 = get_or-take 64 (drop at s) 4 0 (omega arith) ∙ get_or-drop at s 4 0 in
-      rw e (sym (ap (λ (l : List Bytes). carried_from counts i (map hint_of l) table) (rows_at s at h) ∙ rw k) ∙ inv)
-
-  pub carry_done : length s - at < 64 → table ≡ x
-  unfolding carried_from hints_left
-  carry_done h = sym (ap (λ (l : List Bytes). carried_from counts i (map hint_of l) table) (rows_end s at h)) ∙ inv
+  pub carry_done : length rs ≤ i → table ≡ x
+  unfolding carried_from
+  carry_done h = sym (ap (λ (l : List Bytes). carried_from counts i (map hint_of l) table) (left_none rs i h)) ∙ inv
 
 -- The counts that a replacement leaves.
 module _ (f : List ℕ → List ℕ) (a : Answer) (counts : List ℕ) (b : Bool) (e : b ≡ is_permit a) where
-  pub counts_kept : not b ≡ true → counts ≡ counts_after f a counts
+  pub counts_kept : b ≡ false → counts ≡ counts_after f a counts
   unfolding counts_after
-  counts_kept h = sym (rw (sym e ∙ not-true b h))
+  counts_kept h = sym (rw (sym e ∙ h))
 
-  pub counts_replaced : (t : List ℕ) → not b ≡ false → t ≡ f counts → t ≡ counts_after f a counts
+  pub counts_replaced : b ≡ true → (t : List ℕ) → t ≡ f counts → t ≡ counts_after f a counts
   unfolding counts_after
-  counts_replaced t h d = d ∙ sym (rw (sym e ∙ not-false b h))
+  counts_replaced h t d = d ∙ sym (rw (sym e ∙ h))

@@ -1,30 +1,30 @@
 -- The turns of the loops of this crate, and its tests in the definitions' terms.
-use Prim.Native.Nat.{ℕ, ◌+◌, ◌-◌, ◌≤◌, ◌<◌}
+use Prim.Native.Nat.{ℕ, suc, ◌+◌, ◌-◌, ◌/◌, ◌≤◌, ◌<◌}
 use native.Mathlib.Numerals.{add-one}
 use native.Mathlib.Omega.{arith}
 use mathlib.Core.Path.{◌≡◌, refl, sym, ◌∙◌, ap}
 use mathlib.Core.List.{List, [], ◌∷◌}
-use mathlib.Core.Bool.{Bool, true, false}
-use borrow.Author.Tests.{eq-eqb, ne_eqb}
-use lib.ListN.{length, take, drop, get_or, get_or-eq_default}
-use lib.Dec.{ltb}
-use Rattle.rules.specs.Basics.{Bytes, any, same, number, byte, records, records_from}
-use Rattle.rules.specs.Acl.{limit_of, Action, Group, group_of, groups_of}
+use mathlib.Core.Bool.{Bool, ◌&&◌, true, false}
+use borrow.Author.Tests.{eq-eqb, ne_eqb, lt-ltb}
+use denote.Enum.Bare.{sameb}
+use lib.ListN.{length, take, drop, get_or, length-take, length-drop}
+use lib.Dec.{eqb, ltb}
+use Rattle.std.specs.Prelude.{Result, Ok, Err, if◌then◌else◌, cond}
+use Rattle.std.specs.List.{list_all, take_while}
+use Rattle.std.proofs.lemmas.List.Sums.{take_while-cons}
+use Rattle.rules.specs.Sizes.{full_count}
+use Rattle.rules.specs.Basics.{Bytes, any, all, same, number, byte, kind, records}
+use Rattle.rules.specs.Acl.{Limit, limit_of, limits_of, Action, Group, group_of, groups_of}
 use Rattle.rules.specs.Request.{Wanted, blobfile_next, wanted_of, Request, request_of}
-use Rattle.rules.specs.Grant.{admits, group_admits, certified, counter_left, limit_left, unspent_with}
-use Rattle.rules.proofs.Laws.{same_eq}
-use Rattle.rules.proofs.Rows.{wanted_first, rows_lent, rows_end, rows_rest, lent_record, lent_rest, lent_record_lem, lent_rest_lem, kind_at}
+use Rattle.rules.specs.Grant.{admits, certified, counter_left, limit_left, unspent_with}
+use Rattle.rules.proofs.Laws.{same_eq, chunks_length}
+use Rattle.rules.proofs.Rows.{wanted_first, lent_rest, lent_rest_lem}
 use Rattle.gate_decision.specs.declared.GroupResult.{GroupResult}
 use Rattle.gate_decision.specs.declared.GroupResult.TheVariants.{NotAdmitting, Admitting, Certified, Granting}
+use Rattle.gate_decision.specs.contracts.GroupResult.{the_type}
 use Rattle.gate_decision.specs.declared.Nearest.{Nearest}
 use Rattle.refusals.specs.declared.Denial.{Denial}
-use Rattle.gate_decision.specs.declared.Judged.{Judged}
-use Rattle.gate_decision.specs.declared.Judged.TheVariants.{Granted, Denied}
-use Rattle.gate_decision.specs.Standings.{is_granting, nearer, denial_of, result_of, judged_from, result_with, group_result, record_result, seen_after, some_after, held_after, Remembered, NextGroup}
-
--- a count past a table
-pub past_table : (t : List ℕ) (i : ℕ) → length t ≤ i → 0 ≡ get_or t i 0
-past_table t i h = sym (get_or-eq_default t 0 {n = i} h)
+use Rattle.gate_decision.specs.Standings.{is_granting, nearer, denial_of, judged_from, result_with, group_result, record_result}
 
 -- a limit by its sort
 module _ (counters : List ℕ) (own elapsed : ℕ) (r : Bytes) (x : ℕ) (e : x ≡ number 8 4 r) where
@@ -32,108 +32,94 @@ module _ (counters : List ℕ) (own elapsed : ℕ) (r : Bytes) (x : ℕ) (e : x 
   unfolding limit_left
   sort_1 d = sym (rw (eq-eqb (byte 4 r) 1 d, e))
 
-  pub sort_2 : (t : Bool) → (byte 4 r ≡ 1 → ⊥) → byte 4 r ≡ 2 → t ≡ counter_left (get_or counters (byte 5 r) 0) x → t ≡ limit_left counters own elapsed (limit_of r)
+  pub sort_2 : (t : Bool) → byte 4 r ≡ 2 → t ≡ counter_left (get_or counters (byte 5 r) 0) x → t ≡ limit_left counters own elapsed (limit_of r)
   unfolding limit_left
-  sort_2 t n d p = p ∙ sym (rw (ne_eqb (byte 4 r) 1 n, eq-eqb (byte 4 r) 2 d, e))
+  sort_2 t d p =
+      let z : eqb (byte 4 r) 1 ≡ false = rw d in
+      p ∙ sym (rw (z, eq-eqb (byte 4 r) 2 d, e))
 
-  pub sort_3 : (byte 4 r ≡ 1 → ⊥) → (byte 4 r ≡ 2 → ⊥) → ltb elapsed x ≡ limit_left counters own elapsed (limit_of r)
+  pub sort_3 : (m : ℕ) → m ≡ x → (byte 4 r ≡ 1 → ⊥) → (byte 4 r ≡ 2 → ⊥) → ltb elapsed m ≡ limit_left counters own elapsed (limit_of r)
   unfolding limit_left
-  sort_3 n m = sym (rw (ne_eqb (byte 4 r) 1 n, ne_eqb (byte 4 r) 2 m, e))
+  sort_3 m f n k = sym (rw (ne_eqb (byte 4 r) 1 n, ne_eqb (byte 4 r) 2 k, f, e))
 
--- A loop up to the next group.
-module _ (s : Bytes) (at i : ℕ) (inv : groups_of (records_from s i) ≡ groups_of (records (drop at s))) (k : at ≤ i) (l : i ≤ length s) where
-  pub group_here : get_or s i 0 ≡ 1 → NextGroup s at i
-  unfolding records_from
-  group_here e = record { same = inv; later = k; inside = l; head = λ h. e }
+-- the limits of a group are the records of their kind that come first
+pub limits_all : (p : Limit → Bool) (rs : List Bytes) → list_all (λ r. p (limit_of r)) (take_while (λ r. eqb (kind r) 2) rs) ≡ all p (limits_of rs)
+unfolding all limits_of
+limits_all p [] = refl
+limits_all p (r ∷ rs) = ap (list_all (λ x. p (limit_of x))) (take_while-cons (λ x. eqb (kind x) 2) r rs) ∙ pick (eqb (kind r) 2) (limits_all p rs)
+  where
+    pick : (b : Bool) → list_all (λ x. p (limit_of x)) (take_while (λ x. eqb (kind x) 2) rs) ≡ all p (limits_of rs)
+        → list_all (λ x. p (limit_of x)) (cond b (r ∷ take_while (λ x. eqb (kind x) 2) rs) []) ≡ all p (if b then limit_of r ∷ limits_of rs else [])
+    pick true h = ap (λ (z : Bool). p (limit_of r) && z) h
+    pick false h = refl
 
-  pub group_none : length s - i < 64 → NextGroup s at (length s)
-  unfolding records_from groups_of
-  group_none h =
-      record {
-        same = ap groups_of (rows_end s (length s) (omega arith)) ∙ sym (ap groups_of (rows_end s i h)) ∙ inv;
-        later = omega arith;
-        inside = omega arith;
-        head = λ g. absurd (omega arith);
-      }
+-- a group whose count is not full is unspent if they leave room
+pub unspent_is : (counters : List ℕ) (own elapsed : ℕ) (rs : List Bytes) → own < full_count → (r : Bool)
+    → r ≡ list_all (λ x. limit_left counters own elapsed (limit_of x)) (take_while (λ x. eqb (kind x) 2) rs) → r ≡ unspent_with counters own elapsed (limits_of rs)
+unspent_is counters own elapsed rs h r e = e ∙ limits_all (limit_left counters own elapsed) rs ∙ sym (rw (lt-ltb own full_count h))
 
-  pub group_skip : 64 ≤ length s - i → (get_or s i 0 ≡ 1 → ⊥) → groups_of (records_from s (i + 64)) ≡ groups_of (records (drop at s))
-  unfolding groups_of
-  group_skip h n = sym (ap groups_of (rows_lent s i h) ∙ rw (lent_record_lem s i, kind_at s i, ne_eqb (get_or s i 0) 1 n)) ∙ inv
+-- A loop over the groups, by those that are left; the next of them is g, at the index k.
+module _ (f : ℕ → Group → GroupResult) (near : Nearest) (place : ℕ) (left : List Group) (x : Result ℕ Denial) (inv : judged_from f near place left ≡ x) where
+  pub groups_done : left ≡ [] → (d : Denial) → d ≡ denial_of near → Err d ≡ x
+  unfolding judged_from
+  groups_done h d e = ap Err e ∙ sym (ap (judged_from f near place) h) ∙ inv
 
--- A loop over the groups.
-module _ (f : ℕ → Group → GroupResult) (s : Bytes) (at : ℕ) (near : Nearest) (place : ℕ) (x : Judged) (inv : judged_from f near place (groups_of (records_from s at)) ≡ x) where
-  groups_step : 64 ≤ length s - at → get_or s at 0 ≡ 1 → groups_of (records_from s at) ≡ group_of (lent_record s at) (records_from s (at + 64)) ∷ groups_of (records_from s (at + 64))
-  unfolding groups_of
-  groups_step h e = ap groups_of (rows_lent s at h) ∙ rw (lent_record_lem s at, kind_at s at, eq-eqb (get_or s at 0) 1 e)
+  module _ (g : Group) (gs : List Group) (step : left ≡ g ∷ gs) (k : ℕ) (e : k ≡ place) (t : GroupResult) (d : t ≡ f k g) where
+    result_is : f place g ≡ t
+    result_is = ap (λ (n : ℕ). f n g) (sym e) ∙ sym d
 
-  module _ (h : 64 ≤ length s - at) (e : get_or s at 0 ≡ 1) (t : GroupResult) (d : t ≡ f place (group_of (lent_record s at) (records_from s (at + 64)))) (b : Bool) (q : b ≡ is_granting t) where
-    pub groups_grant : b ≡ true → Granted place ≡ x
+    pub group_grants : is_granting t ≡ true → Ok k ≡ x
     unfolding judged_from
-    groups_grant y =
-        let g : is_granting (f place (group_of (lent_record s at) (records_from s (at + 64)))) ≡ true = sym (ap is_granting d) ∙ sym q ∙ y in
-        sym (ap (judged_from f near place) (groups_step h e) ∙ rw g) ∙ inv
+    group_grants y = ap Ok e ∙ sym (ap (judged_from f near place) step ∙ rw (ap is_granting result_is ∙ y)) ∙ inv
 
-    groups_after : (n : Nearest) → b ≡ false → n ≡ nearer near t place → judged_from f n (place + 1) (groups_of (records_from s (at + 64))) ≡ x
+    pub group_next : is_granting t ≡ false → (n : Nearest) → n ≡ nearer near t k → (m : ℕ) → m ≡ place + 1 → judged_from f n m gs ≡ x
     unfolding judged_from
-    groups_after n y p =
-        let g : is_granting (f place (group_of (lent_record s at) (records_from s (at + 64)))) ≡ false = sym (ap is_granting d) ∙ sym q ∙ y in
-        let r : nearer near (f place (group_of (lent_record s at) (records_from s (at + 64)))) place ≡ n = ap (λ (z : GroupResult). nearer near z place) (sym d) ∙ sym p in
-        rw add-one (sym (ap (judged_from f near place) (groups_step h e) ∙ rw (g, r)) ∙ inv)
+    group_next y n p m q =
+        let a : n ≡ nearer near (f place g) place = p ∙ ap (nearer near t) e ∙ ap (λ (z : GroupResult). nearer near z place) (sym result_is) in
+        rw (a, q, add-one) (sym (ap (judged_from f near place) step ∙ rw (ap is_granting result_is ∙ y)) ∙ inv)
 
-    pub groups_next : (n : Nearest) (r : ℕ) → b ≡ false → n ≡ nearer near t place → groups_of (records (drop r s)) ≡ groups_of (records (drop (at + 64) s))
-        → judged_from f n (place + 1) (groups_of (records_from s r)) ≡ x
-    unfolding records_from
-    groups_next n r y p m = ap (judged_from f n (place + 1)) m ∙ groups_after n y p
+-- the groups of a file are no more than its bytes
+groups_few : (rs : List Bytes) → length (groups_of rs) ≤ length rs
+unfolding groups_of
+groups_few [] = omega arith
+groups_few (r ∷ rs) = pick (eqb (kind r) 1) (groups_few rs)
+  where
+    pick : (b : Bool) → length (groups_of rs) ≤ length rs → length (if b then group_of r rs ∷ groups_of rs else groups_of rs) ≤ suc (length rs)
+    pick true h = omega arith
+    pick false h = omega arith
 
-  pub groups_done : (d : Denial) → length s - at < 64 → d ≡ denial_of near → Denied d ≡ x
-  unfolding judged_from groups_of
-  groups_done d h e = ap Denied e ∙ sym (ap (λ (l : List Bytes). judged_from f near place (groups_of l)) (rows_end s at h)) ∙ inv
+pub groups_within : (s : Bytes) → length (groups_of (records s)) ≤ length s
+unfolding records
+groups_within s = omega (arith, groups_few (records s), chunks_length (length s / 64) s)
 
 -- the last test that a group passes, as the code asked for it
-pub standing_at : (counts counters : List ℕ) (own elapsed : ℕ) (km0 : Bytes) (q : Request) (place : ℕ) (s : Bytes) (at : ℕ) (t : GroupResult)
-    → own ≡ get_or counts place 0 → t ≡ record_result counters own elapsed km0 q (lent_record s at) (records (lent_rest s (at + 64)))
-    → t ≡ group_result counts counters elapsed km0 q place (group_of (lent_record s at) (records_from s (at + 64)))
+pub result_at : (counts counters : List ℕ) (own elapsed : ℕ) (km0 : Bytes) (q : Request) (place : ℕ) (r : Bytes) (rest : List Bytes) (t : GroupResult)
+    → own ≡ get_or counts place 0 → t ≡ record_result counters own elapsed km0 q r rest → t ≡ group_result counts counters elapsed km0 q place (group_of r rest)
 unfolding group_result record_result
-standing_at counts counters own elapsed km0 q place s at t o e =
-    e
-    ∙ ap (λ (n : ℕ). result_with counters n elapsed km0 q (group_of (lent_record s at) (records (lent_rest s (at + 64))))) o
-    ∙ ap (λ (l : List Bytes). result_with counters (get_or counts place 0) elapsed km0 q (group_of (lent_record s at) l)) (rows_rest s (at + 64))
+result_at counts counters own elapsed km0 q place r rest t o e = e ∙ ap (λ (n : ℕ). result_with counters n elapsed km0 q (group_of r rest)) o
 
 -- a group that admits what the request record and what follows it ask for admits the request
-pub admits_asked : (km0 s : Bytes) (acts : List Action) (r : Bool) → r ≡ any (admits km0 (wanted_of (take 64 s) (blobfile_next (records (take (length s - 64) (drop 64 s)))))) acts → 64 ≤ length s
-    → r ≡ any (admits km0 (request_of s).wanted) acts
-admits_asked km0 s acts r e h = e ∙ ap (λ (w : Wanted). any (admits km0 w) acts) (wanted_first s (lent_rest s 64) (lent_rest_lem s 64) h)
+pub admits_asked : (km0 s rec : Bytes) (acts : List Action) (r b : Bool) → 64 ≤ length s → rec ≡ take 64 s
+    → r ≡ any (admits km0 (wanted_of rec (blobfile_next (records (take (length s - 64) (drop 64 s)))))) acts → r ≡ b → any (admits km0 (request_of s).wanted) acts ≡ b
+admits_asked km0 s rec acts r b h a e y =
+    sym (ap (λ (x : Bytes). any (admits km0 (wanted_of x (blobfile_next (records (lent_rest s 64))))) acts) a ∙ ap (λ (w : Wanted). any (admits km0 w) acts) (wanted_first s (lent_rest s 64) (lent_rest_lem s 64) h))
+    ∙ sym e ∙ y
 
--- What is remembered of the last group that was looked at: its answer serves a group whose first record is the same, ..
-pub told_again : (q : Request) (old new : Bytes) (some held : Bool) → Remembered q old some held → some ≡ true → (r : Bool) → r ≡ same new old → r ≡ true → held ≡ certified q (group_of new [])
-told_again q old new some held m s r e y =
-    m.told s ∙ ap (λ (x : Bytes). certified q (group_of x [])) (sym (same_eq new old (sym e ∙ y)))
+-- whether a group grants, as the code asks
+pub granting_is : (t : GroupResult) (b : Bool) → b ≡ sameb the_type t Granting → b ≡ is_granting t
+granting_is NotAdmitting b e = e
+granting_is Admitting b e = e
+granting_is Certified b e = e
+granting_is Granting b e = e
 
--- At first nothing is remembered.
-pub told_none : (q : Request) (old : Bytes) (held : Bool) → Remembered q old false held
-told_none q old held = record { told = λ e. absurd (never e) }
-  where
-    never : false ≡ true → ⊥
-    never e = let z : ◌≡◌ {A = ℕ} 0 1 = cc in omega arith
+-- a part of a request file has few records
+pub few_records : (s : Bytes) (k n : ℕ) (rs : List Bytes) → length s ≤ 4032 → rs ≡ records (take n (drop k s)) → length rs ≤ 63
+unfolding records
+few_records s k n rs h e =
+    let p = take n (drop k s) in
+    let l = chunks_length (length p / 64) p in
+    omega (arith, ap length e, l, length-take n (drop k s), length-drop k s)
 
--- After a group more what is remembered is of that group, if its certification was decided.
-remember : (q : Request) (s : Bytes) (at seen : ℕ) (some held a c u : Bool) → c ≡ certified q (group_of (lent_record s at) []) → Remembered q (lent_record s seen) some held
-    → Remembered q (lent_record s (seen_after (result_of a c u) seen at)) (some_after (result_of a c u) some) (held_after (result_of a c u) held)
-remember q s at seen some held false c u e m = m
-remember q s at seen some held true false u e m = record { told = λ y. e }
-remember q s at seen some held true true false e m = record { told = λ y. e }
-remember q s at seen some held true true true e m = record { told = λ y. e }
-
-pub told_next : (counters : List ℕ) (own elapsed : ℕ) (km0 : Bytes) (q : Request) (s : Bytes) (at seen : ℕ) (some held : Bool) (rest : List Bytes) (t : GroupResult)
-    → Remembered q (lent_record s seen) some held → t ≡ record_result counters own elapsed km0 q (lent_record s at) rest
-    → (r : ℕ) (b h : Bool) → r ≡ seen_after t seen at → b ≡ some_after t some → h ≡ held_after t held → Remembered q (lent_record s r) b h
-unfolding record_result
-told_next counters own elapsed km0 q s at seen some held rest t m d r b h e f g =
-    let w = group_of (lent_record s at) rest in
-    rw (e, f, g, d) (remember q s at seen some held (group_admits km0 q w) (certified q w) (unspent_with counters own elapsed w.limits) refl m)
-
-pub seen_before : (t : GroupResult) (seen at r : ℕ) → seen ≤ at → r ≡ seen_after t seen at → r ≤ at
-seen_before NotAdmitting seen at r h e = omega arith
-seen_before Admitting seen at r h e = omega arith
-seen_before Certified seen at r h e = omega arith
-seen_before Granting seen at r h e = omega arith
+-- the answer for the last group serves one whose first record is the same
+pub told_again : (q : Request) (old new : Bytes) (held r : Bool) → held ≡ certified q (group_of old []) → r ≡ same new old → r ≡ true → held ≡ certified q (group_of new [])
+told_again q old new held r m e y = m ∙ ap (λ (x : Bytes). certified q (group_of x [])) (sym (same_eq new old (sym e ∙ y)))

@@ -1,10 +1,12 @@
 -- One pass over the groups gives the judgement of the definitions, which look for the lowest group of each sort by itself.
 use Prim.Native.Nat.{ℕ, suc, ◌-◌, ◌≤◌, ◌<◌}
 use mathlib.Core.Path.{◌≡◌, refl, sym, ◌∙◌, ap}
+use mathlib.Core.Logic.{◌⊎◌, inl, inr}
 use mathlib.Core.List.{List, [], ◌∷◌}
 use mathlib.Core.Bool.{Bool, true, false, ◌&&◌}
 use borrow.Author.Tests.{lt-ltb, le-ltb}
 use lib.Dec.{ltb}
+use Rattle.std.specs.Prelude.{Result, Ok, Err}
 use Rattle.rules.specs.Basics.{Bytes}
 use Rattle.rules.specs.Acl.{Group}
 use Rattle.rules.specs.Request.{Request}
@@ -15,22 +17,25 @@ use Rattle.rules.proofs.Judging.{ungranted}
 use Rattle.gate_decision.specs.declared.GroupResult.{GroupResult}
 use Rattle.gate_decision.specs.declared.Nearest.{Nearest}
 use Rattle.gate_decision.specs.declared.Nearest.TheVariants as near
-use Rattle.gate_decision.specs.declared.Judged.{Judged}
+use Rattle.refusals.specs.declared.Denial.{Denial}
 use Rattle.refusals.specs.declared.Denial.TheVariants.{ClockBack, NotCertified, Spent}
-use Rattle.gate_decision.specs.declared.Judged.TheVariants.{Granted, Denied}
 use Rattle.gate_decision.specs.Standings.{result_of, denial_of, judged_from, group_result, judged_for, ledger_of_tables}
+
+-- a judgement of the code
+abbrev Judged : Type 0
+Judged = Result ℕ Denial
 
 -- why no group grants, by the nearest before and the lowest groups from there on
 abbrev combined : Nearest → Lowest → Lowest → Judged
 combined near.Nothing c a = judged_for (ungranted c a)
-combined (near.Admitting k) not_found a = Denied (NotCertified k)
-combined (near.Admitting k) (group p g) a = Denied (Spent p)
-combined (near.Certified k) c a = Denied (Spent k)
+combined (near.Admitting k) not_found a = Err (NotCertified k)
+combined (near.Admitting k) (group p g) a = Err (Spent p)
+combined (near.Certified k) c a = Err (Spent k)
 
 -- a denial, unless a group grants
 abbrev unless_granted : Judged → Lowest → Judged
 unless_granted d not_found = d
-unless_granted d (group p g) = Granted p
+unless_granted d (group p g) = Ok p
 
 -- an admitting group that came before hides those that come later, and serves where none did
 later_hidden : (k : ℕ) (c a b : Lowest) → combined (near.Admitting k) c a ≡ combined (near.Admitting k) c b
@@ -51,7 +56,7 @@ module _ (admitting certifying : Group → Bool) (left : ℕ → Group → Bool)
       unless_granted (combined n (lowest (λ k g. admitting g && certifying g) place gs) (lowest (λ k g. admitting g) place gs))
       (lowest (λ k g. admitting g && certifying g && left k g) place gs)
 
-  at_end_lem : (n : Nearest) (place : ℕ) → Denied (denial_of n) ≡ searched n place []
+  at_end_lem : (n : Nearest) (place : ℕ) → Err (denial_of n) ≡ searched n place []
   unfolding lowest
   at_end_lem near.Nothing place = refl
   at_end_lem (near.Admitting k) place = refl
@@ -98,17 +103,21 @@ module _ (l : Ledger) (km0 : Bytes) (q : Request) where
 
 -- the clock: `if t < loaded`, `if t < last`
 module _ (counts counters : List ℕ) (loaded last t : ℕ) (km0 : Bytes) (gs : List Group) (q : Request) (e : t ≡ q.time) where
-  pub early_loaded : t < loaded → Denied ClockBack ≡ judged_for (judge (ledger_of_tables counts counters loaded last) km0 gs q)
+  early_loaded : t < loaded → Err ClockBack ≡ judged_for (judge (ledger_of_tables counts counters loaded last) km0 gs q)
   unfolding judge
   early_loaded h = sym (rw (← e, lt-ltb t loaded h))
 
-  pub early_last : t < last → Denied ClockBack ≡ judged_for (judge (ledger_of_tables counts counters loaded last) km0 gs q)
+  early_last : t < last → Err ClockBack ≡ judged_for (judge (ledger_of_tables counts counters loaded last) km0 gs q)
   unfolding judge
   early_last h = pick (ltb t loaded) refl
     where
-      pick : (b : Bool) → ltb t loaded ≡ b → Denied ClockBack ≡ judged_for (judge (ledger_of_tables counts counters loaded last) km0 gs q)
+      pick : (b : Bool) → ltb t loaded ≡ b → Err ClockBack ≡ judged_for (judge (ledger_of_tables counts counters loaded last) km0 gs q)
       pick true d = sym (rw (← e, d))
       pick false d = sym (rw (← e, d, lt-ltb t last h))
+
+  pub early_either : (t < loaded) ⊎ ((loaded ≤ t) × (t < last)) → Err ClockBack ≡ judged_for (judge (ledger_of_tables counts counters loaded last) km0 gs q)
+  early_either (inl h) = early_loaded h
+  early_either (inr h) = early_last h.1
 
   pub in_time_lem : (r : Judged) → loaded ≤ t → last ≤ t → r ≡ judged_from (group_result counts counters (t - loaded) km0 q) near.Nothing 0 gs
       → r ≡ judged_for (judge (ledger_of_tables counts counters loaded last) km0 gs q)

@@ -1,7 +1,7 @@
 -- How far groups come, as the code says it, and the judgement of an ACL in one pass over its groups.
-use Rattle.std.specs.Prelude.{ℕ, suc, ◌-◌, ◌≤◌, ◌≡◌, List, [], ◌∷◌, Bool, true, false, length, get_or, drop, if◌then◌else◌}
-use Rattle.rules.specs.Basics.{Bytes, records}
-use Rattle.rules.specs.Acl.{Group, group_of, groups_of}
+use Rattle.std.specs.Prelude.{ℕ, suc, List, [], ◌∷◌, Bool, true, false, get_or, Result, Ok, Err, if◌then◌else◌}
+use Rattle.rules.specs.Basics.{Bytes}
+use Rattle.rules.specs.Acl.{Group, group_of}
 use Rattle.rules.specs.Request.{Request}
 use Rattle.rules.specs.Ledger.{Ledger}
 use Rattle.rules.specs.Grant.{group_admits, certified, unspent_with}
@@ -12,8 +12,6 @@ use Rattle.gate_decision.specs.declared.Nearest.{Nearest}
 use Rattle.gate_decision.specs.declared.Nearest.TheVariants as near
 use Rattle.refusals.specs.declared.Denial as code
 use Rattle.refusals.specs.declared.Denial.TheVariants.{ClockBack, NotAdmitted, NotCertified, Spent}
-use Rattle.gate_decision.specs.declared.Judged.{Judged}
-use Rattle.gate_decision.specs.declared.Judged.TheVariants.{Granted, Denied}
 
 -- the last test that a group passes: it admits, is certified, is unspent
 abbrev pub result_of : Bool → Bool → Bool → GroupResult
@@ -45,10 +43,10 @@ denial_of (near.Admitting k) = NotCertified k
 denial_of (near.Certified k) = Spent k
 
 -- the judgement of groups numbered from `place`, after those whose nearest is given
-unfoldable pub judged_from : (ℕ → Group → GroupResult) → Nearest → ℕ → List Group → Judged
-judged_from group_result n place [] = Denied (denial_of n)
+unfoldable pub judged_from : (ℕ → Group → GroupResult) → Nearest → ℕ → List Group → Result ℕ code.Denial
+judged_from group_result n place [] = Err (denial_of n)
 judged_from group_result n place (g ∷ gs) =
-    if is_granting (group_result place g) then Granted place else judged_from group_result (nearer n (group_result place g) place) (suc place) gs
+    if is_granting (group_result place g) then Ok place else judged_from group_result (nearer n (group_result place g) place) (suc place) gs
 
 -- the last test that a group passes for a request, by the ledger's named counters, its own count and the seconds since load
 abbrev pub result_with : List ℕ → ℕ → ℕ → Bytes → Request → Group → GroupResult
@@ -62,30 +60,6 @@ group_result counts counters elapsed km0 q place g = result_with counters (get_o
 unfoldable pub record_result : List ℕ → ℕ → ℕ → Bytes → Request → Bytes → List Bytes → GroupResult
 record_result counters own elapsed km0 q r rest = result_with counters own elapsed km0 q (group_of r rest)
 
--- What the loop remembers of the last group whose certification was decided: its offset, whether there was one, and whether it is certified; after
--- one group more, by the last test that this group passes.
-abbrev pub seen_after : GroupResult → ℕ → ℕ → ℕ
-seen_after NotAdmitting seen at = seen
-seen_after Admitting seen at = at
-seen_after Certified seen at = at
-seen_after Granting seen at = at
-
-abbrev pub some_after : GroupResult → Bool → Bool
-some_after NotAdmitting some = some
-some_after Admitting some = true
-some_after Certified some = true
-some_after Granting some = true
-
-abbrev pub held_after : GroupResult → Bool → Bool
-held_after NotAdmitting held = held
-held_after Admitting held = false
-held_after Certified held = true
-held_after Granting held = true
-
--- What is remembered is true of that group's first record.
-pub record Remembered (q : Request) (r : Bytes) (some held : Bool) : Type 0 where
-  pub told : some ≡ true → held ≡ certified q (group_of r [])
-
 -- the denial and the judgement of the definitions, as the code answers them
 abbrev pub denial_for : Denial → code.Denial
 denial_for early = ClockBack
@@ -93,18 +67,10 @@ denial_for unadmitted = NotAdmitted
 denial_for (uncertified place g) = NotCertified place
 denial_for (exhausted place g) = Spent place
 
-abbrev pub judged_for : Judgement → Judged
-judged_for (granted place g) = Granted place
-judged_for (denied d) = Denied (denial_for d)
+abbrev pub judged_for : Judgement → Result ℕ code.Denial
+judged_for (granted place g) = Ok place
+judged_for (denied d) = Err (denial_for d)
 
 -- the ledger's tables and times as a ledger of the definitions
 abbrev pub ledger_of_tables : List ℕ → List ℕ → ℕ → ℕ → Ledger
 ledger_of_tables counts counters loaded last = record { counts = counts; counters = counters; loaded = loaded; last = last }
-
--- The offset of the next group from `at` on: the same groups follow from there, and a record that begins there is a group's. (If there are no more
--- groups the file's end serves.)
-pub record NextGroup (acl : Bytes) (at r : ℕ) : Type 0 where
-  pub same : groups_of (records (drop r acl)) ≡ groups_of (records (drop at acl))
-  pub later : at ≤ r
-  pub inside : r ≤ length acl
-  pub head : 64 ≤ length acl - r → get_or acl r 0 ≡ 1

@@ -2,24 +2,28 @@
 // The functions take the ledger's tables and times, not the ledger; they decode any bytes.
 #![tactic(auto)]
 
-ghost use Rattle.std.specs.Prelude.{◌≡◌, [], ◌≤◌, length, get_or};
-ghost use Rattle.rules.specs.Sizes.{record_bytes};
-ghost use Rattle.rules.specs.Basics.{records};
+ghost use Rattle.std.specs.Prelude.{◌≡◌, ◌==◌, [], get_or};
+ghost use Rattle.std.specs.List.{list_all, take_while};
+ghost use Rattle.rules.specs.Basics.{kind, records};
 ghost use Rattle.rules.specs.Acl.{limit_of, limits_of, group_of, acl_of};
 ghost use Rattle.rules.specs.Request.{request_of};
-ghost use Rattle.rules.specs.Grant.{certified, counter_left, limit_left, limits_left, unspent_with};
+ghost use Rattle.rules.specs.Grant.{certified, counter_left, limit_left, unspent_with};
 ghost use Rattle.rules.specs.Gate.{judge};
-ghost use Rattle.gate_decision.specs.Standings.{is_granting, nearer, denial_of, judged_from, group_result, record_result, seen_after, some_after, held_after, Remembered, judged_for, ledger_of_tables, NextGroup};
+ghost use Rattle.gate_decision.specs.Standings.{nearer, denial_of, judged_from, group_result, record_result, judged_for, ledger_of_tables};
 ghost use Rattle.request_reader.specs.Parts.{Sound};
-ghost use Rattle.gate_certification.specs.Levels.{Linked};
 
+mod certifier;
+
+use certifier::Certifier;
+use gate_certification::Presented;
+use record_sizes::Record;
 use refusals::Denial;
 
 // A full count: one more would not fit.
-const FULL: u32 = 4294967295;
+const FULL: u32 = u32::MAX;
 
 // How far a group comes: it does not admit; it admits; it admits and is certified; it admits, is certified and unspent.
-#[derive(Clone, Copy)]
+#[derive(Clone, Copy, Debug, PartialEq, Eq)]
 enum GroupResult {
     NotAdmitting,
     Admitting,
@@ -28,129 +32,95 @@ enum GroupResult {
 }
 
 // The nearest that came before: no group; the lowest that admits; the lowest that admits and is certified.
-#[derive(Clone, Copy)]
+#[derive(Clone, Copy, Debug, PartialEq, Eq)]
 enum Nearest {
     Nothing,
     Admitting(usize),
     Certified(usize),
 }
 
-// The judgement: the group that grants, or why none does.
-#[derive(Clone, Copy)]
-pub enum Judged {
-    Granted(usize),
-    Denied(Denial),
-}
-
 // A count of a table; 0 past its end.
-fn count_at(table: &[u32], i: usize) -> u32
+pub fn count_at(table: &[u32], i: usize) -> u32
     ensures { result ≡ get_or table.now i 0 }
 {
-    if table.len() <= i {
-        return 0;
-    }
-    table[i]
+    table.get(i).copied().unwrap_or(0)
 }
 
 // Whether a limit leaves room: of a group's own count, of a named counter that is not full either, or of the seconds since load.
-fn limit_left(counters: &[u32], own: u32, elapsed: u64, limit: &[u8]) -> bool
-    requires { length limit.now ≡ record_bytes }
+fn limit_left(counters: &[u32], own: u32, elapsed: u64, limit: &Record) -> bool
     ensures { result ≡ limit_left counters.now own elapsed (limit_of limit.now) }
 {
-    let sort = limit[4];
     let maximum = record_fields::be32(limit, 8);
-    if sort == 1 {
-        return own < maximum;
+    match limit[4] {
+        1 => own < maximum,
+        2 => counter_left(counters, limit[5], maximum),
+        _ => elapsed < u64::from(maximum),
     }
-    if sort == 2 {
-        return counter_left(counters, limit[5], maximum);
-    }
-    elapsed < (maximum as u64)
 }
 
 // Whether a named counter is below a maximum and not full.
 fn counter_left(counters: &[u32], counter: u8, maximum: u32) -> bool
     ensures { result ≡ counter_left (get_or counters.now counter 0) maximum }
 {
-    let n = count_at(counters, counter as usize);
+    let n = count_at(counters, usize::from(counter));
     (n < maximum) & (n < FULL)
 }
 
 // Whether every limit of a group leaves room, of the records that follow the group's first one.
 fn limits_left(counters: &[u32], own: u32, elapsed: u64, body: &[u8]) -> bool
-    ensures { result ≡ limits_left counters.now own elapsed (limits_of (records body.now)) }
+    ensures { result ≡
+        list_all (λ r. limit_left counters.now own elapsed (limit_of r))
+        (take_while (λ r. kind r == 2) (records body.now)) }
 {
-    let mut at = 0;
-    while record_sizes::RECORD <= body.len() - at {
-        if body[at] != 2 {
-            return true;
-        }
-        if !limit_left(counters, own, elapsed, &body[at..at + record_sizes::RECORD]) {
-            return false;
-        }
-        at += record_sizes::RECORD;
-    }
-    true
+    record_fields::records(body)
+        .iter()
+        .take_while(|rec| rec[0] == record_kinds::LIMIT)
+        .all(|limit| limit_left(counters, own, elapsed, limit))
 }
 
 // Whether a group is unspent.
 pub fn is_unspent(counters: &[u32], own: u32, elapsed: u64, body: &[u8]) -> bool
     ensures { result ≡ unspent_with counters.now own elapsed (limits_of (records body.now)) }
 {
-    (own < FULL) & limits_left(counters, own, elapsed, body)
+    own < FULL && limits_left(counters, own, elapsed, body)
 }
 
-// Whether a group is certified, by its first record and the request's tables of what leads where; a record that is the same as that of the last group that was looked at has the same answer, `held`,
-// and no chain is searched for it again. `some` is whether there is such a group.
-fn certified_as(
-    group: &[u8],
-    req: &[u8],
-    start: usize,
-    links: &[u64; gate_certification::TABLE],
-    shown: &[u64; gate_certification::TABLE],
-    last: &[u8],
-    some: bool,
-    held: bool,
-) -> bool
-    requires { Sound req.now × (length group.now ≡ record_bytes) × Remembered (request_of req.now) last.now some held ×
-        Linked req.now start links.now shown.now }
-    ensures { result ≡ certified (request_of req.now) (group_of group.now []) }
-{
-    if some {
-        if record_fields::same_bytes(group, last) {
-            return held;
-        }
+impl<'a> Certifier<'a> {
+    // Whether a group is certified, by its first record; one that is the same as the last has the same answer, and no chain is searched for it again.
+    fn is_certified(&mut self, group: &'a Record) -> bool
+        ensures answer { result ≡ certified (request_of self.old.presented.now.req.now) (group_of group.now []) }
+        ensures kept { self.new.presented ≡ self.old.presented }
+    {
+        let answer = match self.last {
+            Some((last, answer)) if record_fields::same_bytes(group, last) => answer,
+            _ => self.presented.is_certified(group),
+        };
+        self.last = Some((group, answer));
+        answer
     }
-    gate_certification::is_certified(group, req, start, links, shown)
 }
 
 // How far a group comes with a request: its first record, the records that follow it, and its own count.
-fn group_result(
+fn group_result<'a>(
     counters: &[u32],
     own: u32,
     elapsed: u64,
     km0: &[u8],
-    req: &[u8],
-    start: usize,
-    links: &[u64; gate_certification::TABLE],
-    shown: &[u64; gate_certification::TABLE],
-    group: &[u8],
+    certifier: &mut Certifier<'a>,
+    group: &'a Record,
     body: &[u8],
-    last: &[u8],
-    some: bool,
-    held: bool,
 ) -> GroupResult
-    requires { Sound req.now × (length group.now ≡ record_bytes) × Remembered (request_of req.now) last.now some held ×
-        Linked req.now start links.now shown.now }
-    ensures { result ≡
-        record_result counters.now own elapsed km0.now (request_of req.now) group.now
+    ensures comes { result ≡
+        record_result counters.now own elapsed km0.now (request_of certifier.old.presented.now.req.now) group.now
         (records body.now) }
+    ensures kept { certifier.new.presented ≡ certifier.old.presented }
 {
-    let rest = &req[record_sizes::RECORD..];
-    if !gate_admission::group_admits(km0, &req[0..record_sizes::RECORD], rest, body) {
+    let req = certifier.presented.req;
+    let rec = record_fields::record_at(req, 0);
+    if !gate_admission::group_admits(km0, rec, &req[record_sizes::RECORD..], body) {
         return GroupResult::NotAdmitting;
     }
-    if !certified_as(group, req, start, links, shown, last, some, held) {
+    if !certifier.is_certified(group) {
         return GroupResult::Admitting;
     }
     if !is_unspent(counters, own, elapsed, body) {
@@ -159,113 +129,32 @@ fn group_result(
     GroupResult::Granting
 }
 
-// The offset of the last group whose certification was decided, after the group at the byte `at`.
-fn seen_after(s: GroupResult, seen: usize, at: usize) -> usize
-    ensures { result ≡ seen_after s seen at }
-{
-    match s {
-        GroupResult::NotAdmitting => seen,
-        GroupResult::Admitting => at,
-        GroupResult::Certified => at,
-        GroupResult::Granting => at,
-    }
-}
-
-// Whether the certification of any group was decided, after one group more.
-fn some_after(s: GroupResult, some: bool) -> bool
-    ensures { result ≡ some_after s some }
-{
-    match s {
-        GroupResult::NotAdmitting => some,
-        GroupResult::Admitting => true,
-        GroupResult::Certified => true,
-        GroupResult::Granting => true,
-    }
-}
-
-// Whether the last group whose certification was decided is certified, after one group more.
-fn held_after(s: GroupResult, held: bool) -> bool
-    ensures { result ≡ held_after s held }
-{
-    match s {
-        GroupResult::NotAdmitting => held,
-        GroupResult::Admitting => false,
-        GroupResult::Certified => true,
-        GroupResult::Granting => true,
-    }
-}
-
-// Whether a group that passed these tests grants the request.
-fn grants(s: GroupResult) -> bool
-    ensures { result ≡ is_granting s }
-{
-    match s {
-        GroupResult::NotAdmitting => false,
-        GroupResult::Admitting => false,
-        GroupResult::Certified => false,
-        GroupResult::Granting => true,
-    }
-}
-
-// The nearest with a group more that admits.
-fn near_admitting(n: Nearest, place: usize) -> Nearest
-    ensures { result ≡ nearer n GroupResult.Admitting place }
-{
-    match n {
-        Nearest::Nothing => Nearest::Admitting(place),
-        Nearest::Admitting(k) => Nearest::Admitting(k),
-        Nearest::Certified(k) => Nearest::Certified(k),
-    }
-}
-
-// The nearest with a group more that admits and is certified.
-fn near_certified(n: Nearest, place: usize) -> Nearest
-    ensures { result ≡ nearer n GroupResult.Certified place }
-{
-    match n {
-        Nearest::Nothing => Nearest::Certified(place),
-        Nearest::Admitting(_) => Nearest::Certified(place),
-        Nearest::Certified(k) => Nearest::Certified(k),
-    }
-}
-
-// The nearest with a group more.
-fn near_with(n: Nearest, s: GroupResult, place: usize) -> Nearest
-    ensures { result ≡ nearer n s place }
-{
-    match s {
-        GroupResult::NotAdmitting => n,
-        GroupResult::Admitting => near_admitting(n, place),
-        GroupResult::Certified => near_certified(n, place),
-        GroupResult::Granting => n,
+impl Nearest {
+    // The nearest with a group more.
+    fn with(self, next: GroupResult, place: usize) -> Nearest
+        ensures { result ≡ nearer self next place }
+    {
+        match (next, self) {
+            (GroupResult::Admitting, Nearest::Nothing) => Nearest::Admitting(place),
+            (GroupResult::Certified, Nearest::Nothing | Nearest::Admitting(_)) => {
+                Nearest::Certified(place)
+            }
+            _ => self,
+        }
     }
 }
 
 // Why no group grants, by the nearest.
-fn why_not(n: Nearest) -> Denial
-    ensures { result ≡ denial_of n }
-{
-    match n {
-        Nearest::Nothing => Denial::NotAdmitted,
-        Nearest::Admitting(k) => Denial::NotCertified(k),
-        Nearest::Certified(k) => Denial::Spent(k),
-    }
-}
+impl From<Nearest> for Denial {
+    ghost from_gives = { λ n d. d ≡ denial_of n };
 
-// The offset of the next group, from the byte `at` on; the end of the file if there is none. A loop of its own, for it is most of the way through an
-// ACL.
-fn next_group(acl: &[u8], at: usize) -> usize
-    requires { at ≤ length acl.now }
-    ensures { NextGroup acl.now at result }
-{
-    let mut i = at;
-    while record_sizes::RECORD <= acl.len() - i {
-        if acl[i] == 1 {
-            return i;
+    fn from(near: Nearest) -> Denial {
+        match near {
+            Nearest::Nothing => Denial::NotAdmitted,
+            Nearest::Admitting(place) => Denial::NotCertified(place),
+            Nearest::Certified(place) => Denial::Spent(place),
         }
-        i += record_sizes::RECORD;
     }
-    acl.len()
 }
 
 // The lowest group that grants, or why none does.
@@ -274,46 +163,31 @@ fn judge_groups(
     counters: &[u32],
     elapsed: u64,
     km0: &[u8],
-    req: &[u8],
+    presented: &Presented,
     acl: &[u8],
-    start: usize,
-    links: &[u64; gate_certification::TABLE],
-    shown: &[u64; gate_certification::TABLE],
-) -> Judged
-    requires { Sound req.now × Linked req.now start links.now shown.now }
+) -> Result<usize, Denial>
     ensures { result ≡
-        judged_from (group_result counts.now counters.now elapsed km0.now (request_of req.now)) Nearest.Nothing 0
+        judged_from (group_result counts.now counters.now elapsed km0.now (request_of presented.now.req.now)) Nearest.Nothing 0
         (acl_of acl.now) }
 {
+    let mut certifier = Certifier {
+        presented,
+        last: None,
+    };
     let mut near = Nearest::Nothing;
-    let mut place = 0;
-    let mut seen = 0;
-    let mut some = false;
-    let mut held = false;
-    let mut at = next_group(acl, 0);
-    while record_sizes::RECORD <= acl.len() - at {
+    for (place, (group, body)) in acl_groups::Groups(acl).enumerate() {
         let own = count_at(counts, place);
-        let group = &acl[at..at + record_sizes::RECORD];
-        let body = &acl[at + record_sizes::RECORD..];
-        let last = &acl[seen..seen + record_sizes::RECORD];
-        let s = group_result(
-            counters, own, elapsed, km0, req, start, links, shown, group, body, last, some, held,
-        );
-        if grants(s) {
-            return Judged::Granted(place);
+        let result = group_result(counters, own, elapsed, km0, &mut certifier, group, body);
+        if result == GroupResult::Granting {
+            return Ok(place);
         }
-        near = near_with(near, s, place);
-        seen = seen_after(s, seen, at);
-        some = some_after(s, some);
-        held = held_after(s, held);
-        place += 1;
-        at = next_group(acl, at + record_sizes::RECORD);
+        near = near.with(result, place);
     }
-    Judged::Denied(why_not(near))
+    Err(Denial::from(near))
 }
 
-// The judgement of a request: a time that does not go back, then the groups. One lifetime for both tables lets a caller lend two fields of its ledger; the
-// tables come as arrays, so that the compiler sees that no place of theirs is kept and copies no ledger for it.
+// The judgement of a request, the group that grants or why none does: a time that does not go back, then the groups. One lifetime for both tables lets a
+// caller lend two fields of its ledger; the tables come as arrays, so that the compiler sees that no place of theirs is kept and copies no ledger for it.
 pub fn judge_request<'a>(
     counts: &'a [u32; record_sizes::GROUPS],
     counters: &'a [u32; record_sizes::COUNTERS],
@@ -322,7 +196,7 @@ pub fn judge_request<'a>(
     km0: &[u8],
     acl: &[u8],
     req: &[u8],
-) -> Judged
+) -> Result<usize, Denial>
     requires { Sound req.now }
     ensures { result ≡
         judged_for
@@ -330,24 +204,22 @@ pub fn judge_request<'a>(
         (request_of req.now)) }
 {
     let time = request_reader::time(req);
-    if time < loaded {
-        return Judged::Denied(Denial::ClockBack);
+    if time < loaded || time < last {
+        return Err(Denial::ClockBack);
     }
-    if time < last {
-        return Judged::Denied(Denial::ClockBack);
-    }
+    let start = request_reader::delegations_start(req);
+    let certs = record_fields::records(&req[record_sizes::RECORD..start]);
+    let dels = record_fields::records(&req[start..]);
     let mut links = [0u64; gate_certification::TABLE];
     let mut shown = [0u64; gate_certification::TABLE];
-    let start = gate_certification::link(&mut links, &mut shown, req);
-    judge_groups(
-        counts,
-        counters,
-        time - loaded,
-        km0,
+    gate_certification::link(&mut links, dels, dels);
+    gate_certification::link(&mut shown, certs, dels);
+    let presented = Presented {
         req,
-        acl,
-        start,
-        &links,
-        &shown,
-    )
+        certs,
+        dels,
+        links: &links,
+        shown: &shown,
+    };
+    judge_groups(counts, counters, time - loaded, km0, &presented, acl)
 }

@@ -8,6 +8,7 @@ use mathlib.Core.Bool.{Bool, true, false, ◌&&◌}
 use borrow.Author.Tests.{ltb-true, ltb-false, leb-true}
 use lib.ListN.{length}
 use lib.Dec.{eqb, ltb, leb}
+use Rattle.std.specs.Prelude.{Result, Ok, Err}
 use Rattle.rules.specs.Sizes.{record_bytes, hash_bytes, acl_records, request_records, groups_max, hint_records}
 use Rattle.rules.specs.Numbers.{bad_length, malformed}
 use Rattle.rules.specs.Basics.{Bytes, records, fits, or_next}
@@ -19,8 +20,6 @@ use Rattle.rules.proofs.Rows.{first, no_rows}
 use Rattle.rules.proofs.Few.{narrow_few}
 use Rattle.refusals.specs.declared.Refusal.{Refusal}
 use Rattle.refusals.specs.Refusals.{refusal_number}
-use Rattle.files.specs.declared.Checked.{Checked}
-use Rattle.files.specs.declared.Checked.TheVariants as checked
 use Rattle.files.specs.Faults.{fault_as}
 use Rattle.request_reader.specs.Following.{following_fault}
 use Rattle.request_reader.specs.Parts.{Sound}
@@ -76,9 +75,9 @@ expand_sound km0 acl req new e =
     (sound_request (use_of expand_acl) req h.1.1.0 (fitting_request km0 acl req (and_left (lengths_fit km0 acl req) (fits acl_records new) t)), h.1.0)
 
 -- What a call's files came to, by what the code found in them.
-module _ (files : Option ℕ) (x : Checked) (e : fault_as x ≡ files) where
-  pub no_fault : x ≡ checked.Sound → files ≡ none
-  no_fault p = sym e ∙ ap fault_as p
+module _ {A : Type 0} (files : Option ℕ) (x : Result A Refusal) (e : fault_as x ≡ files) where
+  pub no_fault : (a : A) → x ≡ Ok a → files ≡ none
+  no_fault a p = sym e ∙ ap fault_as p
 
-  pub a_fault : (why : Refusal) → x ≡ checked.Refused why → files ≡ some (refusal_number why)
+  pub a_fault : (why : Refusal) → x ≡ Err why → files ≡ some (refusal_number why)
   a_fault why p = sym e ∙ ap fault_as p

@@ -5,13 +5,12 @@ ghost use Rattle.std.specs.Prelude.{◌≡◌};
 ghost use Rattle.rules.specs.Gate.{lengths_fit, request_files, narrow_files, expand_files};
 ghost use Rattle.files.specs.Faults.{fault_as};
 
-use files::Checked;
 use refusals::Refusal;
 
 // The permissions whose use a narrowing and an expansion are.
-const REDUCE_ACL: u8 = 2;
+pub const REDUCE_ACL: u8 = 2;
 
-const EXPAND_ACL: u8 = 12;
+pub const EXPAND_ACL: u8 = 12;
 
 // Whether KM0, the ACL and the request file have lengths that they may have.
 fn lengths_fit(km0: &[u8], acl: &[u8], req: &[u8]) -> bool
@@ -23,48 +22,47 @@ fn lengths_fit(km0: &[u8], acl: &[u8], req: &[u8]) -> bool
 }
 
 // The first fault of a request's files.
-pub fn request_files(km0: &[u8], acl: &[u8], req: &[u8]) -> Checked
+pub fn request_files(km0: &[u8], acl: &[u8], req: &[u8]) -> Result<(), Refusal>
     ensures { fault_as result ≡ request_files km0.now acl.now req.now }
 {
     if !lengths_fit(km0, acl, req) {
-        return Checked::Refused(Refusal::BadLength);
+        return Err(Refusal::BadLength);
     }
-    let first = acl_reader::acl_records(acl);
-    match first {
-        Checked::Refused(r) => Checked::Refused(r),
-        Checked::Sound => request_reader::request_records(req),
-    }
+    acl_reader::acl_records(acl)?;
+    request_reader::request_records(req)
 }
 
 // The first fault of a narrowing's files.
-pub fn narrow_files(km0: &[u8], acl: &[u8], req: &[u8], new: &[u8], hints: &[u8]) -> Checked
+pub fn narrow_files(
+    km0: &[u8],
+    acl: &[u8],
+    req: &[u8],
+    new: &[u8],
+    hints: &[u8],
+) -> Result<(), Refusal>
     ensures { fault_as result ≡ narrow_files km0.now acl.now req.now new.now hints.now }
 {
     let fit = lengths_fit(km0, acl, req)
         & files::whole(record_sizes::ACL_RECORDS, new)
         & files::whole(record_sizes::HINT_RECORDS, hints);
     if !fit {
-        return Checked::Refused(Refusal::BadLength);
+        return Err(Refusal::BadLength);
     }
-    let replacement = files::first_fault(
-        acl_reader::acl_records(new),
-        request_reader::hint_records(hints),
-    );
-    let rest = files::first_fault(request_reader::use_records(REDUCE_ACL, req), replacement);
-    files::first_fault(acl_reader::acl_records(acl), rest)
+    acl_reader::acl_records(acl)?;
+    request_reader::use_records(REDUCE_ACL, req)?;
+    acl_reader::acl_records(new)?;
+    request_reader::hint_records(hints)
 }
 
 // The first fault of an expansion's files.
-pub fn expand_files(km0: &[u8], acl: &[u8], req: &[u8], new: &[u8]) -> Checked
+pub fn expand_files(km0: &[u8], acl: &[u8], req: &[u8], new: &[u8]) -> Result<(), Refusal>
     ensures { fault_as result ≡ expand_files km0.now acl.now req.now new.now }
 {
     let fit = lengths_fit(km0, acl, req) & files::whole(record_sizes::ACL_RECORDS, new);
     if !fit {
-        return Checked::Refused(Refusal::BadLength);
+        return Err(Refusal::BadLength);
     }
-    let rest = files::first_fault(
-        request_reader::use_records(EXPAND_ACL, req),
-        acl_reader::acl_records(new),
-    );
-    files::first_fault(acl_reader::acl_records(acl), rest)
+    acl_reader::acl_records(acl)?;
+    request_reader::use_records(EXPAND_ACL, req)?;
+    acl_reader::acl_records(new)
 }

@@ -12,9 +12,6 @@ ghost use Rattle.gate_in_place.specs.Places.{outcome_in};
 
 use gate_charge::Reply;
 
-// A lent table is as long as its type says, which the charges require: the prover knows it of a table that is passed on as a slice. It compiles to nothing.
-fn measured(table: &[u32]) {}
-
 // What every permit charges, whatever becomes of the group counts: the named counters, and the last time.
 fn charge(
     counters: &mut [u32; record_sizes::COUNTERS],
@@ -27,10 +24,8 @@ fn charge(
     ensures { (counters.new ≡ counters_charged (acl_of acl.now) (answer_as reply) counters.old) ×
         (last.new ≡ last_after (answer_as reply) last.old (request_of req.now).time) }
 {
-    measured(counters);
     gate_charge::charge_counters(counters, reply, acl);
-    let before = *last;
-    *last = gate_charge::last_after(reply, before, request_reader::time(req));
+    *last = gate_charge::last_after(reply, *last, request_reader::time(req));
 }
 
 // A request for a use or a blob.
@@ -47,10 +42,8 @@ pub fn request(
         request (ledger_of_tables counts.old counters.old loaded last.old) km0.now acl.now
         req.now }
 {
-    let before = *last;
-    let reply = gate::request_reply(counts, counters, loaded, before, km0, acl, req);
+    let reply = gate::request_reply(counts, counters, loaded, *last, km0, acl, req);
     charge(counters, last, reply, acl, req);
-    measured(counts);
     gate_charge::charge_count(counts, reply);
     reply
 }
@@ -71,10 +64,8 @@ pub fn narrow(
         narrow (ledger_of_tables counts.old counters.old loaded last.old) km0.now acl.now
         req.now new.now hints.now }
 {
-    let before = *last;
-    let reply = gate::narrow_reply(counts, counters, loaded, before, km0, acl, req, new, hints);
+    let reply = gate::narrow_reply(counts, counters, loaded, *last, km0, acl, req, new, hints);
     charge(counters, last, reply, acl, req);
-    measured(counts);
     gate_charge::charge_count(counts, reply);
     gate_counts::carry_counts(counts, reply, hints);
     reply
@@ -95,8 +86,7 @@ pub fn expand(
         expand (ledger_of_tables counts.old counters.old loaded last.old) km0.now acl.now
         req.now new.now }
 {
-    let before = *last;
-    let reply = gate::expand_reply(counts, counters, loaded, before, km0, acl, req, new);
+    let reply = gate::expand_reply(counts, counters, loaded, *last, km0, acl, req, new);
     charge(counters, last, reply, acl, req);
     gate_counts::zero_counts(counts, reply);
     reply

@@ -1,1 +1,2 @@
 pub mod Certifiers
+pub mod Kinds

@@ -1,49 +1,46 @@
--- The turns of the loop over the permissions, and of the loop over the groups and actions of an ACL.
-use Prim.Native.Nat.{ℕ, zero, suc, ◌+◌, ◌-◌, ◌≤◌, ◌<◌}
+-- The turns of the loop over the permissions, and of the loop over the records of an ACL.
+use Prim.Native.Nat.{ℕ, suc, ◌+◌, ◌-◌, ◌/◌, ◌≤◌, ◌<◌}
 use native.Mathlib.Omega.{arith}
 use mathlib.Core.Path.{◌≡◌, refl, sym, ◌∙◌, ap}
 use mathlib.Core.List.{List, [], ◌∷◌}
 use mathlib.Core.Option.{Option, none, some}
-use mathlib.Core.Bool.{Bool, true, false, not, false≢true}
+use mathlib.Core.Bool.{Bool, true, false, not, ◌||◌, false≢true}
 use borrow.Author.Tests.{eq-eqb, ne_eqb, not-true, not-false}
 use lib.ListN.{length, drop, get_or}
 use lib.Dec.{eqb, ltb}
 use Rattle.rules.specs.Sizes.{hash_bytes}
 use Rattle.std.specs.Prelude.{if◌then◌else◌}
-use Rattle.rules.specs.Basics.{Bytes, kind, flag, part, number, optional, present, both_same, or_next, records, records_from}
-use Rattle.rules.specs.Acl.{blob_rule_of, BlobfileRule, blobfile_rule_next, Action, make_blob, action_of, actions_of, group_of, groups_of}
+use Rattle.std.specs.Prelude.{Some, None, Result, Ok, Err, is_err}
+use Rattle.std.specs.Prelude as prelude
+use Rattle.rules.specs.Basics.{Bytes, kind, flag, part, number, optional, present, both_same, or_next, records}
+use Rattle.rules.specs.Acl.{blob_rule_of, BlobfileRule, blobfile_rule_next, Action, make_blob, action_of, actions_of, groups_of}
 use Rattle.rules.specs.Bundle.{Policy}
 use Rattle.rules.specs.Desk.{Step, failure_under, action_protection}
-use Rattle.rules.proofs.Rows.{rows_at, rows_lent, rows_end, lent_record, lent_record_lem, kind_at}
-use Rattle.acl_groups.specs.Parts.{passed_over, action_from, NextPart}
-use Rattle.acl_groups.proofs.Laws.{acts_group, acts_here, acts_end}
+use Rattle.rules.proofs.Laws.{chunks_length}
+use Rattle.record_fields.proofs.Walks.{left_at, left_none}
+use Rattle.acl_groups.specs.Parts.{passed_over}
+use Rattle.desk_steps.specs.declared.Step as code
+use Rattle.desk_steps.specs.Steps.{failure_as}
 use Rattle.desk_actions.specs.Classes.{admitted_bit}
 use Rattle.desk_actions.proofs.Laws.{by_kind}
-use Rattle.reason_actions.specs.declared.Spot.{Spot}
-use Rattle.reason_actions.specs.Spots.{all_ones, unadmitted_from, permission_of, below_lowest, at_fault, skipped, Located, in_actions, in_groups, spot_of}
+use Rattle.reason_actions.specs.Spots.{all_ones, permission_number, unadmitted_from, permission_of, below_lowest, at_fault, skipped, Located, in_actions, in_groups, spot_as, spot_of}
 
--- The permissions from p on, of which k are left.
-module _ (policy : Policy) (bits k p : ℕ) (t : Bool) (is : t ≡ admitted_bit policy bits p) (x : ℕ) (inv : unadmitted_from policy bits k p ≡ x) where
-  pub unadmitted_here : 0 < k → not t ≡ true → p ≡ x
+-- The permissions from p on, of those below 16.
+module _ (policy : Policy) (bits p : ℕ) (x : ℕ) (inv : unadmitted_from policy bits (16 - p) p ≡ x) where
+  unadmitted_step : p < 16 → (if admitted_bit policy bits p then unadmitted_from policy bits (16 - (p + 1)) (p + 1) else p) ≡ x
   unfolding unadmitted_from
-  unadmitted_here h e = pick k h inv
-    where
-      pick : (j : ℕ) → 0 < j → unadmitted_from policy bits j p ≡ x → p ≡ x
-      pick zero z i = absurd (omega arith)
-      pick (suc j) z i = rw (sym is ∙ not-true t e) at i
+  unadmitted_step h = let k : 16 - p ≡ suc (16 - (p + 1)) = omega arith in rw k at inv
 
-  pub unadmitted_later : 0 < k → not t ≡ false → unadmitted_from policy bits (k - 1) (p + 1) ≡ x
+  module _ (t : Bool) (is : t ≡ admitted_bit policy bits p) where
+    pub unadmitted_here : p < 16 → not t ≡ true → p ≡ x
+    unadmitted_here h e = rw (sym is ∙ not-true t e) at (unadmitted_step h)
+
+    pub unadmitted_later : p < 16 → not t ≡ false → unadmitted_from policy bits (16 - (p + 1)) (p + 1) ≡ x
+    unadmitted_later h e = rw (sym is ∙ not-false t e) at (unadmitted_step h)
+
+  pub unadmitted_none : 16 ≤ p → all_ones ≡ x
   unfolding unadmitted_from
-  unadmitted_later h e = pick k h inv
-    where
-      pick : (j : ℕ) → 0 < j → unadmitted_from policy bits j p ≡ x → unadmitted_from policy bits (j - 1) (p + 1) ≡ x
-      pick zero z i = absurd (omega arith)
-      pick (suc j) z i = let k : suc j - 1 ≡ j = omega arith in rw k (rw (sym is ∙ not-false t e) at i)
-
-pub unadmitted_none : (policy : Policy) (bits k p x : ℕ) → unadmitted_from policy bits k p ≡ x → k ≤ 0 → all_ones ≡ x
-unfolding unadmitted_from
-unadmitted_none policy bits zero p x inv h = inv
-unadmitted_none policy bits (suc k) p x inv h = absurd (omega arith)
+  unadmitted_none h = let k : 16 - p ≡ 0 = omega arith in rw k at inv
 
 -- An action by its kind: the permission that it fails by ..
 module _ (policy : Policy) (r : Bytes) (file : Option BlobfileRule) (x : ℕ) where
@@ -79,110 +76,125 @@ module _ (graded : Bool) (policy : Policy) (hkm hkre : Option Bytes) (a : Action
   unfolding at_fault
   fault_graded e p = rw e p
 
-  pub fault_step : graded ≡ false → (f : Option Step) → f ≡ failure_under policy hkm hkre a → r ≡ present f → r ≡ at_fault graded policy hkm hkre a
+  pub fault_step : graded ≡ false → {A : Type 0} (x : Result A code.Step) → failure_as x ≡ failure_under policy hkm hkre a → r ≡ is_err x → r ≡ at_fault graded policy hkm hkre a
   unfolding at_fault
-  fault_step e f p q = rw e (q ∙ ap (λ (o : Option Step). present o) p)
+  fault_step e x p q = rw e (q ∙ failed x ∙ ap (λ (o : Option Step). present o) p)
+    where
+      failed : {A : Type 0} (x : Result A code.Step) → is_err x ≡ present (failure_as x)
+      failed (Ok z) = refl
+      failed (Err s) = refl
 
--- The groups from an offset on.
-groups_past : (s : Bytes) (at : ℕ) → 64 ≤ length s - at → (get_or s at 0 ≡ 1 → ⊥) → groups_of (records_from s at) ≡ groups_of (records_from s (at + 64))
-unfolding groups_of
-groups_past s at h n = ap groups_of (rows_at s at h) ∙ rw (kind_at s at, ne_eqb (get_or s at 0) 1 n)
+-- A count of the records so far fits 32 bits, in a file that is not too long.
+pub counted : (acl : Bytes) (xs : List Bytes) (k n : ℕ) → xs ≡ records acl → k < length xs → n ≤ k → length acl < 4294967295 → n + 1 < 4294967296
+unfolding records
+counted acl xs k n e h l s = let f = ap length e ∙ chunks_length (length acl / 64) acl in omega arith
 
-groups_at : (s : Bytes) (at : ℕ) → 64 ≤ length s - at → get_or s at 0 ≡ 1
-    → groups_of (records_from s at) ≡ group_of (lent_record s at) (records_from s (at + 64)) ∷ groups_of (records_from s (at + 64))
-unfolding groups_of
-groups_at s at h e =
-    let k : get_or (lent_record s at) 0 0 ≡ get_or s at 0 = ap (λ (l : Bytes). get_or l 0 0) (lent_record_lem s at) ∙ kind_at s at in
-    let one : eqb (kind (lent_record s at)) 1 ≡ true = rw k (eq-eqb (get_or s at 0) 1 e) in
-    ap groups_of (rows_lent s at h) ∙ rw one
-
-groups_end : (s : Bytes) (at : ℕ) → length s - at < 64 → groups_of (records_from s at) ≡ []
-unfolding groups_of
-groups_end s at h = ap groups_of (rows_end s at h)
-
--- What is left of an ACL from an offset on: the actions of group g from index i on, where they are checked, and then the groups from index n on.
+-- What is left of an ACL's records: the actions of group g from index i on, where they are checked, and then the groups from index n on.
 module _ (officer : Option Bytes) (faulty : Action → Bool) where
   abbrev actions_left : Bool → ℕ → ℕ → List Action → Option Located
   actions_left checked g i list = if checked then in_actions faulty g i list else none
 
-  -- shut, so that a search reads the file and the offset off it
-  unfoldable pub left : Bool → ℕ → ℕ → ℕ → Bytes → ℕ → Option Located
-  left checked g n i s at = or_next (actions_left checked g i (actions_of (records_from s at))) (in_groups (skipped officer) faulty n (groups_of (records_from s at)))
+  -- shut, so that a search reads the records off it
+  unfoldable pub left : Bool → ℕ → ℕ → ℕ → List Bytes → Option Located
+  left checked g n i rs = or_next (actions_left checked g i (actions_of rs)) (in_groups (skipped officer) faulty n (groups_of rs))
 
   none_left : (checked : Bool) (g i : ℕ) → actions_left checked g i [] ≡ none
   unfolding in_actions
   none_left true g i = refl
   none_left false g i = refl
 
-  -- what is passed over on the way to the next group or action changes nothing
-  part_left : (checked : Bool) (g n i : ℕ) (s : Bytes) (at r : ℕ) → NextPart s at r → left checked g n i s r ≡ left checked g n i s at
-  unfolding left records_from
-  part_left checked g n i s at r e = rw (e.actions, e.groups)
-
-  pub left_begun : (s : Bytes) (r : ℕ) → NextPart s 0 r → left false 0 0 0 s r ≡ in_groups (skipped officer) faulty 0 (groups_of (records s))
-  unfolding left records_from
-  left_begun s r q = part_left false 0 0 0 s 0 r q
+  pub left_begun : (xs rs : List Bytes) → xs ≡ rs → left false 0 0 0 (drop 0 xs) ≡ in_groups (skipped officer) faulty 0 (groups_of rs)
+  unfolding left
+  left_begun xs rs e = rw e
 
   flip : (t : Bool) (x y : Option Located) → or_next (if not t then x else none) y ≡ or_next (if t then none else x) y
   flip true x y = refl
   flip false x y = refl
 
-  -- The turns of the loop.
-  module _ (checked : Bool) (g n i : ℕ) (s : Bytes) (at : ℕ) (x : Option Located) (inv : left checked g n i s at ≡ x) where
-    group_next : (officers : Bool) → 64 ≤ length s - at → get_or s at 0 ≡ 1 → officers ≡ both_same officer (optional (flag 0 (lent_record s at)) (part 4 hash_bytes (lent_record s at)))
-        → left (not officers) n (n + 1) 0 s (at + 64) ≡ x
-    unfolding left in_groups skipped
-    group_next officers h e is =
-        flip officers (in_actions faulty n 0 (actions_of (records_from s (at + 64)))) (in_groups (skipped officer) faulty (n + 1) (groups_of (records_from s (at + 64))))
-        ∙ sym (rw (acts_group s at h e, none_left checked g i, groups_at s at h e, is))
-        ∙ inv
+  -- one record, and the rest
+  module _ (checked : Bool) (g n i : ℕ) (r : Bytes) (rs : List Bytes) where
+    group_turn : kind r ≡ 1 → left (not (both_same officer (optional (flag 0 r) (part 4 hash_bytes r)))) n (n + 1) 0 rs ≡ left checked g n i (r ∷ rs)
+    unfolding left in_groups skipped actions_of groups_of
+    group_turn e =
+        flip (both_same officer (optional (flag 0 r) (part 4 hash_bytes r))) (in_actions faulty n 0 (actions_of rs)) (in_groups (skipped officer) faulty (n + 1) (groups_of rs))
+        ∙ sym (rw (eq-eqb (kind r) 1 e, none_left checked g i))
 
-    pub left_group : (officers : Bool) → 64 ≤ length s - at → get_or s at 0 ≡ 1 → officers ≡ both_same officer (optional (flag 0 (lent_record s at)) (part 4 hash_bytes (lent_record s at)))
-        → (r : ℕ) → NextPart s (at + 64) r → left (not officers) n (n + 1) 0 s r ≡ x
-    left_group officers h e is r q = part_left (not officers) n (n + 1) 0 s (at + 64) r q ∙ group_next officers h e is
+    unchecked_turn : (kind r ≡ 1 → ⊥) → left false g n i rs ≡ left false g n i (r ∷ rs)
+    unfolding left groups_of
+    unchecked_turn m = sym (rw (ne_eqb (kind r) 1 m))
 
-    -- what is not checked
-    pub left_past : 64 ≤ length s - at → (get_or s at 0 ≡ 1 → ⊥) → not checked ≡ true → (r : ℕ) → NextPart s (at + 64) r → left checked g n i s r ≡ x
-    unfolding left
-    left_past h m t r q = part_left checked g n i s (at + 64) r q ∙ pick checked t inv
+    over_turn : (kind r ≡ 1 → ⊥) → passed_over (kind r) ≡ true → left checked g n i rs ≡ left checked g n i (r ∷ rs)
+    unfolding left groups_of actions_of
+    over_turn m o = sym (rw (ne_eqb (kind r) 1 m) (pick (eqb (kind r) 2) (eqb (kind r) 15) o))
       where
-        pick : (c : Bool) → not c ≡ true → left c g n i s at ≡ x → left c g n i s (at + 64) ≡ x
-        pick true p v = absurd (false≢true p)
-        pick false p v = rw (groups_past s at h m) at v
+        pick : (a b : Bool) → (a || b) ≡ true
+            → or_next (actions_left checked g i (if a then actions_of rs else if b then actions_of rs else action_of r (blobfile_rule_next rs) ∷ actions_of rs)) (in_groups (skipped officer) faulty n (groups_of rs))
+            ≡ or_next (actions_left checked g i (actions_of rs)) (in_groups (skipped officer) faulty n (groups_of rs))
+        pick true b z = refl
+        pick false true z = refl
+        pick false false z = absurd (false≢true z)
+
+    action_turn : (kind r ≡ 1 → ⊥) → passed_over (kind r) ≡ false
+        → (if faulty (action_of r (blobfile_rule_next rs)) then some (record { group = g; action = i; found = action_of r (blobfile_rule_next rs) }) else left true g n (i + 1) rs) ≡ left true g n i (r ∷ rs)
+    unfolding left groups_of actions_of in_actions
+    action_turn m o = sym (rw (ne_eqb (kind r) 1 m) (pick (eqb (kind r) 2) (eqb (kind r) 15) o))
+      where
+        a : Action
+        a = action_of r (blobfile_rule_next rs)
+
+        chosen : (t : Bool) (y z : Option Located) (l : Located) → or_next (if t then some l else y) z ≡ (if t then some l else or_next y z)
+        chosen true y z l = refl
+        chosen false y z l = refl
+
+        pick : (b c : Bool) → (b || c) ≡ false
+            → or_next (in_actions faulty g i (if b then actions_of rs else if c then actions_of rs else a ∷ actions_of rs)) (in_groups (skipped officer) faulty n (groups_of rs))
+            ≡ (if faulty a then some (record { group = g; action = i; found = a }) else or_next (in_actions faulty g (i + 1) (actions_of rs)) (in_groups (skipped officer) faulty n (groups_of rs)))
+        pick true c z = absurd (false≢true (sym z))
+        pick false true z = absurd (false≢true (sym z))
+        pick false false z = chosen (faulty a) (in_actions faulty g (i + 1) (actions_of rs)) (in_groups (skipped officer) faulty n (groups_of rs)) (record { group = g; action = i; found = a })
+
+  -- The turns of the loop: the k-th record of xs.
+  module _ (checked : Bool) (g n i : ℕ) (xs : List Bytes) (k : ℕ) (x : Option Located) (inv : left checked g n i (drop k xs) ≡ x) where
+    abbrev here : Bytes
+    here = get_or xs k []
+
+    opened : k < length xs → left checked g n i (here ∷ drop (k + 1) xs) ≡ x
+    opened h = sym (ap (left checked g n i) (left_at xs k h)) ∙ inv
+
+    pub left_group : (officers : Bool) → k < length xs → kind here ≡ 1 → officers ≡ both_same officer (optional (flag 0 here) (part 4 hash_bytes here)) → left (not officers) n (n + 1) 0 (drop (k + 1) xs) ≡ x
+    left_group officers h e is = rw is (group_turn checked g n i here (drop (k + 1) xs) e ∙ opened h)
+
+    -- what is not checked, or no action
+    pub left_past : (o : Bool) → k < length xs → (kind here ≡ 1 → ⊥) → o ≡ passed_over (kind here) → (not checked || o) ≡ true → left checked g n i (drop (k + 1) xs) ≡ x
+    left_past o h m is t = pick checked t (opened h)
+      where
+        pick : (c : Bool) → (not c || o) ≡ true → left c g n i (here ∷ drop (k + 1) xs) ≡ x → left c g n i (drop (k + 1) xs) ≡ x
+        pick true z v = over_turn true g n i here (drop (k + 1) xs) m (sym is ∙ z) ∙ v
+        pick false z v = unchecked_turn false g n i here (drop (k + 1) xs) m ∙ v
 
     -- an action that is checked
-    module _ (h : 64 ≤ length s - at) (m : get_or s at 0 ≡ 1 → ⊥) (t : not checked ≡ false) (o : 64 ≤ length s - at → passed_over (get_or s at 0) ≡ false)
-        (r : Bool) (is : (file : Option BlobfileRule) → r ≡ faulty (action_of (lent_record s at) file)) where
-      is_here : faulty (action_from s at) ≡ r
-      is_here = let f = blobfile_rule_next (records (drop (at + 64) s)) in sym (is f ∙ ap (λ (b : Bytes). faulty (action_of b f)) (lent_record_lem s at))
+    module _ (o : Bool) (h : k < length xs) (m : kind here ≡ 1 → ⊥) (no : o ≡ passed_over (kind here)) (t : (not checked || o) ≡ false)
+        (r : Bool) (is : (file : Option BlobfileRule) → r ≡ faulty (action_of here file)) where
+      abbrev found : Action
+      found = action_of here (blobfile_rule_next (drop (k + 1) xs))
 
-      action_step : (if r then some (record { group = g; action = i; found = action_from s at }) else left checked g n (i + 1) s (at + 64)) ≡ x
-      unfolding left in_actions records_from
-      action_step = pick checked t inv
+      action_step : (if r then some (record { group = g; action = i; found = found }) else left checked g n (i + 1) (drop (k + 1) xs)) ≡ x
+      action_step = pick checked t (opened h)
         where
-          pick : (c : Bool) → not c ≡ false → left c g n i s at ≡ x → (if r then some (record { group = g; action = i; found = action_from s at }) else left c g n (i + 1) s (at + 64)) ≡ x
-          pick true p v = each r is_here (rw (acts_here s at h m (o h), groups_past s at h m) at v)
-            where
-              each : (b : Bool) → faulty (action_from s at) ≡ b
-                  → or_next (if faulty (action_from s at) then some (record { group = g; action = i; found = action_from s at }) else in_actions faulty g (i + 1) (actions_of (records (drop (at + 64) s)))) (in_groups (skipped officer) faulty n (groups_of (records (drop (at + 64) s)))) ≡ x
-                  → (if b then some (record { group = g; action = i; found = action_from s at }) else left true g n (i + 1) s (at + 64)) ≡ x
-              each true k w = rw k at w
-              each false k w = rw k at w
-          pick false p v = absurd (false≢true (sym p))
+          pick : (c : Bool) → (not c || o) ≡ false → left c g n i (here ∷ drop (k + 1) xs) ≡ x → (if r then some (record { group = g; action = i; found = found }) else left c g n (i + 1) (drop (k + 1) xs)) ≡ x
+          pick true z v = rw (is (blobfile_rule_next (drop (k + 1) xs))) (action_turn true g n i here (drop (k + 1) xs) m (sym no ∙ z) ∙ v)
+          pick false z v = absurd (false≢true (sym z))
 
-      pub left_next : r ≡ false → (z : ℕ) → NextPart s (at + 64) z → left checked g n (i + 1) s z ≡ x
-      left_next e z q = part_left checked g n (i + 1) s (at + 64) z q ∙ (rw e at action_step)
+      pub left_next : r ≡ false → left checked g n (i + 1) (drop (k + 1) xs) ≡ x
+      left_next e = rw e at action_step
 
-      pub left_found : r ≡ true → (policy : Policy) (permission : ℕ) → ((file : Option BlobfileRule) → permission ≡ permission_of policy (action_of (lent_record s at) file))
-          → record { group = g; action = i; permission = permission } ≡ spot_of policy x
-      left_found e policy permission p =
-          let f = blobfile_rule_next (records (drop (at + 64) s)) in
-          let k : permission ≡ permission_of policy (action_from s at) = p f ∙ ap (λ (b : Bytes). permission_of policy (action_of b f)) (lent_record_lem s at) in
-          rw k (ap (spot_of policy) (rw e at action_step))
+      pub left_found : r ≡ true → (policy : Policy) (permission : prelude.Option ℕ) → ((file : Option BlobfileRule) → permission_number permission ≡ permission_of policy (action_of here file))
+          → spot_as (Some (record { group = g; action = i; permission = permission })) ≡ spot_of policy x
+      left_found e policy permission p = rw (p (blobfile_rule_next (drop (k + 1) xs))) (ap (spot_of policy) (rw e at action_step))
 
-    pub left_done : length s - at < 64 → (policy : Policy) (spot : Spot) → ((p : Policy) → spot ≡ spot_of p none) → spot ≡ spot_of policy x
-    unfolding left in_groups
-    left_done h policy spot e = e policy ∙ ap (spot_of policy) (none_here ∙ inv)
+    pub left_done : length xs ≤ k → (policy : Policy) → spot_as None ≡ spot_of policy x
+    unfolding left in_groups groups_of actions_of
+    left_done h policy = ap (spot_of policy) (none_here ∙ inv)
       where
-        none_here : none ≡ left checked g n i s at
-        none_here = sym (rw (acts_end s at h, groups_end s at h, none_left checked g i))
+        none_here : none ≡ left checked g n i (drop k xs)
+        none_here = sym (ap (left checked g n i) (left_none xs k h) ∙ rw (none_left checked g i))

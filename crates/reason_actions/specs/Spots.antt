@@ -1,5 +1,6 @@
 -- Where the desk's steps over an ACL fail: the first action in record order, with its group and its index among the group's actions.
-use Rattle.std.specs.Prelude.{ℕ, zero, suc, ◌+◌, List, [], ◌∷◌, Bool, true, false, ltb, if◌then◌else◌}
+use Rattle.std.specs.Prelude.{ℕ, zero, suc, ◌+◌, List, [], ◌∷◌, Bool, true, false, ltb, if◌then◌else◌, Some, None}
+use Rattle.std.specs.Prelude as prelude
 use Rattle.std.proofs.Math.Option.{Option, none, some}
 use Rattle.rules.specs.Numbers.{no_group}
 use Rattle.rules.specs.Basics.{Bytes, present, both_same, or_next}
@@ -12,6 +13,11 @@ use Rattle.reason_actions.specs.declared.Spot.{Spot}
 -- "All ones": nothing is named.
 abbrev pub all_ones : ℕ
 all_ones = no_group
+
+-- a permission in numbers
+abbrev pub permission_number : prelude.Option ℕ → ℕ
+permission_number None = all_ones
+permission_number (Some p) = p
 
 -- The lowest of k permissions from p on that is set and that the policy does not admit.
 unfoldable pub unadmitted_from : Policy → ℕ → ℕ → ℕ → ℕ
@@ -58,6 +64,19 @@ in_groups skips faulty g (x ∷ gs) =
     or_next (if skips x then none else in_actions faulty g 0 x.actions) (in_groups skips faulty (g + 1) gs)
 
 -- in numbers
-abbrev pub spot_of : Policy → Option Located → Spot
-spot_of policy none = record { group = all_ones; action = all_ones; permission = all_ones }
+pub record Numbers : Type 0 where
+  pub group : ℕ
+  pub action : ℕ
+  pub permission : ℕ
+
+abbrev pub nowhere : Numbers
+nowhere = record { group = all_ones; action = all_ones; permission = all_ones }
+
+abbrev pub spot_of : Policy → Option Located → Numbers
+spot_of policy none = nowhere
 spot_of policy (some l) = record { group = l.group; action = l.action; permission = permission_of policy l.found }
+
+-- what the code found, in numbers
+abbrev pub spot_as : prelude.Option Spot → Numbers
+spot_as None = nowhere
+spot_as (Some s) = record { group = s.group; action = s.action; permission = permission_number s.permission }

@@ -3,140 +3,96 @@
 #![tactic(auto)]
 
 ghost use Rattle.std.specs.Prelude.{◌≡◌, ◌<◌, length};
-ghost use Rattle.std.proofs.Math.Option.{Option, none};
-ghost use Rattle.rules.specs.Sizes.{record_bytes};
-ghost use Rattle.rules.specs.Basics.{present};
+ghost use Rattle.std.proofs.Math.Option.{Option};
 ghost use Rattle.rules.specs.Acl.{BlobfileRule, action_of, acl_of};
-ghost use Rattle.rules.specs.Bundle as rules;
-ghost use Rattle.bundle_facts.specs.Found.{policy_as};
-ghost use Rattle.desk_evidence.specs.Given.{given};
-ghost use Rattle.desk_steps.specs.Steps.{failure_as};
-ghost use Rattle.reason_actions.specs.Spots.{unadmitted_from, permission_of, below_lowest, at_fault, skipped, in_groups, spot_of};
+ghost use Rattle.bundle_facts.specs.Found.{bytes_as, policy_as};
+ghost use Rattle.reason_actions.specs.Spots.{permission_number, unadmitted_from, permission_of, below_lowest, at_fault, skipped, in_groups, spot_as, spot_of};
 
 use bundle_facts::Policy;
-use desk_steps::Failure;
+use desk_actions::Terms;
+use record_sizes::Record;
 
-// The group and the action, and the permission that the policy does not admit; all ones where none is named.
-#[derive(Clone, Copy)]
+// The group and the action, and the permission that the policy does not admit, if the action fails by one.
+#[derive(Clone, Copy, Debug, PartialEq, Eq)]
 pub struct Spot {
     pub group: u32,
     pub action: u32,
-    pub permission: u32,
+    pub permission: Option<u16>,
 }
 
-const ALL_ONES: u32 = 4294967295;
-
-// The lowest permission that is set and that a policy does not admit. `left` are those from b on.
-fn lowest_unadmitted(policy: Policy, bits: u16) -> u32
-    ensures { result ≡ unadmitted_from (policy_as policy) bits 16 0 }
+// The lowest permission that is set and that a policy does not admit.
+fn lowest_unadmitted(policy: Policy, bits: u16) -> Option<u16>
+    ensures { permission_number result ≡ unadmitted_from (policy_as policy) bits 16 0 }
 {
-    let mut b = 0;
-    let mut left: u16 = 16;
-    while 0 < left {
+    for b in 0..16 {
         if !desk_actions::bit_admitted(policy, bits, b) {
-            return b as u32;
+            return Some(b);
         }
-        b += 1;
-        left -= 1;
     }
-    ALL_ONES
+    None
 }
 
 // The permission that an action of permissions fails by.
-fn permission_of(policy: Policy, rec: &[u8]) -> u32
-    requires { length rec.now ≡ record_bytes }
-    ensures { (file : Option BlobfileRule) → result ≡ permission_of (policy_as policy) (action_of rec.now file) }
+fn permission_of(policy: Policy, rec: &Record) -> Option<u16>
+    ensures { (file : Option BlobfileRule) → permission_number result ≡ permission_of (policy_as policy) (action_of rec.now file) }
 {
-    if rec[0] == 3 {
+    if rec[0] == record_kinds::OP_PERMISSIONS {
         return lowest_unadmitted(policy, record_fields::be16(rec, 4));
     }
-    ALL_ONES
+    None
 }
 
 // Whether an action is a MakeBlob action whose protection is below the lowest.
-fn below_lowest(lowest: u8, rec: &[u8]) -> bool
-    requires { length rec.now ≡ record_bytes }
+fn below_lowest(lowest: u8, rec: &Record) -> bool
     ensures { (file : Option BlobfileRule) → result ≡ below_lowest lowest (action_of rec.now file) }
 {
-    if rec[0] != 4 {
+    if rec[0] != record_kinds::MAKE_BLOB {
         return false;
     }
     desk_actions::blob_protection(rec) < lowest
 }
 
-// Whether a step fails.
-fn is_failure(f: Failure) -> bool
-    ensures { result ≡ present (failure_as f) }
-{
-    match f {
-        Failure::Nothing => false,
-        Failure::At(_) => true,
-    }
-}
-
 // Whether an action fails KV3, where `graded`, or a step of the ACL.
-fn at_fault(graded: bool, policy: Policy, hkm: &[u8], hkre: &[u8], rec: &[u8]) -> bool
-    requires { length rec.now ≡ record_bytes }
-    ensures { (file : Option BlobfileRule) → result ≡ at_fault graded (policy_as policy) (given hkm.now) (given hkre.now) (action_of rec.now file) }
+fn at_fault(graded: bool, terms: Terms, rec: &Record) -> bool
+    ensures { (file : Option BlobfileRule) → result ≡ at_fault graded (policy_as terms.entry.policy) (bytes_as terms.entry.hkm) (bytes_as terms.entry.hkre) (action_of rec.now file) }
 {
     if graded {
-        return below_lowest(policy.lowest, rec);
+        return below_lowest(terms.policy.lowest, rec);
     }
-    is_failure(desk_actions::action_steps(policy, hkm, hkre, rec))
-}
-
-// No action.
-pub fn nowhere() -> Spot
-    ensures { (p : rules.Policy) → result ≡ spot_of p none }
-{
-    Spot {
-        group: ALL_ONES,
-        action: ALL_ONES,
-        permission: ALL_ONES,
-    }
+    terms.action_steps(rec).is_err()
 }
 
 // The first action at fault, by one walk over groups and actions. `checked` is whether the actions at this point are checked: not before the first group,
 // and not in a group that the officer's key certifies. `next` is the index of the next group.
-pub fn first_at_fault(
-    graded: bool,
-    officer: &[u8],
-    policy: Policy,
-    hkm: &[u8],
-    hkre: &[u8],
-    acl: &[u8],
-) -> Spot
+// stays: `graded`, for the promise names the fault by one function of it; of a closure it could say only what its calls may answer.
+pub fn first_at_fault(graded: bool, terms: Terms, acl: &[u8]) -> Option<Spot>
     requires { length acl.now < 4294967295 }
-    ensures { result ≡ spot_of (policy_as policy) (in_groups (skipped (given officer.now)) (at_fault graded (policy_as policy) (given hkm.now) (given hkre.now)) 0 (acl_of acl.now)) }
+    ensures { spot_as result ≡ spot_of (policy_as terms.entry.policy) (in_groups (skipped (bytes_as terms.entry.officer)) (at_fault graded (policy_as terms.entry.policy) (bytes_as terms.entry.hkm) (bytes_as terms.entry.hkre)) 0 (acl_of acl.now)) }
 {
     let mut group: u32 = 0;
     let mut next: u32 = 0;
     let mut action: u32 = 0;
     let mut checked = false;
-    let mut at = acl_groups::next_part(acl, 0);
-    while record_sizes::RECORD <= acl.len() - at {
-        let rec = &acl[at..at + record_sizes::RECORD];
-        if acl[at] == 1 {
-            checked = !desk_actions::names_key(officer, 0, 4, rec);
+    for rec in record_fields::records(acl) {
+        if rec[0] == record_kinds::GROUP {
+            checked = !terms.names_officer(rec);
             group = next;
             next += 1;
             action = 0;
-            at = acl_groups::next_part(acl, at + record_sizes::RECORD);
             continue;
         }
-        if !checked {
-            at = acl_groups::next_part(acl, at + record_sizes::RECORD);
+        if !checked | acl_groups::is_passed_over(rec[0]) {
             continue;
         }
-        if at_fault(graded, policy, hkm, hkre, rec) {
-            return Spot {
+        if at_fault(graded, terms, rec) {
+            let permission = permission_of(terms.policy, rec);
+            return Some(Spot {
                 group,
                 action,
-                permission: permission_of(policy, rec),
-            };
+                permission,
+            });
         }
         action += 1;
-        at = acl_groups::next_part(acl, at + record_sizes::RECORD);
     }
-    nowhere()
+    None
 }

@@ -5,24 +5,27 @@ use mathlib.Core.Path.{◌≡◌, refl, sym, ◌∙◌, ap}
 use mathlib.Core.List.{List, [], ◌∷◌}
 use mathlib.Core.Bool.{Bool, true, false}
 use lib.ListN.{get_or, drop}
-use Rattle.std.specs.Prelude.{if◌then◌else◌}
+use mathlib.Core.Option.{some}
+use Rattle.std.specs.Prelude.{Result, Ok, Err, if◌then◌else◌}
 use Rattle.rules.specs.Basics.{Bytes, records}
 use Rattle.rules.specs.Acl.{Group, limits_of, acl_of}
 use Rattle.rules.specs.Request.{Request, request_of, hints_of}
 use Rattle.rules.specs.Ledger.{Ledger}
 use Rattle.rules.specs.Grant.{group_admits}
-use Rattle.rules.specs.Gate.{Lowest, not_found, group, lowest, Denial, early, unadmitted, uncertified, exhausted, Judgement, granted, denied, too_early, grants, admits_certified, or_else, judge}
+use Rattle.rules.specs.Gate.{Lowest, not_found, group, lowest, early, unadmitted, uncertified, exhausted, Judgement, granted, denied, too_early, grants, admits_certified, or_else, judge}
 use Rattle.rules.proofs.Laws.{never}
 use Rattle.acl_groups.specs.Parts.{first_limits}
 use Rattle.refusals.specs.Refusals.{denial_number, denial_group}
 use Rattle.refusals.specs.declared.Denial as code
 use Rattle.refusals.specs.declared.Denial.TheVariants.{Spent}
 use Rattle.gate_decision.specs.Standings.{judged_for}
-use Rattle.gate_decision.specs.declared.Judged.{Judged}
-use Rattle.gate_decision.specs.declared.Judged.TheVariants.{Granted, Denied}
 use Rattle.request_reader.specs.Parts.{Sound}
 use Rattle.gate_files.proofs.Passed.{files_sound, narrow_sound, expand_sound}
-use Rattle.reason_inputs.specs.Inputs.{InputPlace, is_fault, inputs_place, request_inputs, narrow_inputs, expand_inputs}
+use Rattle.reason_files.specs.Places.{place_as}
+use Rattle.reason_files.specs.declared.FilePlace.{FilePlace}
+use Rattle.reason_inputs.specs.declared.Input.{Input}
+use Rattle.reason_inputs.proofs.Laws.{err_is_fault}
+use Rattle.reason_inputs.specs.Inputs.{InputPlace, no_input, input_at, is_fault, inputs_place, request_inputs, narrow_inputs, expand_inputs}
 use Rattle.reason_inputs.proofs.Inputs.{request_inputs_sound, narrow_inputs_sound, expand_inputs_sound}
 use Rattle.reason_limits.specs.Limits.{spent_with}
 use Rattle.reason_limits.specs.declared.SpentBy.{SpentBy}
@@ -30,20 +33,17 @@ use Rattle.reason_narrowing.specs.Breaches.{narrowing_of}
 use Rattle.reason_narrowing.specs.declared.Narrowing.{Narrowing}
 use Rattle.reason_calls.specs.Calls.{CallPlace, permitted, bad_input, denial, judged_place, input_or, narrowing_place, locate_request, locate_narrow, locate_expand, spent_at, judged_at}
 
--- an input at fault, or not
-module _ (p q : InputPlace) (next : CallPlace) (x : Bool) (e : p ≡ q) (d : x ≡ is_fault p.place) where
-  fault_is : is_fault q.place ≡ x
-  fault_is = sym (d ∙ ap (λ (z : InputPlace). is_fault z.place) e)
+-- an input at fault, or none
+input_bad : (q : InputPlace) (next : CallPlace) (i : Input) (f : FilePlace) → input_at i (place_as (Err f)) ≡ q → bad_input (some i) (place_as (Err f)) ≡ input_or q next
+input_bad q next i f e =
+    let h : input_or (input_at i (place_as (Err f))) next ≡ bad_input (some i) (place_as (Err f)) = rw (err_is_fault f) in
+    sym h ∙ ap (λ (z : InputPlace). input_or z next) e
 
-  input_bad : x ≡ true → bad_input p.input p.place ≡ input_or q next
-  input_bad h = ap (λ (z : InputPlace). bad_input z.input z.place) e ∙ sym (rw (fault_is ∙ h))
+input_good : (q : InputPlace) (next r : CallPlace) → no_input ≡ q → r ≡ next → r ≡ input_or q next
+input_good q next r e f = f ∙ ap (λ (z : InputPlace). input_or z next) e
 
-  input_good : (r : CallPlace) → x ≡ false → r ≡ next → r ≡ input_or q next
-  input_good r h f = f ∙ sym (rw (fault_is ∙ h))
-
--- inputs without fault
-not_at_fault : (p q : InputPlace) (x : Bool) → p ≡ q → x ≡ is_fault p.place → x ≡ false → is_fault q.place ≡ false
-not_at_fault p q x e d h = sym (ap (λ (z : InputPlace). is_fault z.place) e) ∙ sym d ∙ h
+not_at_fault : (q : InputPlace) → no_input ≡ q → is_fault q.place ≡ false
+not_at_fault q e = sym (ap (λ (z : InputPlace). is_fault z.place) e)
 
 -- the limits of the lowest group that passes a test
 lowest_limits : (test : ℕ → Group → Bool) (place : ℕ) (gs : List Group) (k : ℕ) (g : Group) → lowest test place gs ≡ group k g → (i : ℕ) × (k ≡ place + i) × (first_limits (drop i gs) ≡ g.limits)
@@ -85,7 +85,7 @@ module _ (l : Ledger) (km0 : Bytes) (gs : List Group) (q : Request) where
       pick false not_found not_found f not_found z = absurd (never (cc))
 
   -- the answer to the code's judgement is that to the definition's
-  pub judged_is : (on_permit r : CallPlace) (j : Judged) (since time : ℕ) → j ≡ judged_for (judge l km0 gs q) → time ≡ q.time → since ≡ time - l.loaded
+  pub judged_is : (on_permit r : CallPlace) (j : Result ℕ code.Denial) (since time : ℕ) → j ≡ judged_for (judge l km0 gs q) → time ≡ q.time → since ≡ time - l.loaded
       → r ≡ judged_at l.counts l.counters since gs on_permit j → r ≡ judged_place l q on_permit (judge l km0 gs q)
   judged_is on_permit r j since time e t s p =
       p ∙ ap (judged_at l.counts l.counters since gs on_permit) e ∙ pick (judge l km0 gs q) refl
@@ -106,48 +106,48 @@ module _ (counts counters : List ℕ) (since : ℕ) (acl : Bytes) (d : code.Deni
       h ∙ z ∙ sym (ap (spent_at counts counters since (acl_of acl)) e)
 
 -- the answer to a judgement, by its case
-module _ (counts counters : List ℕ) (since : ℕ) (gs : List Group) (p : CallPlace) (j : Judged) where
-  pub at_granted : (k : ℕ) → j ≡ Granted k → p ≡ judged_at counts counters since gs p j
+module _ (counts counters : List ℕ) (since : ℕ) (gs : List Group) (p : CallPlace) (j : Result ℕ code.Denial) where
+  pub at_granted : (k : ℕ) → j ≡ Ok k → p ≡ judged_at counts counters since gs p j
   at_granted k e = sym (ap (judged_at counts counters since gs p) e)
 
-  pub at_denied : (d : code.Denial) (s : SpentBy) → j ≡ Denied d → s ≡ spent_at counts counters since gs d → denial (denial_number d) (denial_group d) s ≡ judged_at counts counters since gs p j
+  pub at_denied : (d : code.Denial) (s : SpentBy) → j ≡ Err d → s ≡ spent_at counts counters since gs d → denial (denial_number d) (denial_group d) s ≡ judged_at counts counters since gs p j
   at_denied d s e f = ap (denial (denial_number d) (denial_group d)) f ∙ sym (ap (judged_at counts counters since gs p) e)
 
 -- The three calls, by the input at fault and the judgement.
-module _ (km0 acl req : Bytes) (p : InputPlace) (x : Bool) (e : p ≡ inputs_place (request_inputs km0 acl req)) (d : x ≡ is_fault p.place) where
-  pub request_bad : (l : Ledger) → x ≡ true → bad_input p.input p.place ≡ locate_request l km0 acl req
+module _ (km0 acl req : Bytes) where
+  pub request_bad : (l : Ledger) (i : Input) (f : FilePlace) → input_at i (place_as (Err f)) ≡ inputs_place (request_inputs km0 acl req) → bad_input (some i) (place_as (Err f)) ≡ locate_request l km0 acl req
   unfolding locate_request
-  request_bad l h = input_bad p _ _ x e d h
+  request_bad l i f e = input_bad _ _ i f e
 
-  pub request_ready : x ≡ false → Sound req
-  request_ready h = (files_sound km0 acl req (request_inputs_sound km0 acl req (not_at_fault p _ x e d h))).0
+  pub request_ready : no_input ≡ inputs_place (request_inputs km0 acl req) → Sound req
+  request_ready e = (files_sound km0 acl req (request_inputs_sound km0 acl req (not_at_fault _ e))).0
 
-  pub request_judged : (l : Ledger) (r : CallPlace) → x ≡ false → r ≡ judged_place l (request_of req) permitted (judge l km0 (acl_of acl) (request_of req)) → r ≡ locate_request l km0 acl req
+  pub request_judged : (l : Ledger) (r : CallPlace) → no_input ≡ inputs_place (request_inputs km0 acl req) → r ≡ judged_place l (request_of req) permitted (judge l km0 (acl_of acl) (request_of req)) → r ≡ locate_request l km0 acl req
   unfolding locate_request
-  request_judged l r h f = input_good p _ _ x e d r h f
+  request_judged l r e f = input_good _ _ r e f
 
-module _ (km0 acl req new hints : Bytes) (p : InputPlace) (x : Bool) (e : p ≡ inputs_place (narrow_inputs km0 acl req new hints)) (d : x ≡ is_fault p.place) where
-  pub narrow_bad : (l : Ledger) → x ≡ true → bad_input p.input p.place ≡ locate_narrow l km0 acl req new hints
+module _ (km0 acl req new hints : Bytes) where
+  pub narrow_bad : (l : Ledger) (i : Input) (f : FilePlace) → input_at i (place_as (Err f)) ≡ inputs_place (narrow_inputs km0 acl req new hints) → bad_input (some i) (place_as (Err f)) ≡ locate_narrow l km0 acl req new hints
   unfolding locate_narrow
-  narrow_bad l h = input_bad p _ _ x e d h
+  narrow_bad l i f e = input_bad _ _ i f e
 
-  pub narrow_ready : x ≡ false → Sound req
-  narrow_ready h = (narrow_sound km0 acl req new hints (narrow_inputs_sound km0 acl req new hints (not_at_fault p _ x e d h))).0
+  pub narrow_ready : no_input ≡ inputs_place (narrow_inputs km0 acl req new hints) → Sound req
+  narrow_ready e = (narrow_sound km0 acl req new hints (narrow_inputs_sound km0 acl req new hints (not_at_fault _ e))).0
 
-  pub narrow_judged : (l : Ledger) (r on_permit : CallPlace) (n : Narrowing) → x ≡ false → n ≡ narrowing_of (acl_of acl) (acl_of new) (hints_of hints) → on_permit ≡ narrowing_place n
+  pub narrow_judged : (l : Ledger) (r on_permit : CallPlace) (n : Narrowing) → no_input ≡ inputs_place (narrow_inputs km0 acl req new hints) → n ≡ narrowing_of (acl_of acl) (acl_of new) (hints_of hints) → on_permit ≡ narrowing_place n
       → r ≡ judged_place l (request_of req) on_permit (judge l km0 (acl_of acl) (request_of req)) → r ≡ locate_narrow l km0 acl req new hints
   unfolding locate_narrow
-  narrow_judged l r on_permit n h f g k =
-      input_good p _ _ x e d r h (k ∙ ap (λ (z : CallPlace). judged_place l (request_of req) z (judge l km0 (acl_of acl) (request_of req))) (g ∙ ap narrowing_place f))
+  narrow_judged l r on_permit n e f g k =
+      input_good _ _ r e (k ∙ ap (λ (z : CallPlace). judged_place l (request_of req) z (judge l km0 (acl_of acl) (request_of req))) (g ∙ ap narrowing_place f))
 
-module _ (km0 acl req new : Bytes) (p : InputPlace) (x : Bool) (e : p ≡ inputs_place (expand_inputs km0 acl req new)) (d : x ≡ is_fault p.place) where
-  pub expand_bad : (l : Ledger) → x ≡ true → bad_input p.input p.place ≡ locate_expand l km0 acl req new
+module _ (km0 acl req new : Bytes) where
+  pub expand_bad : (l : Ledger) (i : Input) (f : FilePlace) → input_at i (place_as (Err f)) ≡ inputs_place (expand_inputs km0 acl req new) → bad_input (some i) (place_as (Err f)) ≡ locate_expand l km0 acl req new
   unfolding locate_expand
-  expand_bad l h = input_bad p _ _ x e d h
+  expand_bad l i f e = input_bad _ _ i f e
 
-  pub expand_ready : x ≡ false → Sound req
-  expand_ready h = (expand_sound km0 acl req new (expand_inputs_sound km0 acl req new (not_at_fault p _ x e d h))).0
+  pub expand_ready : no_input ≡ inputs_place (expand_inputs km0 acl req new) → Sound req
+  expand_ready e = (expand_sound km0 acl req new (expand_inputs_sound km0 acl req new (not_at_fault _ e))).0
 
-  pub expand_judged : (l : Ledger) (r : CallPlace) → x ≡ false → r ≡ judged_place l (request_of req) permitted (judge l km0 (acl_of acl) (request_of req)) → r ≡ locate_expand l km0 acl req new
+  pub expand_judged : (l : Ledger) (r : CallPlace) → no_input ≡ inputs_place (expand_inputs km0 acl req new) → r ≡ judged_place l (request_of req) permitted (judge l km0 (acl_of acl) (request_of req)) → r ≡ locate_expand l km0 acl req new
   unfolding locate_expand
-  expand_judged l r h f = input_good p _ _ x e d r h f
+  expand_judged l r e f = input_good _ _ r e f

@@ -1,6 +1,6 @@
 -- Where the first fault of a call is: the input and the record that is at fault; for 7 the limit that is spent; for 8 what breaks the narrowing.
-use Rattle.std.specs.Prelude.{ℕ, ◌-◌, List, get_or, drop, if◌then◌else◌}
-use Rattle.std.proofs.Math.Option.{Option}
+use Rattle.std.specs.Prelude.{ℕ, Result, Ok, Err, ◌-◌, List, get_or, drop, if◌then◌else◌}
+use Rattle.std.proofs.Math.Option.{Option, some}
 use Rattle.rules.specs.Basics.{Bytes}
 use Rattle.rules.specs.Acl.{Group, acl_of}
 use Rattle.rules.specs.Request.{Request, request_of, hints_of}
@@ -10,8 +10,6 @@ use Rattle.acl_groups.specs.Parts.{first_limits}
 use Rattle.refusals.specs.Refusals.{denial_number, denial_group}
 use Rattle.refusals.specs.declared.Denial as code
 use Rattle.refusals.specs.declared.Denial.TheVariants.{ClockBack, NotAdmitted, NotCertified, Spent}
-use Rattle.gate_decision.specs.declared.Judged.{Judged}
-use Rattle.gate_decision.specs.declared.Judged.TheVariants.{Granted, Denied}
 use Rattle.reason_files.specs.Places.{Place, place_as}
 use Rattle.reason_inputs.specs.Inputs.{InputPlace, is_fault, inputs_place, request_inputs, narrow_inputs, expand_inputs}
 use Rattle.reason_inputs.specs.declared.Input.{Input}
@@ -29,7 +27,7 @@ use Rattle.reason_calls.specs.declared.CallPlace.TheVariants as place
 -- breaks the narrowing.
 pub data CallPlace : Type 0 where
   permitted : CallPlace
-  bad_input : Input → Place → CallPlace
+  bad_input : Option Input → Place → CallPlace
   denial : ℕ → Option ℕ → SpentBy → CallPlace
   not_shown : ℕ → Breach → CallPlace
 
@@ -73,11 +71,11 @@ locate_expand l km0 acl req new =
     (judged_place l (request_of req) permitted (judge l km0 (acl_of acl) (request_of req)))
 
 -- the code's answer
-abbrev pub call_place_as : calls.CallPlace → CallPlace
-call_place_as place.Permitted = permitted
-call_place_as (place.BadInput i p) = bad_input i (place_as p)
-call_place_as (place.Denied d s) = denial (denial_number d) (denial_group d) s
-call_place_as (place.NotNarrower i b) = not_shown i b
+abbrev pub call_place_as : Result (Unit {0}) calls.CallPlace → CallPlace
+call_place_as (Ok x) = permitted
+call_place_as (Err (place.BadInput i p)) = bad_input (some i) (place_as (Err p))
+call_place_as (Err (place.Denied d s)) = denial (denial_number d) (denial_group d) s
+call_place_as (Err (place.NotNarrower i b)) = not_shown i b
 
 -- what is spent by the code's denial, which names the group by its index, with the seconds since load
 abbrev pub spent_at : List ℕ → List ℕ → ℕ → List Group → code.Denial → SpentBy
@@ -87,6 +85,6 @@ spent_at counts counters since gs (NotCertified k) = by.Nothing
 spent_at counts counters since gs (Spent k) = spent_with counters (get_or counts k 0) since (first_limits (drop k gs))
 
 -- by the code's judgement
-abbrev pub judged_at : List ℕ → List ℕ → ℕ → List Group → CallPlace → Judged → CallPlace
-judged_at counts counters since gs on_permit (Granted k) = on_permit
-judged_at counts counters since gs on_permit (Denied d) = denial (denial_number d) (denial_group d) (spent_at counts counters since gs d)
+abbrev pub judged_at : List ℕ → List ℕ → ℕ → List Group → CallPlace → Result ℕ code.Denial → CallPlace
+judged_at counts counters since gs on_permit (Ok k) = on_permit
+judged_at counts counters since gs on_permit (Err d) = denial (denial_number d) (denial_group d) (spent_at counts counters since gs d)

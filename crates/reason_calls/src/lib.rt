@@ -2,7 +2,7 @@
 // functions take the bytes of the call that they explain and change nothing.
 #![tactic(auto)]
 
-ghost use Rattle.std.specs.Prelude.{◌≡◌, ◌-◌, get_or};
+ghost use Rattle.std.specs.Prelude.{◌≡◌};
 ghost use Rattle.rules.specs.Acl.{acl_of};
 ghost use Rattle.rules.specs.Request.{request_of};
 ghost use Rattle.rules.specs.Gate.{judge};
@@ -10,41 +10,18 @@ ghost use Rattle.request_reader.specs.Parts.{Sound};
 ghost use Rattle.gate_decision.specs.Standings.{ledger_of_tables};
 ghost use Rattle.reason_calls.specs.Calls.{judged_place, narrowing_place, locate_request, locate_narrow, locate_expand, call_place_as, spent_at, judged_at};
 
-use gate_decision::Judged;
 use reason_files::FilePlace;
 use reason_inputs::Input;
 use reason_limits::SpentBy;
 use reason_narrowing::{Breach, Narrowing};
 use refusals::Denial;
 
-// Where the first fault of a call is: it is permitted; an input is at fault; it is denied, and what is spent; the hints show no narrowing, by the index of a
-// new group.
-#[derive(Clone, Copy)]
+// Where the first fault of a call is: an input is at fault; it is denied, and what is spent; the hints show no narrowing, by the index of a new group.
+#[derive(Clone, Copy, Debug, PartialEq, Eq)]
 pub enum CallPlace {
-    Permitted,
     BadInput(Input, FilePlace),
     Denied(Denial, SpentBy),
     NotNarrower(usize, Breach),
-}
-
-// The seconds since load; 0 where the time is before it.
-fn since_load(time: u64, loaded: u64) -> u64
-    ensures { result ≡ time - loaded }
-{
-    if time < loaded {
-        return 0;
-    }
-    time - loaded
-}
-
-// A group's own count; 0 past the table's end.
-fn own_count(counts: &[u32], group: usize) -> u32
-    ensures { result ≡ get_or counts.now group 0 }
-{
-    if counts.len() <= group {
-        return 0;
-    }
-    counts[group]
 }
 
 // What is spent, by a denial.
@@ -63,7 +40,7 @@ fn spent_at<'a>(
         Denial::NotCertified(_) => SpentBy::Nothing,
         Denial::Spent(group) => reason_limits::spent_by(
             counters,
-            own_count(counts, group),
+            gate_decision::count_at(counts, group),
             since,
             acl_groups::group_body(acl, group),
         ),
@@ -76,14 +53,14 @@ fn judged_at<'a>(
     counters: &'a [u32; record_sizes::COUNTERS],
     since: u64,
     acl: &[u8],
-    judged: Judged,
-    on_permit: CallPlace,
-) -> CallPlace
+    judged: Result<usize, Denial>,
+    on_permit: Result<(), CallPlace>,
+) -> Result<(), CallPlace>
     ensures { call_place_as result ≡ judged_at counts.now counters.now since (acl_of acl.now) (call_place_as on_permit) judged }
 {
     match judged {
-        Judged::Granted(_) => on_permit,
-        Judged::Denied(d) => CallPlace::Denied(d, spent_at(counts, counters, since, acl, d)),
+        Ok(_) => on_permit,
+        Err(d) => Err(CallPlace::Denied(d, spent_at(counts, counters, since, acl, d))),
     }
 }
 
@@ -96,23 +73,23 @@ fn locate_judged<'a>(
     km0: &[u8],
     acl: &[u8],
     req: &[u8],
-    on_permit: CallPlace,
-) -> CallPlace
+    on_permit: Result<(), CallPlace>,
+) -> Result<(), CallPlace>
     requires { Sound req.now }
     ensures { call_place_as result ≡ judged_place (ledger_of_tables counts.now counters.now loaded last) (request_of req.now) (call_place_as on_permit) (judge (ledger_of_tables counts.now counters.now loaded last) km0.now (acl_of acl.now) (request_of req.now)) }
 {
     let judged = gate_decision::judge_request(counts, counters, loaded, last, km0, acl, req);
-    let since = since_load(request_reader::time(req), loaded);
+    let since = request_reader::time(req).saturating_sub(loaded);
     judged_at(counts, counters, since, acl, judged, on_permit)
 }
 
 // The answer to a grant of a narrowing.
-fn narrowing_place(narrowing: Narrowing) -> CallPlace
+fn narrowing_place(narrowing: Narrowing) -> Result<(), CallPlace>
     ensures { call_place_as result ≡ narrowing_place narrowing }
 {
     match narrowing {
-        Narrowing::Shown => CallPlace::Permitted,
-        Narrowing::Broken(group, why) => CallPlace::NotNarrower(group, why),
+        Narrowing::Shown => Ok(()),
+        Narrowing::Broken(group, why) => Err(CallPlace::NotNarrower(group, why)),
     }
 }
 
@@ -125,25 +102,13 @@ pub fn locate_request<'a>(
     km0: &[u8],
     acl: &[u8],
     req: &[u8],
-) -> CallPlace
+) -> Result<(), CallPlace>
     ensures { call_place_as result ≡ locate_request (ledger_of_tables counts.now counters.now loaded last) km0.now acl.now req.now }
 {
-    let bad = reason_inputs::request_inputs(km0, acl, req);
-    let input = bad.input;
-    let place = bad.place;
-    if reason_inputs::is_fault(place) {
-        return CallPlace::BadInput(input, place);
+    if let Err(bad) = reason_inputs::request_inputs(km0, acl, req) {
+        return Err(CallPlace::BadInput(bad.input, bad.place));
     }
-    locate_judged(
-        counts,
-        counters,
-        loaded,
-        last,
-        km0,
-        acl,
-        req,
-        CallPlace::Permitted,
-    )
+    locate_judged(counts, counters, loaded, last, km0, acl, req, Ok(()))
 }
 
 // Where the first fault of a narrowing is.
@@ -157,14 +122,11 @@ pub fn locate_narrow<'a>(
     req: &[u8],
     new: &[u8],
     hints: &[u8],
-) -> CallPlace
+) -> Result<(), CallPlace>
     ensures { call_place_as result ≡ locate_narrow (ledger_of_tables counts.now counters.now loaded last) km0.now acl.now req.now new.now hints.now }
 {
-    let bad = reason_inputs::narrow_inputs(km0, acl, req, new, hints);
-    let input = bad.input;
-    let place = bad.place;
-    if reason_inputs::is_fault(place) {
-        return CallPlace::BadInput(input, place);
+    if let Err(bad) = reason_inputs::narrow_inputs(km0, acl, req, new, hints) {
+        return Err(CallPlace::BadInput(bad.input, bad.place));
     }
     let shown = narrowing_place(reason_narrowing::locate_breach(acl, new, hints));
     locate_judged(counts, counters, loaded, last, km0, acl, req, shown)
@@ -180,23 +142,11 @@ pub fn locate_expand<'a>(
     acl: &[u8],
     req: &[u8],
     new: &[u8],
-) -> CallPlace
+) -> Result<(), CallPlace>
     ensures { call_place_as result ≡ locate_expand (ledger_of_tables counts.now counters.now loaded last) km0.now acl.now req.now new.now }
 {
-    let bad = reason_inputs::expand_inputs(km0, acl, req, new);
-    let input = bad.input;
-    let place = bad.place;
-    if reason_inputs::is_fault(place) {
-        return CallPlace::BadInput(input, place);
+    if let Err(bad) = reason_inputs::expand_inputs(km0, acl, req, new) {
+        return Err(CallPlace::BadInput(bad.input, bad.place));
     }
-    locate_judged(
-        counts,
-        counters,
-        loaded,
-        last,
-        km0,
-        acl,
-        req,
-        CallPlace::Permitted,
-    )
+    locate_judged(counts, counters, loaded, last, km0, acl, req, Ok(()))
 }

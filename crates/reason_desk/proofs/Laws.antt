@@ -1,122 +1,172 @@
 -- What the code's answers say of the place of a verdict.
-use Prim.Native.Nat.{ℕ, ◌+◌, ◌-◌, ◌*◌, ◌%◌, ◌≤◌, ◌<◌}
+use Prim.Native.Nat.{ℕ, ◌+◌, ◌*◌, ◌%◌, ◌≤◌, ◌<◌}
 use native.Mathlib.Omega.{arith}
 use mathlib.Core.Path.{◌≡◌, refl, sym, ◌∙◌, ap}
-use mathlib.Core.List.{List}
-use mathlib.Core.Option.{Option, none}
-use mathlib.Core.Bool.{Bool, true, false, not, ◌&&◌, ◌||◌}
-use borrow.Author.Tests.{eq-eqb, ne_eqb, leb-true, lt-ltb, le-ltb, not-true, not-false}
+use mathlib.Core.List.{List, [], ◌∷◌}
+use mathlib.Core.Option.{none}
+use mathlib.Core.Bool.{Bool, true, false, not, ◌&&◌, ◌||◌, false≢true}
+use borrow.Author.Tests.{leb-true, ltb-true, ltb-false, lt-ltb, le-ltb}
 use lib.ListN.{length, get_or}
-use lib.Dec.{eqb, ltb, leb, lit<}
+use lib.Dec.{eqb, ltb, leb}
+use Rattle.std.specs.Prelude.{None, Result, Ok, Err, cond, if◌then◌else◌}
+use Rattle.std.specs.Prelude as prelude
+use Rattle.std.specs.Result.{OkIff, result_unwrap_or}
+use Rattle.std.specs.List.{prefix_len}
 use Rattle.rules.specs.Sizes.{acl_records, bundle_records, record_bytes}
 use Rattle.rules.specs.Numbers.{bad_length, unknown_suite}
-use Rattle.std.specs.Prelude.{if◌then◌else◌}
-use Rattle.rules.specs.Basics.{Bytes, unless, or_next, first_fault, records, records_from, fits}
+use Rattle.rules.specs.Basics.{Bytes, unless, or_next, first_fault, records, fits}
 use Rattle.rules.specs.Acl.{Group, acl_of, acl_fault}
 use Rattle.rules.specs.Suites.{is_suite}
-use Rattle.rules.specs.Bundle.{bundle_fault, field, Policy, policy_record, policy_of}
-use Rattle.rules.specs.Desk.{Step, WV1, MSCV1, MSCV2, MSCV3, MSCV4, MSCV5, WBCV1, WBCV2, WBCV3, KGCV1, KGCV2, ACLV3, WB1, WB2, WB3, WB6, RB1, RB2, RB3, KV3, CSRL1, module_key, recovery_key, Verdict, accepted, failed, faulty, desk_fault, verdict_unless, attested, desk}
+use Rattle.rules.specs.Bundle.{bundle_fault, policy_record, policy_of}
+use Rattle.rules.specs.Desk.{Step, Verdict, accepted, failed, faulty, desk_fault, verdict_unless, attested, desk}
 use Rattle.rules.proofs.Laws.{never}
-use Rattle.rules.proofs.Rows.{rows_at, rows_end, kind_at}
+use Rattle.bundle_facts.specs.Found.{bytes_as, policy_as}
 use Rattle.desk_steps.specs.declared.Step as codeStep
 use Rattle.desk_steps.specs.Steps.{step_as, step_number}
+use Rattle.desk_actions.specs.declared.Terms.{Terms}
+use Rattle.desk_actions.specs.Judging.{TermsOf}
 use Rattle.desk.specs.declared.Verdict as code
 use Rattle.desk.specs.declared.Verdict.TheVariants.{Failed}
 use Rattle.desk.specs.Replies.{DeskReply, accepting, failing, refusing, verdict_as, verdict_for}
 use Rattle.reason_files.specs.declared.FilePlace.{FilePlace}
+use Rattle.reason_files.specs.declared.FilePlace.TheVariants.{Length, Record, End}
 use Rattle.text_files.specs.declared.Kind.TheVariants.{Acl, Bundle}
-use Rattle.reason_files.specs.Places.{Place, place_in, place_as}
+use Rattle.reason_files.specs.Places.{Place, sound, at_length, at_record, at_end, place_in, place_as}
 use Rattle.reason_steps.specs.declared.Defect.{Defect}
 use Rattle.reason_steps.specs.Defects.{named, step_flaw}
 use Rattle.reason_actions.specs.declared.Spot.{Spot}
-use Rattle.reason_actions.specs.Spots.{all_ones, at_fault, skipped, in_groups, spot_of}
+use Rattle.reason_actions.specs.Spots.{all_ones, at_fault, skipped, in_groups, spot_as, spot_of}
 use Rattle.reason_desk.specs.declared.Site.{Site}
+use Rattle.reason_desk.specs.declared.Numbers.{Numbers}
 use Rattle.reason_desk.specs.declared.VerdictPlace.{VerdictPlace}
 use Rattle.reason_desk.specs.VerdictPlaces.{looks_at_bundle, step_located, step_place, index_number, site_of, is_length, is_sound, policy_index, refusal_site, refusal_place, nowhere, place_for, verdict_place}
 
 -- The group and the action of a step.
-module _ (s : Step) (b : List Bytes) (gs : List Group) (n : ℕ) (is : n ≡ step_number s) (r : Spot) where
-  pub spot_none : (ltb n 12 || eqb n 21) ≡ true → ((p : Policy) → r ≡ spot_of p none) → r ≡ spot_of (policy_of b) (step_located s b gs)
+module _ (s : Step) (b : List Bytes) (gs : List Group) (n : ℕ) (is : n ≡ step_number s) where
+  pub spot_none : (ltb n 12 || eqb n 21) ≡ true → spot_as None ≡ spot_of (policy_of b) (step_located s b gs)
   unfolding step_located
-  spot_none h e = let k : looks_at_bundle s ≡ true = rw (← is) h in rw k (e (policy_of b))
+  spot_none h = let k : looks_at_bundle s ≡ true = rw (← is) h in rw k refl
 
-  pub spot_found : (ltb n 12 || eqb n 21) ≡ false → (p : Policy) (o m k : Option Bytes) → p ≡ policy_of b → o ≡ field 4 b → m ≡ module_key b → k ≡ recovery_key b
-      → r ≡ spot_of p (in_groups (skipped o) (at_fault (eqb n 20) p m k) 0 gs) → r ≡ spot_of (policy_of b) (step_located s b gs)
+  pub spot_found : (ltb n 12 || eqb n 21) ≡ false → (t : Terms) → TermsOf b t → (r : prelude.Option Spot)
+      → spot_as r ≡ spot_of (policy_as t.policy) (in_groups (skipped (bytes_as t.officer)) (at_fault (eqb n 20) (policy_as t.policy) (bytes_as t.hkm) (bytes_as t.hkre)) 0 gs)
+      → spot_as r ≡ spot_of (policy_of b) (step_located s b gs)
   unfolding step_located
-  spot_found h p o m k a c d f e = let t : looks_at_bundle s ≡ false = rw (← is) h in rw t (rw (a, c, d, f, is) at e)
+  spot_found h t of r e = let k : looks_at_bundle s ≡ false = rw (← is) h in rw k (rw (of.policy, of.officer, of.hkm, of.hkre, is) at e)
 
--- The index of the policy: the records from an offset on, of which the first has index i.
-module _ (s : Bytes) (at i x : ℕ) (inv : policy_index i (records_from s at) ≡ x) where
-  policy_step : 64 ≤ length s - at → (if eqb (get_or s at 0) 12 then i else policy_index (i + 1) (records_from s (at + 64))) ≡ x
-  unfolding policy_index policy_record
-  policy_step h = sym (ap (policy_index i) (rows_at s at h) ∙ rw (kind_at s at)) ∙ inv
+-- The index of the policy, by the records before it.
+policy_told : (rs : List Bytes) (n i : ℕ) → n ≡ prefix_len (λ r. not (eqb (get_or r 0 0) 12)) rs → i + n ≡ policy_index i rs
+unfolding policy_index policy_record
+policy_told [] n i e = omega (arith, e)
+policy_told (r ∷ rs) n i e = pick (eqb (get_or r 0 0) 12) e (policy_told rs (prefix_len (λ z. not (eqb (get_or z 0 0) 12)) rs) (i + 1) refl)
+  where
+    pick : (t : Bool) → n ≡ cond (not t) (1 + prefix_len (λ z. not (eqb (get_or z 0 0) 12)) rs) 0 → i + 1 + prefix_len (λ z. not (eqb (get_or z 0 0) 12)) rs ≡ policy_index (i + 1) rs
+        → i + n ≡ (if t then i else policy_index (i + 1) rs)
+    pick true d h = omega (arith, d)
+    pick false d h = omega (arith, d, h)
 
-  pub policy_here : 64 ≤ length s - at → get_or s at 0 ≡ 12 → i ≡ x
-  policy_here h e = rw (eq-eqb (get_or s at 0) 12 e) at (policy_step h)
-
-  pub policy_later : 64 ≤ length s - at → (get_or s at 0 ≡ 12 → ⊥) → policy_index (i + 1) (records_from s (at + 64)) ≡ x
-  policy_later h n = rw (ne_eqb (get_or s at 0) 12 n) at (policy_step h)
-
-  pub policy_none : length s - at < 64 → i ≡ x
-  unfolding policy_index
-  policy_none h = sym (ap (policy_index i) (rows_end s at h)) ∙ inv
-
-pub policy_start : (s : Bytes) → policy_index 0 (records_from s 0) ≡ policy_index 0 (records s)
-unfolding records_from
-policy_start s = refl
+pub policy_first : (bundle : Bytes) (xs : List Bytes) (n : ℕ) → xs ≡ records bundle → n ≡ prefix_len (λ r. not (eqb (get_or r 0 0) 12)) xs → n ≡ policy_index 0 (records bundle)
+policy_first bundle xs n w e = let h = policy_told (records bundle) n 0 (rw w at e) in omega (arith, h)
 
 -- Where in an input a fault is, by what a match found.
-pub site_is : (input : ℕ) (p q : FilePlace) (r : Site) → p ≡ q → r ≡ site_of input (place_as q) → r ≡ site_of input (place_as p)
+pub site_is : (input : ℕ) (p q : FilePlace) (r : Site) → p ≡ q → r ≡ site_of input (place_as (Err q)) → r ≡ site_of input (place_as (Err p))
 site_is input p q r e k = rw e k
 
-pub index_fits : (i : ℕ) → i < 4294967295 → i ≡ index_number i
+index_fits : (n i : ℕ) → i < 4294967295 → n ≡ i → n ≡ index_number i
 unfolding index_number
-index_fits i h = rw (lt-ltb i 4294967295 h)
+index_fits n i h e = sym (rw (lt-ltb i 4294967295 h, e))
 
-pub index_past : (i : ℕ) → 4294967295 ≤ i → 4294967295 ≡ index_number i
+index_past : (n i : ℕ) → 4294967295 ≤ i → n ≡ 4294967295 → n ≡ index_number i
 unfolding index_number
-index_past i h = rw (le-ltb i 4294967295 h)
+index_past n i h e = sym (rw (le-ltb i 4294967295 h, e))
+
+index_by_size : (n i : ℕ) → (i < 4294967295 → n ≡ i) → (4294967295 ≤ i → n ≡ 4294967295) → n ≡ index_number i
+index_by_size n i f p = pick (ltb i 4294967295) refl
+  where
+    pick : (b : Bool) → ltb i 4294967295 ≡ b → n ≡ index_number i
+    pick true e = let h = ltb-true i 4294967295 e in index_fits n i h (f h)
+    pick false e = let h = ltb-false i 4294967295 e in index_past n i h (p h)
+
+-- what fits, and else all ones: the greatest that fits is all ones itself
+pub index_told : {E : Type 0} (r : Result ℕ E) (n i : ℕ) → OkIff r (i < 4294967296) i → n ≡ result_unwrap_or r 4294967295 → n ≡ index_number i
+index_told (Ok x) n i h e = index_by_size n i (λ k. e ∙ h.1) (λ k. omega (arith, e, h.1, h.0))
+index_told (Err x) n i h e = index_by_size n i (λ k. absurd (h (omega arith))) (λ k. e)
 
 -- a record, or the end
 pub site_numbered : (input part i n : ℕ) → n ≡ index_number i → ◌≡◌ {A = Site} (record { input = input; part = part; index = n }) (record { input = input; part = part; index = index_number i })
 site_numbered input part i n e = rw e
 
--- the tests of the two files, in their order
-module _ (bundle acl : Bytes) (b a : Place) (p : b ≡ place_in Bundle bundle) (q : a ≡ place_in Acl acl) (r : Site) (t u v w : Bool) (isT : t ≡ is_length b) where
-  whole : refusal_site bundle acl
-      ≡ (if is_length b then site_of 6 b
-      else if is_length a then site_of 2 a
-      else if is_sound b then if is_sound a then record { input = 6; part = 2; index = index_number (policy_index 0 (records bundle)) } else site_of 2 a
-      else site_of 6 b)
+-- the first fault of two files, by their places
+abbrev chosen : Site → Place → Place → Site
+chosen policy b a =
+    if is_length b then site_of 6 b
+    else if is_length a then site_of 2 a
+    else if is_sound b then if is_sound a then policy else site_of 2 a
+    else site_of 6 b
+
+acl_length : (policy : Site) (b a : Place) → (is_length a && not (is_length b)) ≡ true → site_of 2 at_length ≡ chosen policy b a
+acl_length policy b sound e = absurd (false≢true e)
+acl_length policy b (at_record f i) e = absurd (false≢true e)
+acl_length policy b (at_end f n) e = absurd (false≢true e)
+acl_length policy sound at_length e = refl
+acl_length policy at_length at_length e = absurd (false≢true e)
+acl_length policy (at_record f i) at_length e = refl
+acl_length policy (at_end f n) at_length e = refl
+
+bundle_fault_at : (policy : Site) (p : FilePlace) (a : Place) → (is_length a && not (is_length (place_as (Err p)))) ≡ false → site_of 6 (place_as (Err p)) ≡ chosen policy (place_as (Err p)) a
+bundle_fault_at policy Length a e = refl
+bundle_fault_at policy (Record r i) sound e = refl
+bundle_fault_at policy (Record r i) at_length e = absurd (false≢true (sym e))
+bundle_fault_at policy (Record r i) (at_record f j) e = refl
+bundle_fault_at policy (Record r i) (at_end f n) e = refl
+bundle_fault_at policy (End r n) sound e = refl
+bundle_fault_at policy (End r n) at_length e = absurd (false≢true (sym e))
+bundle_fault_at policy (End r n) (at_record f j) e = refl
+bundle_fault_at policy (End r n) (at_end f m) e = refl
+
+acl_fault_at : (policy : Site) (p : FilePlace) → site_of 2 (place_as (Err p)) ≡ chosen policy sound (place_as (Err p))
+acl_fault_at policy Length = refl
+acl_fault_at policy (Record r i) = refl
+acl_fault_at policy (End r n) = refl
+
+-- what the two readers found of the files
+module _ (bundle acl : Bytes) (x y : Result (Unit {0}) FilePlace) (p : place_as x ≡ place_in Bundle bundle) (q : place_as y ≡ place_in Acl acl) (r : Site) where
+  abbrev policy_site : Site
+  policy_site = record { input = 6; part = 2; index = index_number (policy_index 0 (records bundle)) }
+
+  whole : refusal_site bundle acl ≡ chosen policy_site (place_as x) (place_as y)
   unfolding refusal_site
-  whole = rw (p, q)
+  whole = rw (← p, ← q)
 
-  pub site_bundle_length : t ≡ true → r ≡ site_of 6 b → r ≡ refusal_site bundle acl
-  site_bundle_length h e = e ∙ sym (whole ∙ rw (sym isT ∙ h))
+  module _ (t u : Bool) (isT : t ≡ is_length (place_as y)) (isU : u ≡ is_length (place_as x)) where
+    pub site_acl_length : (t && not u) ≡ true → r ≡ site_of 2 at_length → r ≡ refusal_site bundle acl
+    site_acl_length h e = e ∙ acl_length policy_site (place_as x) (place_as y) (rw (← isT, ← isU) h) ∙ sym whole
 
-  module _ (h : t ≡ false) (isU : u ≡ is_length a) where
-    pub site_acl_length : u ≡ true → r ≡ site_of 2 a → r ≡ refusal_site bundle acl
-    site_acl_length k e = e ∙ sym (whole ∙ rw (sym isT ∙ h, sym isU ∙ k))
+    pub site_bundle : (t && not u) ≡ false → (w : FilePlace) → x ≡ Err w → r ≡ site_of 6 (place_as (Err w)) → r ≡ refusal_site bundle acl
+    site_bundle h w d e =
+        e
+        ∙ bundle_fault_at policy_site w (place_as y) (rw d at (rw (isT, isU) at h))
+        ∙ sym (whole ∙ ap (λ (z : Result (Unit {0}) FilePlace). chosen policy_site (place_as z) (place_as y)) d)
 
-    module _ (k : u ≡ false) (isV : v ≡ is_sound b) where
-      pub site_bundle : not v ≡ true → r ≡ site_of 6 b → r ≡ refusal_site bundle acl
-      site_bundle l e = e ∙ sym (whole ∙ rw (sym isT ∙ h, sym isU ∙ k, sym isV ∙ not-true v l))
+  module _ (v : Unit {0}) (d : x ≡ Ok v) where
+    by_both : refusal_site bundle acl ≡ chosen policy_site sound (place_as y)
+    by_both = whole ∙ ap (λ (z : Result (Unit {0}) FilePlace). chosen policy_site (place_as z) (place_as y)) d
 
-      module _ (l : not v ≡ false) (isW : w ≡ is_sound a) where
-        pub site_acl : not w ≡ true → r ≡ site_of 2 a → r ≡ refusal_site bundle acl
-        site_acl m e = e ∙ sym (whole ∙ rw (sym isT ∙ h, sym isU ∙ k, sym isV ∙ not-false v l, sym isW ∙ not-true w m))
+    pub site_acl : (w : FilePlace) → y ≡ Err w → r ≡ site_of 2 (place_as (Err w)) → r ≡ refusal_site bundle acl
+    site_acl w f e = e ∙ acl_fault_at policy_site w ∙ sym (by_both ∙ ap (λ (z : Result (Unit {0}) FilePlace). chosen policy_site sound (place_as z)) f)
 
-        pub site_policy : not w ≡ false → (i n : ℕ) → i ≡ policy_index 0 (records bundle) → n ≡ index_number i → r ≡ record { input = 6; part = 2; index = n } → r ≡ refusal_site bundle acl
-        site_policy m i n x y e =
-            let z : n ≡ index_number (policy_index 0 (records bundle)) = y ∙ ap index_number x in
-            e ∙ rw z (sym (whole ∙ rw (sym isT ∙ h, sym isU ∙ k, sym isV ∙ not-false v l, sym isW ∙ not-false w m)))
+    pub site_policy : (z : Unit {0}) → y ≡ Ok z → (i n : ℕ) → i ≡ policy_index 0 (records bundle) → n ≡ index_number i → r ≡ record { input = 6; part = 2; index = n } → r ≡ refusal_site bundle acl
+    site_policy z f i n k m e =
+        e
+        ∙ site_numbered 6 2 (policy_index 0 (records bundle)) n (m ∙ ap index_number k)
+        ∙ sym (by_both ∙ ap (λ (w : Result (Unit {0}) FilePlace). chosen policy_site sound (place_as w)) f)
 
 -- the place of a refusal
 pub refusal_is : (n m : ℕ) (s t : Site) (r : VerdictPlace) → n ≡ m → s ≡ t → r ≡ refusal_place n s → r ≡ refusal_place m t
 refusal_is n m s t r e f k = k ∙ rw (e, f)
 
 -- the place of a step
-pub place_is : (s : Step) (b : List Bytes) (gs : List Group) (n : ℕ) (d : Defect) (t : Spot) → n ≡ step_number s → d ≡ named (step_flaw s b) → t ≡ spot_of (policy_of b) (step_located s b gs)
+pub place_is : (s : Step) (b : List Bytes) (gs : List Group) (n : ℕ) (d : Defect) (o : prelude.Option Spot) (t : Numbers) → n ≡ step_number s → d ≡ named (step_flaw s b)
+    → (t.group ≡ (spot_as o).group) × (t.action ≡ (spot_as o).action) × (t.permission ≡ (spot_as o).permission) → spot_as o ≡ spot_of (policy_of b) (step_located s b gs)
     → record {
       refusal = 0;
       step = n;
@@ -129,33 +179,7 @@ pub place_is : (s : Step) (b : List Bytes) (gs : List Group) (n : ℕ) (d : Defe
       action = t.action;
       permission = t.permission;
     } ≡ step_place s b gs
-place_is s b gs n d t e f g = rw (e, f, g)
-
-step_fits : (s : Step) → step_number s < 22
-step_fits WV1 = lit< tt
-step_fits MSCV1 = lit< tt
-step_fits MSCV2 = lit< tt
-step_fits MSCV3 = lit< tt
-step_fits MSCV4 = lit< tt
-step_fits MSCV5 = lit< tt
-step_fits WBCV1 = lit< tt
-step_fits WBCV2 = lit< tt
-step_fits WBCV3 = lit< tt
-step_fits KGCV1 = lit< tt
-step_fits KGCV2 = lit< tt
-step_fits ACLV3 = lit< tt
-step_fits WB1 = lit< tt
-step_fits WB2 = lit< tt
-step_fits WB3 = lit< tt
-step_fits WB6 = lit< tt
-step_fits RB1 = lit< tt
-step_fits RB2 = lit< tt
-step_fits RB3 = lit< tt
-step_fits KV3 = lit< tt
-step_fits CSRL1 = lit< tt
-
-pub step_cast : (n : ℕ) (s : Step) → n ≡ step_number s → n < 4294967296
-step_cast n s e = omega (arith, step_fits s)
+place_is s b gs n d o t e f g h = rw (e, f, g.0, g.1, g.2, h)
 
 fits_both : (most : ℕ) (bs : Bytes) → (eqb (length bs % record_bytes) 0 && leb (length bs) (most * record_bytes)) ≡ fits most bs
 unfolding fits

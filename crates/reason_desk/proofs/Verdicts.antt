@@ -19,7 +19,8 @@ use Rattle.rules.specs.Suites.{suite_mechanism}
 use Rattle.rules.specs.Desk.{Step, WV1, MSCV1, MSCV2, MSCV3, MSCV4, MSCV5, WBCV1, WBCV2, WBCV3, KGCV1, KGCV2, ACLV3, WB1, WB2, WB3, WB6, RB1, RB2, RB3, KV3, CSRL1, Acceptance, approach1, approach2, grade_of, Verdict, accepted, failed, faulty, module_key, recovery_key, class_of, policy_admits, is_mechanism, failure_under, action_failure, officers_group, group_failure, acl_failure, key_protection, csr_linked, after_acl, full_failure, basic_failure, accepted_unless, verdict_unless, attested, desk_fault, desk}
 use Rattle.rules.proofs.Laws.{never, and_left, and_right}
 use Rattle.desk_steps.specs.Steps.{step_number}
-use Rattle.reason_steps.specs.Defects.{Flaw, named, step_tests, step_flaw}
+use Rattle.reason_steps.specs.declared.Flaw.{Flaw}
+use Rattle.reason_steps.specs.Defects.{named, step_tests, step_flaw}
 use Rattle.reason_steps.specs.Flawed.{Flawed}
 use Rattle.reason_steps.proofs.Flaws.{first_is, test_is, named_is_flawed, csr_named, bundle_step_named, basic_step_named}
 use Rattle.reason_actions.specs.Spots.{at_fault, skipped, Located, in_groups, permission_of, spot_of}

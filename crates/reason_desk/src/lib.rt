@@ -2,28 +2,33 @@
 // record.
 #![tactic(auto)]
 
-ghost use Rattle.std.specs.Prelude.{◌≡◌, ◌<◌, length};
-ghost use Rattle.rules.specs.Basics.{records};
+ghost use Rattle.std.specs.Prelude.{Err, ◌≡◌, ◌<◌, not, eqb, length};
+ghost use Rattle.std.specs.List.{prefix_len};
+ghost use Rattle.rules.specs.Basics.{kind, records};
 ghost use Rattle.rules.specs.Acl.{acl_of};
 ghost use Rattle.rules.specs.Bundle.{policy_of};
 ghost use Rattle.refusals.specs.Refusals.{refusal_number};
-ghost use Rattle.bundle_facts.specs.Places.{Found};
 ghost use Rattle.desk_steps.specs.Steps.{step_as};
 ghost use Rattle.reason_files.specs.Places.{place_as};
-ghost use Rattle.reason_actions.specs.Spots.{spot_of};
-ghost use Rattle.reason_desk.specs.VerdictPlaces.{step_located, step_place, index_number, site_of, is_length, is_sound, policy_index, refusal_site, refusal_place, nowhere, verdict_place};
+ghost use Rattle.reason_actions.specs.Spots.{permission_number, spot_as, spot_of};
+ghost use Rattle.reason_desk.specs.VerdictPlaces.{step_located, step_place, index_number, site_of, is_length, policy_index, refusal_site, refusal_place, nowhere, verdict_place};
 
+use bundle_facts::Facts;
 use desk::Verdict;
+use desk_actions::Terms;
 use desk_steps::Step;
 use reason_actions::Spot;
 use reason_files::FilePlace;
+use reason_steps::Defect;
+use record_sizes::Record;
 use refusals::Refusal;
 use text_files::Kind;
 
 // Where a verdict comes from. Refusal and step are the desk's, 0 where there is none. What is not named is 0 (input, part, what, number) or all ones
 // (index, group, action, permission).
+// stays: numbers for what is absent, for C reads this struct.
 #[repr(C)]
-#[derive(Clone, Copy)]
+#[derive(Clone, Copy, Debug, PartialEq, Eq)]
 pub struct VerdictPlace {
     pub refusal: u32,
     pub step: u32,
@@ -38,11 +43,19 @@ pub struct VerdictPlace {
 }
 
 // Where in its input a fault is.
+#[derive(Clone, Copy, Debug, PartialEq, Eq)]
+struct Site {
+    input: u32,
+    part: u32,
+    index: u32,
+}
+
+// A spot in numbers.
 #[derive(Clone, Copy)]
-pub struct Site {
-    pub input: u32,
-    pub part: u32,
-    pub index: u32,
+struct Numbers {
+    group: u32,
+    action: u32,
+    permission: u32,
 }
 
 const ALL_ONES: u32 = 4294967295;
@@ -52,19 +65,41 @@ const BUNDLE: u32 = 6;
 const ACL: u32 = 2;
 
 // The group and the action that a step fails at. A step of the bundle has none.
-fn step_spot(s: Step, places: &[usize; bundle_facts::ENTRIES], bundle: &[u8], acl: &[u8]) -> Spot
-    requires { Found bundle.now places.now × (length acl.now < 4294967295) }
-    ensures { result ≡ spot_of (policy_of (records bundle.now)) (step_located (step_as s) (records bundle.now) (acl_of acl.now)) }
+// stays: steps by their numbers, as the definition `looks_at_bundle` tells those of the bundle from the others.
+fn step_spot(s: Step, facts: Facts, acl: &[u8]) -> Option<Spot>
+    requires { length acl.now < 4294967295 }
+    ensures { spot_as result ≡ spot_of (policy_of (records facts.entry.bundle.now)) (step_located (step_as s) (records facts.entry.bundle.now) (acl_of acl.now)) }
 {
-    let n = desk_steps::number(s);
+    let n = u8::from(s);
     if (n < 12) | (n == 21) {
-        return reason_actions::nowhere();
+        return None;
     }
-    let policy = bundle_facts::policy_of(places, bundle);
-    let officer = desk_evidence::field_of(4, places, bundle);
-    let hkm = desk_evidence::module_key(places, bundle);
-    let hkre = desk_evidence::recovery_key(places, bundle);
-    reason_actions::first_at_fault(n == 20, officer, policy, hkm, hkre, acl)
+    reason_actions::first_at_fault(n == 20, Terms::of(facts), acl)
+}
+
+// A permission as a number; all ones where none is named.
+fn permission_number(permission: Option<u16>) -> u32
+    ensures { result ≡ permission_number permission }
+{
+    permission.map_or(ALL_ONES, |p| p as u32)
+}
+
+// A spot in numbers; all ones where none is named.
+fn spot_numbers(found: Option<Spot>) -> Numbers
+    ensures { (result.group ≡ (spot_as found).group) × (result.action ≡ (spot_as found).action) × (result.permission ≡ (spot_as found).permission) }
+{
+    match found {
+        None => Numbers {
+            group: ALL_ONES,
+            action: ALL_ONES,
+            permission: ALL_ONES,
+        },
+        Some(spot) => Numbers {
+            group: spot.group,
+            action: spot.action,
+            permission: permission_number(spot.permission),
+        },
+    }
 }
 
 // The place of a failing step.
@@ -74,11 +109,15 @@ fn step_place(s: Step, bundle: &[u8], acl: &[u8]) -> VerdictPlace
 {
     let mut places = [0usize; bundle_facts::ENTRIES];
     bundle_facts::find_offsets(&mut places, bundle);
-    let defect = reason_steps::step_defect(s, &places, bundle);
-    let spot = step_spot(s, &places, bundle, acl);
+    let facts = Facts {
+        bundle,
+        places: &places,
+    };
+    let defect = Defect::from(reason_steps::step_defect(s, facts));
+    let spot = spot_numbers(step_spot(s, facts, acl));
     VerdictPlace {
         refusal: 0,
-        step: desk_steps::number(s) as u32,
+        step: u8::from(s) as u32,
         input: 0,
         part: 0,
         index: ALL_ONES,
@@ -94,22 +133,14 @@ fn step_place(s: Step, bundle: &[u8], acl: &[u8]) -> VerdictPlace
 fn index_number(index: usize) -> u32
     ensures { result ≡ index_number index }
 {
-    if index < 4294967295 {
-        return index as u32;
-    }
-    ALL_ONES
+    u32::try_from(index).unwrap_or(ALL_ONES)
 }
 
 // Where in an input a fault is.
 fn site_of(input: u32, place: FilePlace) -> Site
-    ensures { result ≡ site_of input (place_as place) }
+    ensures { result ≡ site_of input (place_as (Err place)) }
 {
     match place {
-        FilePlace::Sound => Site {
-            input: 0,
-            part: 0,
-            index: ALL_ONES,
-        },
         FilePlace::Length => Site {
             input,
             part: 1,
@@ -129,67 +160,48 @@ fn site_of(input: u32, place: FilePlace) -> Site
 }
 
 // Whether a length is at fault.
-fn is_length(place: FilePlace) -> bool
-    ensures { result ≡ is_length (place_as place) }
+fn is_length(found: Result<(), FilePlace>) -> bool
+    ensures { result ≡ is_length (place_as found) }
 {
-    match place {
-        FilePlace::Sound => false,
-        FilePlace::Length => true,
-        FilePlace::Record(_, _) => false,
-        FilePlace::End(_, _) => false,
-    }
+    matches!(found, Err(FilePlace::Length))
 }
 
-// Whether nothing is at fault.
-fn is_sound(place: FilePlace) -> bool
-    ensures { result ≡ is_sound (place_as place) }
+// How many records come before the first policy.
+fn before_policy(all: &[Record]) -> usize
+    ensures { result ≡ prefix_len (λ r. not (eqb (kind r) 12)) all.now }
 {
-    match place {
-        FilePlace::Sound => true,
-        FilePlace::Length => false,
-        FilePlace::Record(_, _) => false,
-        FilePlace::End(_, _) => false,
-    }
+    all.iter()
+        .take_while(|rec| rec[0] != record_kinds::POLICY)
+        .count()
 }
 
 // The index of the policy; the number of records where there is none.
 fn policy_index(bundle: &[u8]) -> usize
     ensures { result ≡ policy_index 0 (records bundle.now) }
 {
-    let mut index = 0;
-    let mut at = 0;
-    while record_sizes::RECORD <= bundle.len() - at {
-        if bundle[at] == 12 {
-            return index;
-        }
-        index += 1;
-        at += record_sizes::RECORD;
-    }
-    index
+    before_policy(record_fields::records(bundle))
 }
 
-// Where the first fault of the two files is, or the policy with its unknown suite.
+// Where the first fault of the two files is, or the policy with its unknown suite. A bad length of the ACL comes before every other fault but one of the
+// bundle's length.
 fn refusal_site(bundle: &[u8], acl: &[u8]) -> Site
     ensures { result ≡ refusal_site bundle.now acl.now }
 {
     let of_bundle = reason_files::locate(Kind::Bundle, bundle);
     let of_acl = reason_files::locate(Kind::Acl, acl);
-    if is_length(of_bundle) {
-        return site_of(BUNDLE, of_bundle);
+    if is_length(of_acl) & !is_length(of_bundle) {
+        return site_of(ACL, FilePlace::Length);
     }
-    if is_length(of_acl) {
-        return site_of(ACL, of_acl);
-    }
-    if !is_sound(of_bundle) {
-        return site_of(BUNDLE, of_bundle);
-    }
-    if !is_sound(of_acl) {
-        return site_of(ACL, of_acl);
-    }
-    Site {
-        input: BUNDLE,
-        part: 2,
-        index: index_number(policy_index(bundle)),
+    match of_bundle {
+        Err(place) => site_of(BUNDLE, place),
+        Ok(()) => match of_acl {
+            Err(place) => site_of(ACL, place),
+            Ok(()) => Site {
+                input: BUNDLE,
+                part: 2,
+                index: index_number(policy_index(bundle)),
+            },
+        },
     }
 }
 
@@ -229,7 +241,7 @@ fn accepted() -> VerdictPlace
 fn refusal_place(why: Refusal, bundle: &[u8], acl: &[u8]) -> VerdictPlace
     ensures { result ≡ refusal_place (refusal_number why) (refusal_site bundle.now acl.now) }
 {
-    refused_at(refusals::number(why) as u32, refusal_site(bundle, acl))
+    refused_at(u8::from(why) as u32, refusal_site(bundle, acl))
 }
 
 // Where the verdict on a bundle and an ACL comes from, whatever bytes they are.

@@ -1,25 +1,24 @@
 -- The loops over a file's records, and the kinds of file by their states.
-use Prim.Native.Nat.{ℕ, suc, ◌+◌, ◌-◌, ◌≤◌, ◌<◌}
+use Prim.Native.Nat.{ℕ, zero, suc, ◌+◌, ◌≤◌, ◌<◌}
 use native.Mathlib.Omega.{arith}
 use native.Mathlib.Numerals.{add-one}
 use mathlib.Core.Path.{◌≡◌, refl, sym, ◌∙◌, ap}
 use mathlib.Core.List.{List, [], ◌∷◌}
 use mathlib.Core.Option.{Option, none, some}
-use mathlib.Core.Bool.{Bool, true, false, not, false≢true}
-use lib.ListN.{length, drop, length-drop}
-use lib.Seq.{take_all, length-take-le}
+use mathlib.Core.Bool.{Bool, true, false, not}
+use lib.ListN.{length, drop, get_or, length-drop}
+use lib.Seq.{take_all}
 use borrow.Author.Tests.{not-true, not-false}
 use Rattle.std.specs.Prelude.{if◌then◌else◌}
-use Rattle.rules.specs.Basics.{Bytes, present, records, records_from, fits}
-use Rattle.rules.specs.Acl.{AclState, acl_start, acl_record_fault, after_record, acl_end}
+use Rattle.rules.specs.Basics.{Bytes, records, fits}
+use Rattle.rules.specs.Acl.{AclState, acl_record_fault, after_record, acl_end}
 use Rattle.rules.specs.Bundle.{bundle_start}
 use Rattle.rules.proofs.Laws.{never}
-use Rattle.rules.proofs.Rows.{lent_record, rows_lent, rows_end, first, no_rows}
+use Rattle.rules.specs.Basics.{Every}
+use Rattle.rules.proofs.Rows.{first, no_rows, records_sized}
+use Rattle.record_fields.proofs.Walks.{left_at, left_none}
 use Rattle.refusals.specs.Refusals.{refusal_number}
 use Rattle.refusals.specs.declared.Refusal.TheVariants.{Malformed}
-use Rattle.files.specs.declared.Checked.{Checked}
-use Rattle.files.specs.declared.Checked.TheVariants as code
-use Rattle.files.specs.Faults.{fault_as}
 use Rattle.acl_reader.specs.Places as acl
 use Rattle.text_rules.specs.OtherWords.{record_line}
 use Rattle.text_rules.specs.OtherDecoding.{record_of}
@@ -28,60 +27,47 @@ use Rattle.text_states.specs.States as states
 use Rattle.text_states.specs.States.{AnyState, of_request, of_requests, of_bundle, of_hints, state_fault, state_after, state_end, kind_from, step_of}
 use Rattle.text_files.specs.declared.Kind.{Kind}
 use Rattle.text_files.specs.declared.Kind.TheVariants.{Acl, Request, Requests, Bundle, Hints}
-use Rattle.reason_files.specs.Places.{Place, sound, at_length, at_end, record_faults, reached, record_or, first_record, end_place, records_place, file_place, place_in}
+use Rattle.reason_files.specs.Places.{Place, sound, at_length, at_record, at_end, record_faults, reached, record_or, first_record, end_place, records_place, file_place, place_in}
 
--- The turns of a loop over records. `at` is the byte at which the record of index i begins.
-module _ {S : Type 0} (k : FileKind S) (file : Bytes) (at : ℕ) (s : S) (i : ℕ) (x : Place) (inv : records_place k s i (records_from file at) ≡ x) where
+-- The turns of a loop over records, by the index.
+module _ {S : Type 0} (k : FileKind S) (rs : List Bytes) (s : S) (i : ℕ) (x : Place) (inv : records_place k s i (drop i rs) ≡ x) where
   abbrev here : Bytes
-  here = lent_record file at
+  here = get_or rs i []
 
-  abbrev rest : List Bytes
-  rest = records_from file (at + 64)
-
-  place_step : 64 ≤ length file - at → record_or (k.fault s here) i (records_place k (k.after s here) (i + 1) rest) ≡ x
+  place_step : i < length rs → record_or (k.fault s here) i (records_place k (k.after s here) (i + 1) (drop (i + 1) rs)) ≡ x
   unfolding records_place record_faults first_record reached
   place_step h =
-      let a : i + suc (length rest) ≡ i + 1 + length rest = omega arith in
-      let fs = record_faults k (k.after s here) rest in
-      let e = k.end (reached k (k.after s here) rest) in
-      sym (ap (records_place k s i) (rows_lent file at h)
+      let a : i + suc (length (drop (i + 1) rs)) ≡ i + 1 + length (drop (i + 1) rs) = omega arith in
+      let fs = record_faults k (k.after s here) (drop (i + 1) rs) in
+      let e = k.end (reached k (k.after s here) (drop (i + 1) rs)) in
+      sym (ap (records_place k s i) (left_at rs i h)
       ∙ ap (λ (n : ℕ). record_or (k.fault s here) i (first_record (suc i) fs (end_place e n))) a
-      ∙ ap (λ (n : ℕ). record_or (k.fault s here) i (first_record n fs (end_place e (i + 1 + length rest)))) (sym (add-one i)))
+      ∙ ap (λ (n : ℕ). record_or (k.fault s here) i (first_record n fs (end_place e (i + 1 + length (drop (i + 1) rs))))) (sym (add-one i)))
       ∙ inv
 
-  pub place_done : (o : Option ℕ) (p : Place) → length file - at < 64 → o ≡ k.end s → p ≡ end_place o i → p ≡ x
+  pub place_stop : (f : ℕ) → i < length rs → k.fault s here ≡ some f → at_record f i ≡ x
+  place_stop f h e = rw e at (place_step h)
+
+  pub place_next : (t : S) → i < length rs → k.fault s here ≡ none → t ≡ k.after s here → records_place k t (i + 1) (drop (i + 1) rs) ≡ x
+  place_next t h e d = ap (λ (z : S). records_place k z (i + 1) (drop (i + 1) rs)) d ∙ rw e at (place_step h)
+
+  pub place_done : (p : Place) → i ≡ length rs → p ≡ end_place (k.end s) (length rs) → p ≡ x
   unfolding records_place record_faults first_record reached
-  place_done o p h e d =
-      let a : i ≡ i + 0 = omega arith in
-      d ∙ ap (λ (z : Option ℕ). end_place z i) e ∙ ap (end_place (k.end s)) a ∙ sym (ap (records_place k s i) (rows_end file at h)) ∙ inv
+  place_done p h d =
+      let a : length rs ≡ i + 0 = omega arith in
+      let l : length rs ≤ i = omega arith in
+      d ∙ ap (end_place (k.end s)) a ∙ sym (ap (records_place k s i) (left_none rs i l)) ∙ inv
 
-  module _ (f : Option ℕ) (b : Bool) (h : 64 ≤ length file - at) (e : f ≡ k.fault s (lent_record file at)) (eb : b ≡ not (present f)) where
-    pub place_stop : (p : Place) → not b ≡ true → p ≡ record_or f i sound → p ≡ x
-    place_stop p n d = pick f e (sym eb ∙ not-true b n) d
-      where
-        pick : (g : Option ℕ) → g ≡ k.fault s (lent_record file at) → not (present g) ≡ false → p ≡ record_or g i sound → p ≡ x
-        pick none z y q = absurd (false≢true (sym y))
-        pick (some g) z y q = q ∙ (rw (sym z) at (place_step h))
+-- a record of a file is 64 bytes
+pub record_length : (file : Bytes) (rs : List Bytes) (i : ℕ) → rs ≡ records file → i < length rs → length (get_or rs i []) ≡ 64
+record_length file rs i e h = every_get (λ (r : Bytes). length r ≡ 64) rs i (rw e (records_sized file)) h
+  where
+    every_get : (P : Bytes → Type 0) (xs : List Bytes) (i : ℕ) → Every P xs → i < length xs → P (get_or xs i [])
+    every_get P [] i a h = absurd (omega arith)
+    every_get P (x ∷ xs) zero a h = a.0
+    every_get P (x ∷ xs) (suc i) a h = every_get P xs i a.1 (omega arith)
 
-    pub place_next : (t : S) → not b ≡ false → t ≡ k.after s (lent_record file at) → records_place k t (i + 1) (records_from file (at + 64)) ≡ x
-    place_next t n d = ap (λ (z : S). records_place k z (i + 1) (records_from file (at + 64))) d ∙ pick f e (sym eb ∙ not-false b n)
-      where
-        pick : (g : Option ℕ) → g ≡ k.fault s (lent_record file at) → not (present g) ≡ true → records_place k (k.after s (lent_record file at)) (i + 1) (records_from file (at + 64)) ≡ x
-        pick none z y = rw (sym z) at (place_step h)
-        pick (some g) z y = absurd (false≢true y)
-
--- what the step of a reader found, and the state after it: of an ACL
-acl_fault_lem : (q t : AclState) (f : Checked) (x : Option ℕ) → acl.checked_as q f ≡ acl.read_past x (acl.on t) → fault_as f ≡ x
-acl_fault_lem q t code.Sound none e = refl
-acl_fault_lem q t code.Sound (some n) e = absurd (never (cc))
-acl_fault_lem q t (code.Refused r) none e = absurd (never (cc))
-acl_fault_lem q t (code.Refused r) (some n) e = let d : refusal_number r ≡ n = cc in ap some d
-
-acl_state : (q t : AclState) (f : Checked) (x : Option ℕ) → acl.checked_as q f ≡ acl.read_past x (acl.on t) → not (present (fault_as f)) ≡ true → q ≡ t
-acl_state q t code.Sound none e g = cc
-acl_state q t code.Sound (some n) e g = absurd (never (cc))
-acl_state q t (code.Refused r) x e g = absurd (false≢true g)
-
+-- what an ACL's reader found in one record, and the state after it
 acl_record : (s : AclState) (rec : Bytes) → length rec ≡ 64 → acl.reading s (records rec) ≡ acl.read_past (acl_record_fault s rec) (acl.on (after_record s rec))
 unfolding acl.reading
 acl_record s rec h =
@@ -89,50 +75,45 @@ acl_record s rec h =
     let e : records rec ≡ rec ∷ [] = first rec (omega arith) ∙ rw (take_all 64 rec (omega arith), d) in
     ap (acl.reading s) e
 
-module _ (s q : AclState) (file : Bytes) (at i : ℕ) (x : Place) (f : Checked) (b : Bool) (inv : records_place acl_kind s i (records_from file at) ≡ x) (h : 64 ≤ length file - at) (e : acl.checked_as q f ≡ acl.reading s (records (lent_record file at))) (eb : b ≡ not (present (fault_as f))) where
-  acl_read : acl.checked_as q f ≡ acl.read_past (acl_record_fault s (lent_record file at)) (acl.on (after_record s (lent_record file at)))
-  acl_read = e ∙ acl_record s (lent_record file at) (length-take-le (at + 64 - at) (drop at file) (omega (arith, length-drop at file)) ∙ omega arith)
+acl_stopped : (f : ℕ) (t : AclState) (o : Option ℕ) → acl.stopped f ≡ acl.read_past o (acl.on t) → o ≡ some f
+acl_stopped f t none e = absurd (never (cc))
+acl_stopped f t (some g) e = let d : g ≡ f = cc in ap some d
 
-  pub acl_stop : (p : Place) → not b ≡ true → p ≡ record_or (fault_as f) i sound → p ≡ x
-  acl_stop p n d = place_stop acl_kind file at s i x inv (fault_as f) b h (acl_fault_lem q _ f _ acl_read) eb p n d
+acl_passed : (q t : AclState) (o : Option ℕ) → acl.on q ≡ acl.read_past o (acl.on t) → (o ≡ none) × (q ≡ t)
+acl_passed q t none e = (refl, cc)
+acl_passed q t (some g) e = absurd (never (cc))
 
-  pub acl_next : not b ≡ false → records_place acl_kind q (i + 1) (records_from file (at + 64)) ≡ x
-  acl_next n = place_next acl_kind file at s i x inv (fault_as f) b h (acl_fault_lem q _ f _ acl_read) eb q n (acl_state q _ f (acl_record_fault s (lent_record file at)) acl_read (sym eb ∙ not-false b n))
+module _ (s : AclState) (rec : Bytes) (h : length rec ≡ 64) where
+  pub acl_fault_lem : (f : ℕ) → acl.stopped f ≡ acl.reading s (records rec) → acl_record_fault s rec ≡ some f
+  acl_fault_lem f e = acl_stopped f _ _ (e ∙ acl_record s rec h)
 
--- the start and the end of an ACL
-pub acl_start_lem : (s : AclState) (file : Bytes) → s ≡ acl_start → records_place acl_kind s 0 (records_from file 0) ≡ records_place acl_kind acl_start 0 (records file)
-unfolding records_from
-acl_start_lem s file e = ap (λ (t : AclState). records_place acl_kind t 0 (records file)) e
+  pub acl_sound_lem : (q : AclState) → acl.on q ≡ acl.reading s (records rec) → (acl_record_fault s rec ≡ none) × (q ≡ after_record s rec)
+  acl_sound_lem q e = acl_passed q _ _ (e ∙ acl_record s rec h)
 
-module _ (s : AclState) (file : Bytes) (at i : ℕ) (x : Place) (inv : records_place acl_kind s i (records_from file at) ≡ x) (h : length file - at < 64) where
-  pub acl_due : s.file_due ≡ true → at_end (refusal_number Malformed) i ≡ x
-  acl_due d = place_done acl_kind file at s i x inv (acl_end s) _ h refl (sym (rw d))
+-- what another file's reader found
+stopped_at : (f : ℕ) (t : AnyState) (o : Option ℕ) → states.stopped f ≡ states.past o t → o ≡ some f
+stopped_at f t none e = absurd (never (cc))
+stopped_at f t (some g) e = let d : g ≡ f = cc in ap some d
 
-  pub acl_sound_lem : s.file_due ≡ false → sound ≡ x
-  acl_sound_lem d = place_done acl_kind file at s i x inv (acl_end s) _ h refl (sym (rw d))
+passed_to : (q t : AnyState) (o : Option ℕ) → states.on q ≡ states.past o t → (o ≡ none) × (q ≡ t)
+passed_to q t none e = (refl, cc)
+passed_to q t (some g) e = absurd (never (cc))
 
--- of another file
-other_fault : (q t : AnyState) (f : Checked) (x : Option ℕ) → states.checked_as q f ≡ states.past x t → fault_as f ≡ x
-other_fault q t code.Sound none e = refl
-other_fault q t code.Sound (some n) e = absurd (never (cc))
-other_fault q t (code.Refused r) none e = absurd (never (cc))
-other_fault q t (code.Refused r) (some n) e = let d : refusal_number r ≡ n = cc in ap some d
-
-other_state : (q t : AnyState) (f : Checked) (x : Option ℕ) → states.checked_as q f ≡ states.past x t → not (present (fault_as f)) ≡ true → q ≡ t
-other_state q t code.Sound none e g = cc
-other_state q t code.Sound (some n) e g = absurd (never (cc))
-other_state q t (code.Refused r) x e g = absurd (false≢true g)
-
-module _ (start s q : AnyState) (file : Bytes) (at i : ℕ) (x : Place) (f : Checked) (b : Bool) (inv : records_place (kind_from start) s i (records_from file at) ≡ x) (h : 64 ≤ length file - at) (e : states.checked_as q f ≡ step_of s (lent_record file at)) (eb : b ≡ not (present (fault_as f))) where
-  other_read : states.checked_as q f ≡ states.past (state_fault s (lent_record file at)) (state_after s (lent_record file at))
+module _ (s : AnyState) (rec : Bytes) where
+  pub other_fault : (f : ℕ) → states.stopped f ≡ step_of s rec → state_fault s rec ≡ some f
   unfolding step_of
-  other_read = e
+  other_fault f e = stopped_at f _ _ e
 
-  pub other_stop : (p : Place) → not b ≡ true → p ≡ record_or (fault_as f) i sound → p ≡ x
-  other_stop p n d = place_stop (kind_from start) file at s i x inv (fault_as f) b h (other_fault q _ f _ other_read) eb p n d
+  pub other_sound : (q : AnyState) → states.on q ≡ step_of s rec → (state_fault s rec ≡ none) × (q ≡ state_after s rec)
+  unfolding step_of
+  other_sound q e = passed_to q _ _ e
 
-  pub other_next : not b ≡ false → records_place (kind_from start) q (i + 1) (records_from file (at + 64)) ≡ x
-  other_next n = place_next (kind_from start) file at s i x inv (fault_as f) b h (other_fault q _ f _ other_read) eb q n (other_state q _ f (state_fault s (lent_record file at)) other_read (sym eb ∙ not-false b n))
+-- the end of an ACL
+pub acl_due : (s : AclState) (n : ℕ) → s.file_due ≡ true → at_end (refusal_number Malformed) n ≡ end_place (acl_end s) n
+acl_due s n d = sym (rw d)
+
+pub acl_over : (s : AclState) (n : ℕ) → s.file_due ≡ false → sound ≡ end_place (acl_end s) n
+acl_over s n d = sym (rw d)
 
 -- a file: its length, then its records
 module _ {S : Type 0} (k : FileKind S) (file : Bytes) (m : ℕ) (w : Bool) (em : m ≡ k.most) (ew : w ≡ fits m file) where

@@ -1,5 +1,5 @@
 -- Where the first fault of a file is, for each kind of file: its length, a record by its index, or its end.
-use Rattle.std.specs.Prelude.{ℕ, suc, ◌+◌, List, [], ◌∷◌, length, if◌then◌else◌}
+use Rattle.std.specs.Prelude.{ℕ, Result, Ok, Err, suc, ◌+◌, List, [], ◌∷◌, length, if◌then◌else◌}
 use Rattle.std.proofs.Math.Option.{Option, none, some}
 use Rattle.rules.specs.Numbers.{bad_length}
 use Rattle.rules.specs.Basics.{Bytes, records, fits}
@@ -7,8 +7,8 @@ use Rattle.refusals.specs.Refusals.{refusal_number}
 use Rattle.text_rules.specs.Kinds.{FileKind, acl_kind, request_kind, requests_kind, bundle_kind, hints_kind}
 use Rattle.text_files.specs.declared.Kind.{Kind}
 use Rattle.text_files.specs.declared.Kind.TheVariants.{Acl, Request, Requests, Bundle, Hints}
-use Rattle.reason_files.specs.declared.FilePlace.{FilePlace}
-use Rattle.reason_files.specs.declared.FilePlace.TheVariants as code
+use Rattle.reason_files.specs.declared.FilePlace as code
+use Rattle.reason_files.specs.declared.FilePlace.TheVariants as by
 
 -- Where a fault is: there is none; the length; a record, with the refusal and its index from 0; the end, with the refusal and the number of records.
 pub data Place : Type 0 where
@@ -66,8 +66,8 @@ place_in Bundle file = file_place bundle_kind file
 place_in Hints file = file_place hints_kind file
 
 -- the code's answer
-abbrev pub place_as : FilePlace → Place
-place_as code.Sound = sound
-place_as code.Length = at_length
-place_as (code.Record r i) = at_record (refusal_number r) i
-place_as (code.End r n) = at_end (refusal_number r) n
+abbrev pub place_as : Result (Unit {0}) code.FilePlace → Place
+place_as (Ok x) = sound
+place_as (Err by.Length) = at_length
+place_as (Err (by.Record r i)) = at_record (refusal_number r) i
+place_as (Err (by.End r n)) = at_end (refusal_number r) n

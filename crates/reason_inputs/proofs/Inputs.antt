@@ -19,10 +19,10 @@ use Rattle.text_rules.specs.Kinds.{FileKind, kind_fault, acl_kind, request_kind,
 use Rattle.text_rules.proofs.Readers.{acl_reader, request_reader, hints_reader}
 use Rattle.reason_files.specs.Places.{Place, sound, at_length, at_record, at_end, place_refusal, file_place}
 use Rattle.reason_files.proofs.Places.{place_refusal_lem, length_is_bad}
-use Rattle.reason_inputs.specs.Inputs.{InputPlace, is_length, is_fault, inputs_place, earlier_of, km0_place, asks_other, use_place, input_at, request_inputs, narrow_inputs, expand_inputs}
+use Rattle.reason_inputs.specs.Inputs.{InputPlace, is_length, is_fault, inputs_place, km0_place, asks_other, use_place, input_at, request_inputs, narrow_inputs, expand_inputs}
 use Rattle.reason_inputs.specs.declared.Input.{Input}
 use Rattle.reason_inputs.specs.declared.Input.TheVariants.{Km0, Acl, Request, NewAcl, Hints}
-use Rattle.reason_inputs.proofs.Laws.{first_length, second_length, first_fault_lem, second_fault, inputs_cons, inputs_none}
+use Rattle.reason_inputs.proofs.Laws.{earlier_of, only_length, first_length, second_length, first_fault_lem, second_fault, inputs_cons, inputs_none}
 
 -- An input, or the first of several: whether lengths fit, and where they do the first fault of the records.
 record Sized (p : InputPlace) (b : Bool) (o : Option ℕ) : Type 0 where
@@ -44,12 +44,6 @@ no_refusal sound h = refl
 no_refusal at_length h = absurd (false≢true (sym h))
 no_refusal (at_record f i) h = absurd (false≢true (sym h))
 no_refusal (at_end f n) h = absurd (false≢true (sym h))
-
-only_length : (p : Place) → is_length p ≡ true → p ≡ at_length
-only_length sound h = absurd (false≢true h)
-only_length at_length h = refl
-only_length (at_record f i) h = absurd (false≢true h)
-only_length (at_end f n) h = absurd (false≢true h)
 
 -- of two inputs
 sized_earlier : (p q : InputPlace) (b c : Bool) (o u : Option ℕ) → Sized p b o → Sized q c u → Sized (earlier_of p q) (b && c) (or_next o u)

@@ -1,21 +1,37 @@
 -- Inputs one after the other, and each input by what the code found.
-use Prim.Native.Nat.{ℕ, ◌≤◌, ◌<◌}
+use Prim.Native.Nat.{ℕ, ◌+◌, ◌≤◌, ◌<◌}
+use native.Mathlib.Numerals.{add-one}
 use mathlib.Core.Path.{◌≡◌, refl, sym, ◌∙◌, ap}
 use mathlib.Core.List.{List, [], ◌∷◌}
-use mathlib.Core.Bool.{Bool, true, false, not, ◌&&◌}
-use lib.ListN.{length, take}
+use mathlib.Core.Bool.{Bool, true, false, not, ◌&&◌, false≢true}
+use mathlib.Core.Option.{none, some}
+use lib.ListN.{length, take, drop, get_or, drop_of_length-le}
+use lib.Seq.{drop-cons}
 use borrow.Author.Tests.{eq-eqb, ne_eqb}
 use Rattle.rules.specs.Sizes.{hash_bytes, request_records}
 use Rattle.rules.specs.Numbers.{malformed}
-use Rattle.std.specs.Prelude.{if◌then◌else◌}
+use Rattle.std.specs.Prelude.{Result, Ok, Err, map, if◌then◌else◌}
+use Rattle.std.specs.Result.{IsErrAnd, IsErr}
+use Rattle.rules.proofs.Laws.{never}
 use Rattle.rules.specs.Basics.{Bytes, records, fits}
-use Rattle.rules.specs.Request.{use_of, reduce_acl, expand_acl}
+use Rattle.rules.specs.Request.{use_of}
 use Rattle.rules.proofs.Rows.{first, no_rows}
-use Rattle.text_rules.specs.Kinds.{acl_kind, request_kind, hints_kind}
 use Rattle.text_files.specs.declared.Kind.TheVariants as kind
-use Rattle.reason_files.specs.Places.{Place, sound, at_length, at_record, at_end, file_place, place_in}
-use Rattle.reason_inputs.specs.Inputs.{InputPlace, no_input, is_length, is_fault, first_input, inputs_place, earlier_of, km0_place, asks_other, use_place, input_at, request_inputs, narrow_inputs, expand_inputs}
-use Rattle.reason_inputs.specs.declared.Input.TheVariants.{Km0, Acl, Request, NewAcl, Hints}
+use Rattle.reason_files.specs.Places.{Place, sound, at_length, at_record, at_end, place_in, place_as}
+use Rattle.reason_files.specs.declared.FilePlace.{FilePlace}
+use Rattle.reason_files.specs.declared.FilePlace.TheVariants.{Length, Record, End}
+use Rattle.reason_inputs.specs.declared.Input.{Input}
+use Rattle.reason_inputs.specs.declared.InputPlace as code
+use Rattle.reason_inputs.specs.declared.Located.{Located}
+use Rattle.reason_inputs.specs.Inputs.{located_as, input_place_as, InputPlace, no_input, is_length, is_fault, first_input, inputs_place, km0_place, asks_other, use_place, input_at}
+
+-- of two inputs, the one at fault: a bad length before any other fault, else the first
+unfoldable pub earlier_of : InputPlace → InputPlace → InputPlace
+earlier_of p q =
+    if is_length p.place then p
+    else if is_length q.place then q
+    else if is_fault p.place then p
+    else q
 
 -- Of two inputs, by the tests that the code made.
 module _ (p q : InputPlace) (x : Bool) (e : x ≡ is_length p.place) where
@@ -65,10 +81,6 @@ pub inputs_none : inputs_place [] ≡ no_input
 unfolding inputs_place first_input
 inputs_none = refl
 
--- an input before others whose first fault is known
-before : (p q : InputPlace) (ps : List InputPlace) → q ≡ inputs_place ps → earlier_of p q ≡ inputs_place (p ∷ ps)
-before p q ps e = ap (earlier_of p) e ∙ sym (inputs_cons p ps)
-
 -- KM0
 pub km0_fits : (km0 : Bytes) → length km0 ≡ hash_bytes → sound ≡ km0_place km0
 km0_fits km0 e = sym (rw (eq-eqb (length km0) hash_bytes e))
@@ -96,36 +108,60 @@ module _ (p : ℕ) (req : Bytes) where
     unfolding use_place place_in
     use_same x h e = e ∙ sym (rw (sym both ∙ h))
 
--- KM0 and the ACL before the others
-pub held_is : (km0 acl : Bytes) (r k a q rest : InputPlace) (kp mp : Place) → r ≡ earlier_of k q → k ≡ input_at Km0 kp → kp ≡ km0_place km0 → q ≡ earlier_of a rest → a ≡ input_at Acl mp → mp ≡ place_in kind.Acl acl
-    → r ≡ earlier_of (input_at Km0 (km0_place km0)) (earlier_of (input_at Acl (file_place acl_kind acl)) rest)
-unfolding place_in
-held_is km0 acl r k a q rest kp mp er ek ekp eq ea emp = er ∙ rw (ek ∙ ap (input_at Km0) ekp, eq ∙ ap (λ (z : InputPlace). earlier_of z rest) (ea ∙ ap (input_at Acl) emp))
+-- The turns of a search for the first input, by the index.
+module _ (test : Place → Bool) (xs : List Located) (i : ℕ) (d : Located) (x : InputPlace) (inv : first_input test (map located_as (drop i xs)) ≡ x) where
+  search_step : i < length xs → (if test (place_as (get_or xs i d).found) then located_as (get_or xs i d) else first_input test (map located_as (drop (i + 1) xs))) ≡ x
+  unfolding first_input
+  search_step h =
+      let e : drop i xs ≡ get_or xs i d ∷ drop (i + 1) xs = rw (add-one, drop-cons xs i d) in
+      sym (ap (λ (ys : List Located). first_input test (map located_as ys)) e) ∙ inv
 
-module _ (km0 acl req new hints : Bytes) (r rest : InputPlace) (er : r ≡ earlier_of (input_at Km0 (km0_place km0)) (earlier_of (input_at Acl (file_place acl_kind acl)) rest)) where
-  held_before : (ps : List InputPlace) → rest ≡ inputs_place ps → r ≡ inputs_place (input_at Km0 (km0_place km0) ∷ input_at Acl (file_place acl_kind acl) ∷ ps)
-  held_before ps e = er ∙ before (input_at Km0 (km0_place km0)) _ (input_at Acl (file_place acl_kind acl) ∷ ps) (before (input_at Acl (file_place acl_kind acl)) rest ps e)
+  pub search_stop : (q : Place) → i < length xs → place_as (get_or xs i d).found ≡ q → test q ≡ true → input_at (get_or xs i d).input q ≡ x
+  search_stop q h e t = ap (input_at (get_or xs i d).input) (sym e) ∙ (rw (ap test e ∙ t) at (search_step h))
 
-  pub request_is : (p : Place) → rest ≡ earlier_of (input_at Request p) no_input → p ≡ place_in kind.Request req → r ≡ inputs_place (request_inputs km0 acl req)
-  unfolding place_in
-  request_is p d e = held_before (input_at Request (file_place request_kind req) ∷ []) (d ∙ ap (λ (z : Place). earlier_of (input_at Request z) no_input) e ∙ before _ no_input [] (sym inputs_none))
+  pub search_next : i < length xs → test (place_as (get_or xs i d).found) ≡ false → first_input test (map located_as (drop (i + 1) xs)) ≡ x
+  search_next h t = rw t at (search_step h)
 
-  pub narrow_is : (a u n l : InputPlace) (pa pn pl : Place) → rest ≡ earlier_of a u → a ≡ input_at Request pa → pa ≡ use_place reduce_acl req → u ≡ earlier_of n l → n ≡ input_at NewAcl pn → pn ≡ place_in kind.Acl new
-      → l ≡ earlier_of (input_at Hints pl) no_input → pl ≡ place_in kind.Hints hints → r ≡ inputs_place (narrow_inputs km0 acl req new hints)
-  unfolding place_in
-  narrow_is a u n l pa pn pl d da dpa du dn dpn dl dpl =
-      let el : l ≡ inputs_place (input_at Hints (file_place hints_kind hints) ∷ []) = dl ∙ ap (λ (z : Place). earlier_of (input_at Hints z) no_input) dpl ∙ before _ no_input [] (sym inputs_none) in
-      let eu : u ≡ inputs_place (input_at NewAcl (file_place acl_kind new) ∷ input_at Hints (file_place hints_kind hints) ∷ []) =
-      du ∙ ap (λ (z : InputPlace). earlier_of z l) (dn ∙ ap (input_at NewAcl) dpn) ∙ before _ l _ el in
-      held_before _ (d ∙ ap (λ (z : InputPlace). earlier_of z u) (da ∙ ap (input_at Request) dpa) ∙ before _ u _ eu)
+  pub search_done : length xs ≤ i → no_input ≡ x
+  unfolding first_input
+  search_done h = sym (ap (λ (ys : List Located). first_input test (map located_as ys)) (drop_of_length-le xs {i = i} h)) ∙ inv
 
-  pub expand_is : (a l : InputPlace) (pa pl : Place) → rest ≡ earlier_of a l → a ≡ input_at Request pa → pa ≡ use_place expand_acl req → l ≡ earlier_of (input_at NewAcl pl) no_input → pl ≡ place_in kind.Acl new
-      → r ≡ inputs_place (expand_inputs km0 acl req new)
-  unfolding place_in
-  expand_is a l pa pl d da dpa dl dpl =
-      let el : l ≡ inputs_place (input_at NewAcl (file_place acl_kind new) ∷ []) = dl ∙ ap (λ (z : Place). earlier_of (input_at NewAcl z) no_input) dpl ∙ before _ no_input [] (sym inputs_none) in
-      held_before _ (d ∙ ap (λ (z : InputPlace). earlier_of z l) (da ∙ ap (input_at Request) dpa) ∙ before _ l _ el)
+pub err_is_fault : (f : FilePlace) → is_fault (place_as (Err f)) ≡ true
+err_is_fault Length = refl
+err_is_fault (Record r i) = refl
+err_is_fault (End r n) = refl
 
--- the last input
-pub last_is : (r p q : InputPlace) (a b : InputPlace) → r ≡ earlier_of p q → p ≡ a → q ≡ b → r ≡ earlier_of a b
-last_is r p q a b e d f = e ∙ rw (d, f)
+pub only_length : (p : Place) → is_length p ≡ true → p ≡ at_length
+only_length sound h = absurd (false≢true h)
+only_length at_length h = refl
+only_length (at_record f i) h = absurd (false≢true h)
+only_length (at_end f n) h = absurd (false≢true h)
+
+-- An input that a search finds passes its test.
+found_passes : (test : Place → Bool) (ps : List InputPlace) (i : Input) (q : Place) → input_at i q ≡ first_input test ps → test q ≡ true
+unfolding first_input
+found_passes test [] i q e =
+    let d : some i ≡ none = ap (λ (z : InputPlace). z.input) e in
+    absurd (never (cc))
+found_passes test (p ∷ ps) i q e = pick (test p.place) refl e (found_passes test ps i q)
+  where
+    pick : (b : Bool) → test p.place ≡ b → input_at i q ≡ (if b then p else first_input test ps) → (input_at i q ≡ first_input test ps → test q ≡ true) → test q ≡ true
+    pick true t f next = ap (λ (z : InputPlace). test z.place) f ∙ t
+    pick false t f next = next f
+
+pub handed_on : (x : Result (Unit {0}) code.InputPlace) (p : code.InputPlace) → IsErr x × IsErrAnd x (λ e. e ≡ p) → input_place_as x ≡ input_at p.input (place_as (Err p.place))
+handed_on (Ok x) p h = absurd h.1
+handed_on (Err e) p h = ap (λ (z : code.InputPlace). input_at z.input (place_as (Err z.place))) h.1
+
+module _ (ps : List InputPlace) (x : InputPlace) where
+  pub long_first : (i : Input) (q : Place) → x ≡ input_at i q → input_at i q ≡ first_input is_length ps → x ≡ inputs_place ps
+  unfolding inputs_place
+  long_first i q d e =
+      let t : is_length (first_input is_length ps).place ≡ true = sym (ap (λ (z : InputPlace). is_length z.place) e) ∙ found_passes is_length ps i q e in
+      d ∙ e ∙ sym (rw t)
+
+  pub none_long : no_input ≡ first_input is_length ps → x ≡ first_input is_fault ps → x ≡ inputs_place ps
+  unfolding inputs_place
+  none_long e d =
+      let t : is_length (first_input is_length ps).place ≡ false = sym (ap (λ (z : InputPlace). is_length z.place) e) in
+      d ∙ sym (rw t)

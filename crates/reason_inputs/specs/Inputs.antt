@@ -1,5 +1,6 @@
 -- Which input of a call is at fault, and where.
-use Rattle.std.specs.Prelude.{ℕ, List, [], ◌∷◌, Bool, true, false, not, ◌&&◌, length, eqb, if◌then◌else◌}
+use Rattle.std.specs.Prelude.{ℕ, Result, Ok, Err, List, [], ◌∷◌, Bool, true, false, not, ◌&&◌, length, eqb, if◌then◌else◌}
+use Rattle.std.proofs.Math.Option.{Option, none, some}
 use Rattle.rules.specs.Sizes.{hash_bytes, request_records}
 use Rattle.rules.specs.Numbers.{malformed}
 use Rattle.rules.specs.Basics.{Bytes, records, fits}
@@ -7,17 +8,18 @@ use Rattle.rules.specs.Request.{use_of, reduce_acl, expand_acl}
 use Rattle.text_rules.specs.Kinds.{acl_kind, request_kind, hints_kind}
 use Rattle.reason_files.specs.Places.{Place, sound, at_length, at_record, at_end, file_place, place_as}
 use Rattle.reason_inputs.specs.declared.Input.{Input}
-use Rattle.reason_inputs.specs.declared.Input.TheVariants.{Nothing, Km0, Acl, Request, NewAcl, Hints}
+use Rattle.reason_inputs.specs.declared.Input.TheVariants.{Km0, Acl, Request, NewAcl, Hints}
 use Rattle.reason_inputs.specs.declared.InputPlace as code
+use Rattle.reason_inputs.specs.declared.Located.{Located}
 
--- An input of a call, and where its first fault is.
+-- An input of a call, or none, and where its first fault is.
 pub record InputPlace : Type 0 where
-  pub input : Input
+  pub input : Option Input
   pub place : Place
 
 -- no input
 abbrev pub no_input : InputPlace
-no_input = record { input = Nothing; place = sound }
+no_input = record { input = none; place = sound }
 
 -- a bad length
 abbrev pub is_length : Place → Bool
@@ -42,14 +44,6 @@ first_input test (p ∷ ps) = if test p.place then p else first_input test ps
 unfoldable pub inputs_place : List InputPlace → InputPlace
 inputs_place ps = if is_length (first_input is_length ps).place then first_input is_length ps else first_input is_fault ps
 
--- of two inputs, the one at fault: a bad length before any other fault, else the first
-unfoldable pub earlier_of : InputPlace → InputPlace → InputPlace
-earlier_of p q =
-    if is_length p.place then p
-    else if is_length q.place then q
-    else if is_fault p.place then p
-    else q
-
 -- "KM0 hash not 20 bytes"
 abbrev pub km0_place : Bytes → Place
 km0_place km0 = if eqb (length km0) hash_bytes then sound else at_length
@@ -65,7 +59,7 @@ use_place p req = if fits request_records req && asks_other p (records req) then
 
 -- an input at a place
 abbrev pub input_at : Input → Place → InputPlace
-input_at i p = record { input = i; place = p }
+input_at i p = record { input = some i; place = p }
 
 -- the inputs of each call: "inputs in the order ACL, request with certificates, new ACL, hints", KM0 before them
 abbrev pub request_inputs : Bytes → Bytes → Bytes → List InputPlace
@@ -92,6 +86,11 @@ expand_inputs km0 acl req new =
     ∷ input_at NewAcl (file_place acl_kind new)
     ∷ []
 
+-- an input with what the code found in it
+abbrev pub located_as : Located → InputPlace
+located_as p = input_at p.input (place_as p.found)
+
 -- the code's answer
-abbrev pub input_place_as : code.InputPlace → InputPlace
-input_place_as p = input_at p.input (place_as p.place)
+abbrev pub input_place_as : Result (Unit {0}) code.InputPlace → InputPlace
+input_place_as (Ok x) = no_input
+input_place_as (Err p) = input_at p.input (place_as (Err p.place))

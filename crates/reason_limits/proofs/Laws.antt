@@ -1,25 +1,21 @@
 -- A limit by itself, and the turns of a loop over limits for the first that fails a test.
-use Prim.Native.Nat.{ℕ, ◌+◌, ◌-◌, ◌≤◌, ◌<◌}
+use Prim.Native.Nat.{ℕ, ◌+◌, ◌≤◌, ◌<◌}
 use native.Mathlib.Omega.{arith}
 use native.Mathlib.Numerals.{add-one}
 use mathlib.Core.Path.{◌≡◌, refl, sym, ◌∙◌, ap}
 use mathlib.Core.List.{List, [], ◌∷◌}
 use mathlib.Core.Option.{Option, none, some}
-use mathlib.Core.Bool.{Bool, true, false, not, ◌&&◌}
+use mathlib.Core.Bool.{Bool, true, false, ◌&&◌}
 use lib.ListN.{length, get_or, drop, length-drop}
 use lib.Seq.{take_all}
 use lib.Dec.{ltb}
-use borrow.Author.Tests.{eq-eqb, ne_eqb, not-true, not-false}
-use Rattle.rules.specs.Basics.{Bytes, all, byte, number, records, records_from}
+use borrow.Author.Tests.{eq-eqb, ne_eqb}
+use Rattle.rules.specs.Basics.{Bytes, all, byte, kind, number, records}
 use Rattle.rules.specs.Acl.{Limit, limit_of, limits_of}
 use Rattle.rules.specs.Grant.{limit_left, unspent_with}
-use Rattle.rules.proofs.Rows.{lent_record, lent_record_lem, kind_at, first, no_rows}
-use Rattle.acl_groups.proofs.Laws.{limits_step, limits_stop, limits_end}
+use Rattle.rules.proofs.Rows.{first, no_rows}
+use Rattle.acl_groups.proofs.Laws.{limits_at, limits_over, limits_none}
 use Rattle.reason_limits.specs.Limits.{first_failing}
-
--- a limit as code lends it begins with its kind
-pub lent_kind : (s : Bytes) (at : ℕ) → get_or s at 0 ≡ 2 → get_or (lent_record s at) 0 0 ≡ 2
-lent_kind s at e = ap (λ (r : Bytes). get_or r 0 0) (lent_record_lem s at) ∙ kind_at s at ∙ e
 
 module _ (counters : List ℕ) (own elapsed : ℕ) (r : Bytes) where
   -- one of sort 1 is about the group's own count
@@ -43,24 +39,23 @@ module _ (counters : List ℕ) (own elapsed : ℕ) (r : Bytes) where
   unfolding limit_left all
   other_left b h k n e = e ∙ rw (one_limit h k, ne_eqb (byte 4 r) 1 n) (and_true _)
 
-module _ (test : Limit → Bool) (s : Bytes) (at i : ℕ) (x : Option ℕ) (inv : first_failing test i (limits_of (records_from s at)) ≡ x) where
-  pub failing_stop : 64 ≤ length s - at → (get_or s at 0 ≡ 2 → ⊥) → none ≡ x
+-- A loop over the records of a group for the first limit that fails a test, from the i-th record on.
+module _ (test : Limit → Bool) (xs : List Bytes) (i : ℕ) (x : Option ℕ) (inv : first_failing test i (limits_of (drop i xs)) ≡ x) where
+  pub failing_done : length xs ≤ i → none ≡ x
   unfolding first_failing
-  failing_stop h n = sym (ap (first_failing test i) (limits_stop s at h n)) ∙ inv
+  failing_done h = sym (ap (first_failing test i) (limits_none xs i h)) ∙ inv
 
-  pub failing_done : length s - at < 64 → none ≡ x
-  unfolding first_failing
-  failing_done h = sym (ap (first_failing test i) (limits_end s at h)) ∙ inv
-
-  module _ (t : Bool) (h : 64 ≤ length s - at) (e : get_or s at 0 ≡ 2) (d : t ≡ test (limit_of (lent_record s at))) where
-    pub failing_here : not t ≡ true → some i ≡ x
+  module _ (h : i < length xs) where
+    pub failing_stop : (kind (get_or xs i []) ≡ 2 → ⊥) → none ≡ x
     unfolding first_failing
-    failing_here y =
-        let q : test (limit_of (lent_record s at)) ≡ false = sym d ∙ not-true t y in
-        sym (ap (first_failing test i) (limits_step s at h e) ∙ rw q) ∙ inv
+    failing_stop n = sym (ap (first_failing test i) (limits_over xs i h n)) ∙ inv
 
-    pub failing_next : not t ≡ false → first_failing test (i + 1) (limits_of (records_from s (at + 64))) ≡ x
-    unfolding first_failing
-    failing_next y =
-        let q : test (limit_of (lent_record s at)) ≡ true = sym d ∙ not-false t y in
-        ap (λ (n : ℕ). first_failing test n (limits_of (records_from s (at + 64)))) (add-one i) ∙ sym (ap (first_failing test i) (limits_step s at h e) ∙ rw q) ∙ inv
+    module _ (t : Bool) (e : kind (get_or xs i []) ≡ 2) (d : t ≡ test (limit_of (get_or xs i []))) where
+      pub failing_here : t ≡ false → some i ≡ x
+      unfolding first_failing
+      failing_here y = sym (ap (first_failing test i) (limits_at xs i h e) ∙ rw (sym d ∙ y)) ∙ inv
+
+      pub failing_next : t ≡ true → first_failing test (i + 1) (limits_of (drop (i + 1) xs)) ≡ x
+      unfolding first_failing
+      failing_next y =
+          ap (λ (n : ℕ). first_failing test n (limits_of (drop (i + 1) xs))) (add-one i) ∙ sym (ap (first_failing test i) (limits_at xs i h e) ∙ rw (sym d ∙ y)) ∙ inv

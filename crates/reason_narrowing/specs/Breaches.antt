@@ -1,9 +1,9 @@
 -- What breaks a narrowing: the first new group that its hint does not show to be narrower than its source, and the first test that it fails.
-use Rattle.std.specs.Prelude.{ℕ, suc, List, [], ◌∷◌, Bool, true, false, not, ◌&&◌, leb, if◌then◌else◌}
+use Rattle.std.specs.Prelude.{ℕ, suc, Result, Ok, Err, List, [], ◌∷◌, Bool, true, false, not, ◌&&◌, leb, if◌then◌else◌}
 use Rattle.std.proofs.Math.Option.{Option, none, some}
 use Rattle.std.proofs.Math.ListN.{get_elem?}
-use Rattle.rules.specs.Basics.{Bytes, all_zero, present}
-use Rattle.rules.specs.Acl.{Action, Group, group_of}
+use Rattle.rules.specs.Basics.{all_zero, present}
+use Rattle.rules.specs.Acl.{Action, Group}
 use Rattle.rules.specs.Request.{Hint}
 use Rattle.rules.specs.Narrow.{kept, kept_number, is_answered, no_wider_than}
 use Rattle.reason_limits.specs.Limits.{first_failing}
@@ -73,6 +73,7 @@ narrowing_from old low i (n ∷ ns) (h ∷ hs) =
 abbrev pub narrowing_of : List Group → List Group → List Hint → Narrowing
 narrowing_of old new hints = narrowing_from old 0 0 new hints
 
--- a new group against its source, by their records
-unfoldable pub records_breach : Bytes → List Bytes → Bytes → Bytes → List Bytes → Breach
-records_breach n ns hints o os = group_breach (group_of n ns) hints (group_of o os)
+-- what the code says of a group
+abbrev pub breach_as : {A : Type 0} → Result A Breach → Breach
+breach_as (Ok x) = breach.Nothing
+breach_as (Err b) = b

@@ -2,19 +2,23 @@
 // bytes; the files need not have been tested.
 #![tactic(auto)]
 
-ghost use Rattle.std.specs.Prelude.{◌≡◌, ◌≤◌, ◌<◌, length, get_or};
+ghost use Rattle.std.specs.Prelude.{◌≡◌, true, IfErr};
 ghost use Rattle.std.proofs.Math.ListN.{get_elem?};
-ghost use Rattle.rules.specs.Sizes.{record_bytes};
 ghost use Rattle.rules.specs.Basics.{records};
-ghost use Rattle.rules.specs.Acl.{limits_of, actions_of, group_of, acl_of};
+ghost use Rattle.rules.specs.Acl.{limits_of, actions_of, acl_of};
 ghost use Rattle.rules.specs.Request.{hints_of};
-ghost use Rattle.rules.specs.Narrow.{is_answered};
+ghost use Rattle.rules.specs.Narrow.{is_answered, no_wider_than};
+ghost use Rattle.acl_groups.specs.Parts.{said, action_read, group_read};
 ghost use Rattle.reason_limits.specs.Limits.{first_failing};
-ghost use Rattle.reason_narrowing.specs.Breaches.{actions_named, first_wider, wider_breach, limit_breach, is_breach, records_breach, source_breach, narrowing_of};
+ghost use Rattle.reason_narrowing.specs.Breaches.{actions_named, first_wider, group_breach, is_breach, breach_as, narrowing_of};
 
+use acl_groups::{Actions, Groups};
+use record_sizes::Record;
+
+// stays: `Nothing` is what c_reasons::breach_reason tells as 0 in the C interface.
 // The first test that a new group fails: none; its hint; the certifier or mechanism of its source; a limit of the source, by its index; an action of the
 // new group, by its index.
-#[derive(Clone, Copy)]
+#[derive(Clone, Copy, Debug, PartialEq, Eq)]
 pub enum Breach {
     Nothing,
     Hint,
@@ -24,173 +28,119 @@ pub enum Breach {
 }
 
 // Whether hints show a narrowing; else the index of the first new group that breaks it, or the number of new groups where a hint is left over.
-#[derive(Clone, Copy)]
+#[derive(Clone, Copy, Debug, PartialEq, Eq)]
 pub enum Narrowing {
     Shown,
     Broken(usize, Breach),
-}
-
-// A byte as a wider number.
-fn widened(b: u8) -> u16
-    ensures { (result ≡ b) × (result < 256) }
-{
-    b as u16
-}
-
-// Whether a test failed.
-fn is_breach(b: Breach) -> bool
-    ensures { result ≡ is_breach b }
-{
-    match b {
-        Breach::Nothing => false,
-        Breach::Hint => true,
-        Breach::Certifier => true,
-        Breach::Limit(_) => true,
-        Breach::Action(_) => true,
-    }
-}
-
-// How many actions a group has, of the records after its first one.
-fn action_count(body: &[u8]) -> usize
-    ensures { result ≡ length (actions_of (records body.now)) }
-{
-    let mut n = 0;
-    let mut at = acl_groups::next_action(body, 0);
-    while record_sizes::RECORD <= body.len() - at {
-        n += 1;
-        at = acl_groups::next_action(body, at + record_sizes::RECORD);
-    }
-    n
 }
 
 // Whether the hint's bytes name an action of the source for each new action; those that are not used are zero.
 fn actions_named(new: &[u8], hints: &[u8], old: &[u8]) -> bool
     ensures { result ≡ actions_named (actions_of (records new.now)) hints.now (actions_of (records old.now)) }
 {
-    let count = action_count(old);
-    let mut i = 0;
-    let mut at = acl_groups::next_action(new, 0);
-    while record_sizes::RECORD <= new.len() - at {
-        if hints.len() <= i {
+    let mut left = hints;
+    for _ in Actions(new) {
+        let Some((hint, others)) = left.split_first() else {
             return false;
-        }
-        if count <= (widened(hints[i]) as usize) {
+        };
+        let Some(_) = Actions(old).nth(*hint as usize) else {
             return false;
-        }
-        i += 1;
-        at = acl_groups::next_action(new, at + record_sizes::RECORD);
+        };
+        left = others;
     }
-    record_fields::all_zero(&hints[i..])
+    record_fields::all_zero(left)
 }
 
-// The first limit of the source that no new limit answers.
-fn limit_breach(new: &[u8], old: &[u8]) -> Breach
-    ensures { result ≡ limit_breach (first_failing (is_answered (limits_of (records new.now))) 0 (limits_of (records old.now))) Breach.Nothing }
+// The first limit of the source that no new limit answers, by its index.
+fn first_unanswered(new: &[u8], old: &[u8]) -> Option<usize>
+    ensures { said (λ i. i) result ≡ first_failing (is_answered (limits_of (records new.now))) 0 (limits_of (records old.now)) }
 {
-    let mut i = 0;
-    let mut at = 0;
-    while record_sizes::RECORD <= old.len() - at {
-        if old[at] != 2 {
-            return Breach::Nothing;
-        }
-        if !gate_narrowing::limit_answered(new, &old[at..at + record_sizes::RECORD]) {
-            return Breach::Limit(i);
-        }
-        i += 1;
-        at += record_sizes::RECORD;
-    }
-    Breach::Nothing
+    acl_groups::limits(old)
+        .iter()
+        .position(|limit| !gate_narrowing::limit_answered(new, limit))
 }
 
-// The first new action that is wider than the action of its hint.
-fn action_breach(new: &[u8], hints: &[u8], old: &[u8]) -> Breach
-    ensures { result ≡ wider_breach (first_wider 0 (actions_of (records new.now)) hints.now (actions_of (records old.now))) }
+// Whether a new action is no wider than action h of the source; false if there is none.
+fn no_wider_than(act: &Record, after: &[u8], old: &[u8], h: usize) -> bool
+    ensures { result ≡ no_wider_than (action_read act.now after.now) (get_elem? (actions_of (records old.now)) h) }
 {
-    let mut i = 0;
-    let mut at = acl_groups::next_action(new, 0);
-    while record_sizes::RECORD <= new.len() - at {
-        if hints.len() <= i {
-            return Breach::Action(i);
-        }
-        let place = gate_narrowing::action_at(old, 0, 0, widened(hints[i]) as usize);
-        if !gate_narrowing::hinted_no_wider(new, at, old, place) {
-            return Breach::Action(i);
-        }
-        i += 1;
-        at = acl_groups::next_action(new, at + record_sizes::RECORD);
+    match Actions(old).nth(h) {
+        Some((source, behind)) => { gate_restrictions::action_no_wider(act, after, source, behind) }
+        None => false,
     }
-    Breach::Nothing
+}
+
+// The first new action that is wider than the action of its hint, by its index, which is the number of hint bytes before its own.
+fn first_wider(new: &[u8], hints: &[u8], old: &[u8]) -> Option<usize>
+    ensures { said (λ i. i) result ≡ first_wider 0 (actions_of (records new.now)) hints.now (actions_of (records old.now)) }
+{
+    let mut left = hints;
+    for (act, after) in Actions(new) {
+        let i = hints.len() - left.len();
+        let Some((hint, others)) = left.split_first() else {
+            return Some(i);
+        };
+        if !no_wider_than(act, after, old, *hint as usize) {
+            return Some(i);
+        }
+        left = others;
+    }
+    None
 }
 
 // A new group against its source: first records, and the records that follow them.
-fn group_breach(new: &[u8], new_body: &[u8], hints: &[u8], old: &[u8], old_body: &[u8]) -> Breach
-    requires { (length new.now ≡ record_bytes) × (length old.now ≡ record_bytes) }
-    ensures { result ≡ records_breach new.now (records new_body.now) hints.now old.now (records old_body.now) }
+fn group_breach(
+    new: &Record,
+    new_body: &[u8],
+    hints: &[u8],
+    old: &Record,
+    old_body: &[u8],
+) -> Result<(), Breach>
+    ensures breach { breach_as result ≡ group_breach (group_read new.now new_body.now) hints.now (group_read old.now old_body.now) }
+    ensures some { IfErr result (λ b. is_breach b ≡ true) }
 {
     if !actions_named(new_body, hints, old_body) {
-        return Breach::Hint;
+        return Err(Breach::Hint);
     }
     if !gate_restrictions::certifier_kept(new, old) {
-        return Breach::Certifier;
+        return Err(Breach::Certifier);
     }
-    let limit = limit_breach(new_body, old_body);
-    if is_breach(limit) {
-        return limit;
+    if let Some(i) = first_unanswered(new_body, old_body) {
+        return Err(Breach::Limit(i));
     }
-    action_breach(new_body, hints, old_body)
+    if let Some(i) = first_wider(new_body, hints, old_body) {
+        return Err(Breach::Action(i));
+    }
+    Ok(())
 }
 
-// A new group against its source, the first of what is left of the old ACL; the hint is at fault where it names no group.
-fn source_breach(new: &[u8], body: &[u8], hints: &[u8], rest: &[u8]) -> Breach
-    requires { (length new.now ≡ record_bytes) × (record_bytes ≤ length rest.now → get_or rest.now 0 0 ≡ 1) }
-    ensures { result ≡ source_breach (group_of new.now (records body.now)) hints.now (get_elem? (acl_of rest.now) 0) }
-{
-    if rest.len() < record_sizes::RECORD {
-        return Breach::Hint;
-    }
-    group_breach(
-        new,
-        body,
-        hints,
-        &rest[0..record_sizes::RECORD],
-        &rest[record_sizes::RECORD..],
-    )
-}
-
-// Whether hints show that the new ACL is a narrowing of the old, and else what breaks it.
+// Whether hints show that the new ACL is a narrowing of the old, and else what breaks it. A new group's index is the number of hints before its own.
 pub fn locate_breach(old: &[u8], new: &[u8], hints: &[u8]) -> Narrowing
     ensures { result ≡ narrowing_of (acl_of old.now) (acl_of new.now) (hints_of hints.now) }
 {
-    let mut low: u16 = 0;
-    let mut i = 0;
-    let mut h = 0;
-    let mut at = acl_groups::group_at(new, 0, 0);
-    while record_sizes::RECORD <= new.len() - at {
-        if hints.len() - h < record_sizes::RECORD {
+    let rows = record_fields::records(hints);
+    let mut left = rows;
+    let mut low = 0;
+    for (first, body) in Groups(new) {
+        let i = rows.len() - left.len();
+        let Some((hint, others)) = left.split_first() else {
             return Narrowing::Broken(i, Breach::Hint);
-        }
-        let hint = &hints[h..h + record_sizes::RECORD];
-        let source = widened(hint[4]);
+        };
+        let source = hint[4] as usize;
         if source < low {
             return Narrowing::Broken(i, Breach::Hint);
         }
-        let place = acl_groups::group_at(old, 0, source as usize);
-        let found = source_breach(
-            &new[at..at + record_sizes::RECORD],
-            &new[at + record_sizes::RECORD..],
-            &hint[8..16],
-            &old[place..],
-        );
-        if is_breach(found) {
-            return Narrowing::Broken(i, found);
+        let Some((old_first, old_body)) = Groups(old).nth(source) else {
+            return Narrowing::Broken(i, Breach::Hint);
+        };
+        if let Err(why) = group_breach(first, body, &hint[8..16], old_first, old_body) {
+            return Narrowing::Broken(i, why);
         }
+        left = others;
         low = source + 1;
-        i += 1;
-        h += record_sizes::RECORD;
-        at = acl_groups::group_at(new, at + record_sizes::RECORD, 0);
     }
-    if record_sizes::RECORD <= hints.len() - h {
-        return Narrowing::Broken(i, Breach::Hint);
+    if !left.is_empty() {
+        return Narrowing::Broken(rows.len() - left.len(), Breach::Hint);
     }
     Narrowing::Shown
 }

@@ -11,7 +11,9 @@ use Rattle.rules.specs.Basics.{Bytes, Every, same, implies, present, both_same, 
 use Rattle.rules.specs.Bundle.{field, has_field, signature_outcome, reported, is_good, good, policy_of}
 use Rattle.rules.specs.Desk.{Step, WV1, MSCV1, MSCV2, MSCV3, MSCV4, MSCV5, WBCV1, WBCV2, WBCV3, KGCV1, KGCV2, ACLV3, WB1, WB2, WB3, WB6, RB1, RB2, RB3, KV3, CSRL1, km_vouched, km_fips_vouched, kre_vouched, is_listed, csr_linked, before_acl, basic_failure}
 use Rattle.rules.proofs.Laws.{never}
-use Rattle.reason_steps.specs.Defects.{Flaw, signature_absent, signature_bad, field_absent, field_differs, signature_test, field_test, equal_test, listed_test, step_tests, step_flaw}
+use Rattle.reason_steps.specs.declared.Flaw.{Flaw}
+use Rattle.reason_steps.specs.declared.Flaw.TheVariants.{SignatureAbsent, SignatureBad, FieldAbsent, FieldDiffers}
+use Rattle.reason_steps.specs.Defects.{signature_test, field_test, equal_test, listed_test, step_tests, step_flaw}
 use Rattle.reason_steps.specs.Flawed.{is_equal, Flawed}
 
 -- What holds of every fault that a test can give holds of the first.
@@ -30,19 +32,19 @@ signature_flaw : (b : List Bytes) (n : ℕ) (f : Flaw) → signature_test n b �
 unfolding signature_test first_fault
 signature_flaw b n f e = pick (signature_outcome n b) refl e
   where
-    pick : (o : Option Bool) → signature_outcome n b ≡ o → or_next (unless (present o) (signature_absent n)) (or_next (unless (is_good o) (signature_bad n)) none) ≡ some f → Flawed b f
-    pick none q d = let k : signature_absent n ≡ f = cc in rw (← k) (rw q)
-    pick (some false) q d = let k : signature_bad n ≡ f = cc in rw (← k) (rw q, rw q)
+    pick : (o : Option Bool) → signature_outcome n b ≡ o → or_next (unless (present o) (SignatureAbsent n)) (or_next (unless (is_good o) (SignatureBad n)) none) ≡ some f → Flawed b f
+    pick none q d = let k : SignatureAbsent n ≡ f = cc in rw (← k) (rw q)
+    pick (some false) q d = let k : SignatureBad n ≡ f = cc in rw (← k) (rw q, rw q)
     pick (some true) q d = absurd (never (cc))
 
 field_flaw : (b : List Bytes) (n : ℕ) (f : Flaw) → field_test n b ≡ some f → Flawed b f
-field_flaw b n f e = test_is (Flawed b) (has_field n b) (field_absent n) (λ h. h) f e
+field_flaw b n f e = test_is (Flawed b) (has_field n b) (FieldAbsent n) (λ h. h) f e
 
 equal_flaw : (b : List Bytes) (n m : ℕ) → is_equal n b ≡ both_same (field n b) (field m b) → (f : Flaw) → equal_test n m b ≡ some f → Flawed b f
-equal_flaw b n m k f e = test_is (Flawed b) (both_same (field n b) (field m b)) (field_differs n) (λ h. k ∙ h) f e
+equal_flaw b n m k f e = test_is (Flawed b) (both_same (field n b) (field m b)) (FieldDiffers n) (λ h. k ∙ h) f e
 
 listed_flaw : (b : List Bytes) (f : Flaw) → listed_test b ≡ some f → Flawed b f
-listed_flaw b f e = test_is (Flawed b) (is_listed (field 6 b) b) (field_differs 6) (λ h. h) f e
+listed_flaw b f e = test_is (Flawed b) (is_listed (field 6 b) b) (FieldDiffers 6) (λ h. h) f e
 
 pub named_is_flawed : (s : Step) (b : List Bytes) (f : Flaw) → step_flaw s b ≡ some f → Flawed b f
 unfolding step_tests
@@ -115,13 +117,13 @@ passed t p q = absurd (never (cc))
 module _ (b : List Bytes) where
   sig : (n : ℕ) (ts : List (Option Flaw)) → (good n b ≡ true → present (first_fault ts) ≡ true) → present (first_fault (signature_test n b ∷ ts)) ≡ true
   unfolding signature_test
-  sig n ts h = signature_then (signature_outcome n b) (signature_absent n) (signature_bad n) ts h
+  sig n ts h = signature_then (signature_outcome n b) (SignatureAbsent n) (SignatureBad n) ts h
 
   fld : (n : ℕ) (ts : List (Option Flaw)) → (has_field n b ≡ true → present (first_fault ts) ≡ true) → present (first_fault (field_test n b ∷ ts)) ≡ true
-  fld n ts h = test_then (has_field n b) (field_absent n) ts h
+  fld n ts h = test_then (has_field n b) (FieldAbsent n) ts h
 
   eql : (n m : ℕ) → both_same (field n b) (field m b) ≡ false → present (first_fault (equal_test n m b ∷ [])) ≡ true
-  eql n m h = test_then (both_same (field n b) (field m b)) (field_differs n) [] (passed (both_same (field n b) (field m b)) h)
+  eql n m h = test_then (both_same (field n b) (field m b)) (FieldDiffers n) [] (passed (both_same (field n b) (field m b)) h)
 
   wv1 : (good 1 b && has_field 1 b) ≡ false → Named b WV1
   unfolding step_tests
@@ -149,7 +151,7 @@ module _ (b : List Bytes) where
 
   mscv5 : is_listed (field 6 b) b ≡ false → Named b MSCV5
   unfolding step_tests
-  mscv5 h = test_then (is_listed (field 6 b) b) (field_differs 6) [] (passed (is_listed (field 6 b) b) h)
+  mscv5 h = test_then (is_listed (field 6 b) b) (FieldDiffers 6) [] (passed (is_listed (field 6 b) b) h)
 
   wbcv1 : implies (reported 3 b) (km_vouched b) ≡ false → Named b WBCV1
   unfolding step_tests km_vouched

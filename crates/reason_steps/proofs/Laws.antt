@@ -1,72 +1,58 @@
--- What the first of several tests names.
-use mathlib.Core.Path.{◌≡◌, refl, sym, ◌∙◌, ap}
-use mathlib.Core.List.{List, [], ◌∷◌, ◌++◌}
+-- What several tests, one after the other, find of a step.
+use mathlib.Core.Path.{◌≡◌, refl, ◌∙◌, ap}
+use mathlib.Core.List.{List, [], ◌∷◌}
 use mathlib.Core.Option.{Option, none, some}
-use mathlib.Core.Bool.{Bool, true, false, not}
-use borrow.Author.Tests.{not-true, not-false}
-use Rattle.rules.specs.Basics.{Bytes, unless, or_next, first_fault}
-use Rattle.desk_steps.specs.declared.Step as code
+use mathlib.Core.Logic.{◌⊎◌, inl, inr}
+use Rattle.rules.specs.Basics.{Bytes, or_next, first_fault}
+use Rattle.rules.specs.Desk.{WBCV2}
+use Rattle.desk_steps.specs.declared.Step as step
+use Rattle.desk_steps.specs.declared.Step.TheVariants as code
 use Rattle.desk_steps.specs.Steps.{step_as}
 use Rattle.desk_steps.proofs.Laws.{joined}
-use Rattle.reason_steps.specs.declared.Defect.{Defect}
-use Rattle.reason_steps.specs.Defects.{Flaw, signature_absent, signature_bad, field_absent, field_differs, named, first_named, step_flaw}
+use Rattle.reason_steps.specs.declared.Flaw.{Flaw}
+use Rattle.reason_steps.specs.Defects.{signature_test, field_test, step_tests, step_flaw}
 
-either_named : (x y : Option Flaw) → first_named (named x) (named y) ≡ named (or_next x y)
-either_named none y = refl
-either_named (some (signature_absent n)) y = refl
-either_named (some (signature_bad n)) y = refl
-either_named (some (field_absent n)) y = refl
-either_named (some (field_differs n)) y = refl
+-- a test before others: it fails, or it passes
+module _ (x t : Option Flaw) (ts : List (Option Flaw)) where
+  pub test_failed : (f : Flaw) → x ≡ some f → some f ≡ t → x ≡ first_fault (t ∷ ts)
+  unfolding first_fault
+  test_failed f e d = e ∙ ap (λ (o : Option Flaw). or_next o (first_fault ts)) d
 
--- two tests, one after the other
-two_named : (x y : Option Flaw) (a b r : Defect) → a ≡ named x → b ≡ named y → r ≡ first_named a b → r ≡ named (or_next x y)
-two_named x y a b r p q e = e ∙ rw (p, q) (either_named x y)
-
--- a test before others
-pub then_named : (x : Option Flaw) (ts : List (Option Flaw)) (a b r : Defect) → r ≡ first_named a b → a ≡ named x → b ≡ named (first_fault ts) → r ≡ named (first_fault (x ∷ ts))
-unfolding first_fault
-then_named x ts a b r e p q = two_named x (first_fault ts) a b r p q e
+  pub test_passed : none ≡ t → x ≡ first_fault ts → x ≡ first_fault (t ∷ ts)
+  unfolding first_fault
+  test_passed d e = e ∙ ap (λ (o : Option Flaw). or_next o (first_fault ts)) d
 
 -- the last test
-pub last_named : (x : Option Flaw) (r : Defect) → r ≡ named x → r ≡ named (first_fault (x ∷ []))
+pub last_test : (x t : Option Flaw) → x ≡ t → x ≡ first_fault (t ∷ [])
 unfolding first_fault
-last_named x r p = p ∙ ap named (pick x)
+last_test x t e = e ∙ pick t
   where
     pick : (o : Option Flaw) → o ≡ or_next o none
     pick none = refl
     pick (some f) = refl
 
-pub ruleset tests = (then_named, last_named)
+pub ruleset tests = (test_failed, test_passed, last_test)
 
--- tests, and a test after them
-pub after_named : (xs : List (Option Flaw)) (y : Option Flaw) (a b r : Defect) → r ≡ first_named a b → a ≡ named (first_fault xs) → b ≡ named y → r ≡ named (first_fault (xs ++ (y ∷ [])))
-after_named xs y a b r e p q = two_named (first_fault xs) (first_fault (y ∷ [])) a b r p (last_named y b q) e ∙ ap named (joined xs (y ∷ []))
-
--- no test
-pub none_named : (r : Defect) → r ≡ named none → r ≡ named (first_fault [])
-unfolding first_fault
-none_named r e = e
-
--- `if !f(..) { return .. }`: one test
-module _ (f : Flaw) (t r : Bool) (is : r ≡ t) (x : Defect) where
-  pub flaw_here : not r ≡ true → x ≡ named (some f) → x ≡ named (unless t f)
-  flaw_here h e = e ∙ rw (sym is ∙ not-true r h)
-
-  pub no_flaw : not r ≡ false → x ≡ named none → x ≡ named (unless t f)
-  no_flaw h e = e ∙ rw (sym is ∙ not-false r h)
-
-  pub flaw_first : (ts : List (Option Flaw)) → not r ≡ true → x ≡ named (some f) → x ≡ named (first_fault (unless t f ∷ ts))
-  unfolding first_fault
-  flaw_first ts h e = e ∙ rw (sym is ∙ not-true r h)
-
-  pub flaw_later : (ts : List (Option Flaw)) → not r ≡ false → x ≡ named (first_fault ts) → x ≡ named (first_fault (unless t f ∷ ts))
-  unfolding first_fault
-  flaw_later ts h e = e ∙ rw (sym is ∙ not-false r h)
-
-pub ruleset one = (flaw_here, no_flaw)
-
-pub ruleset several = (flaw_first, flaw_later, none_named)
+-- WBCV2: the tests of a certificate, and one more
+pub fips_tests : (b : List Bytes) → or_next (first_fault (signature_test 4 b ∷ field_test 5 b ∷ field_test 6 b ∷ field_test 12 b ∷ [])) (field_test 13 b) ≡ step_flaw WBCV2 b
+unfolding step_tests
+fips_tests b =
+    let ts : List (Option Flaw) = signature_test 4 b ∷ field_test 5 b ∷ field_test 6 b ∷ field_test 12 b ∷ [] in
+    ap (λ (o : Option Flaw). or_next (first_fault ts) o) (last_test (field_test 13 b) (field_test 13 b) refl) ∙ joined ts (field_test 13 b ∷ [])
 
 -- the step that a match found
-pub of_step_lem : (b : List Bytes) (s t : code.Step) (x : Defect) → s ≡ t → x ≡ named (step_flaw (step_as t) b) → x ≡ named (step_flaw (step_as s) b)
+pub of_step_lem : (b : List Bytes) (s t : step.Step) (x : Option Flaw) → s ≡ t → x ≡ step_flaw (step_as t) b → x ≡ step_flaw (step_as s) b
 of_step_lem b s t x e p = rw e p
+
+-- a step that looks at the ACL has no tests here
+pub acl_step : (b : List Bytes) (s : step.Step) → (s ≡ code.ACLV3) ⊎ ((s ≡ code.WB1) ⊎ ((s ≡ code.WB2) ⊎ ((s ≡ code.WB3) ⊎ ((s ≡ code.WB6) ⊎ ((s ≡ code.RB1) ⊎ ((s ≡ code.RB2) ⊎ ((s ≡ code.RB3) ⊎ (s ≡ code.KV3)))))))) → none ≡ step_flaw (step_as s) b
+unfolding step_tests first_fault
+acl_step b s (inl e) = rw e
+acl_step b s (inr (inl e)) = rw e
+acl_step b s (inr (inr (inl e))) = rw e
+acl_step b s (inr (inr (inr (inl e)))) = rw e
+acl_step b s (inr (inr (inr (inr (inl e))))) = rw e
+acl_step b s (inr (inr (inr (inr (inr (inl e)))))) = rw e
+acl_step b s (inr (inr (inr (inr (inr (inr (inl e))))))) = rw e
+acl_step b s (inr (inr (inr (inr (inr (inr (inr (inl e)))))))) = rw e
+acl_step b s (inr (inr (inr (inr (inr (inr (inr (inr e)))))))) = rw e

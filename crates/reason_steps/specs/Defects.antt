@@ -1,45 +1,41 @@
 -- What fails a step that looks at the bundle: the tests of each step, in the order in which document 01 names them. b is a bundle's list of records.
-use Rattle.std.specs.Prelude.{ℕ, List, [], ◌∷◌, eqb, if◌then◌else◌}
+use Rattle.std.specs.Prelude.{Result, Ok, Err, ℕ, List, [], ◌∷◌}
 use Rattle.std.proofs.Math.Option.{Option, none, some}
 use Rattle.rules.specs.Basics.{Bytes, both_same, unless, first_fault}
 use Rattle.rules.specs.Bundle.{field, has_field, reported, good}
 use Rattle.rules.specs.Desk.{Step, WV1, MSCV1, MSCV2, MSCV3, MSCV4, MSCV5, WBCV1, WBCV2, WBCV3, KGCV1, KGCV2, ACLV3, WB1, WB2, WB3, WB6, RB1, RB2, RB3, KV3, CSRL1, is_listed}
+use Rattle.reason_steps.specs.declared.Flaw.{Flaw}
+use Rattle.reason_steps.specs.declared.Flaw.TheVariants.{SignatureAbsent, SignatureBad, FieldAbsent, FieldDiffers}
 use Rattle.reason_steps.specs.declared.Defect.{Defect}
 
--- "the field or signature that fails it (absent, not good, not equal)", with its number
-pub data Flaw : Type 0 where
-  signature_absent : ℕ → Flaw
-  signature_bad : ℕ → Flaw
-  field_absent : ℕ → Flaw
-  field_differs : ℕ → Flaw
+-- "the field or signature that fails it (absent, not good, not equal)", if any does
+abbrev pub flaw_as : {A : Type 0} → Result A Flaw → Option Flaw
+flaw_as (Ok x) = none
+flaw_as (Err f) = some f
 
 -- a flaw in numbers: 1 a signature is absent, 2 it is not good, 3 a field is absent, 4 it is not equal to what it must equal; 0 where nothing is named
 abbrev pub named : Option Flaw → Defect
 named none = record { what = 0; number = 0 }
-named (some (signature_absent n)) = record { what = 1; number = n }
-named (some (signature_bad n)) = record { what = 2; number = n }
-named (some (field_absent n)) = record { what = 3; number = n }
-named (some (field_differs n)) = record { what = 4; number = n }
-
--- the first of two
-abbrev pub first_named : Defect → Defect → Defect
-first_named a b = if eqb a.what 0 then b else a
+named (some (SignatureAbsent n)) = record { what = 1; number = n }
+named (some (SignatureBad n)) = record { what = 2; number = n }
+named (some (FieldAbsent n)) = record { what = 3; number = n }
+named (some (FieldDiffers n)) = record { what = 4; number = n }
 
 -- "signature 1 good": it is present, and good
 unfoldable pub signature_test : ℕ → List Bytes → Option Flaw
-signature_test n b = first_fault (unless (reported n b) (signature_absent n) ∷ unless (good n b) (signature_bad n) ∷ [])
+signature_test n b = first_fault (unless (reported n b) (SignatureAbsent n) ∷ unless (good n b) (SignatureBad n) ∷ [])
 
 -- "field 1 present"
 abbrev pub field_test : ℕ → List Bytes → Option Flaw
-field_test n b = unless (has_field n b) (field_absent n)
+field_test n b = unless (has_field n b) (FieldAbsent n)
 
 -- "5 .. equals a present 4": field m is equal to field n
 abbrev pub equal_test : ℕ → ℕ → List Bytes → Option Flaw
-equal_test m n b = unless (both_same (field m b) (field n b)) (field_differs m)
+equal_test m n b = unless (both_same (field m b) (field n b)) (FieldDiffers m)
 
 -- "6, if present, is listed"
 abbrev pub listed_test : List Bytes → Option Flaw
-listed_test b = unless (is_listed (field 6 b) b) (field_differs 6)
+listed_test b = unless (is_listed (field 6 b) b) (FieldDiffers 6)
 
 -- The tests of a step. A step that looks at the ACL has none here.
 unfoldable pub step_tests : Step → List Bytes → List (Option Flaw)

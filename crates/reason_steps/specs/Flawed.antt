@@ -3,7 +3,8 @@ use Rattle.std.specs.Prelude.{ℕ, ◌≡◌, List, Bool, true, false, eqb, if�
 use Rattle.rules.specs.Basics.{Bytes, both_same}
 use Rattle.rules.specs.Bundle.{field, has_field, reported, good}
 use Rattle.rules.specs.Desk.{is_listed}
-use Rattle.reason_steps.specs.Defects.{Flaw, signature_absent, signature_bad, field_absent, field_differs}
+use Rattle.reason_steps.specs.declared.Flaw.{Flaw}
+use Rattle.reason_steps.specs.declared.Flaw.TheVariants.{SignatureAbsent, SignatureBad, FieldAbsent, FieldDiffers}
 
 -- "1 = 2", "5, if present, equals a present 4", "8 and 9 present, equal", "10 present and equal to 9": what a field must equal
 abbrev pub counterpart : ℕ → ℕ
@@ -15,7 +16,7 @@ is_equal n b = if eqb n 6 then is_listed (field 6 b) b else both_same (field n b
 
 -- "absent, not good, not equal"
 abbrev pub Flawed : List Bytes → Flaw → Type 0
-Flawed b (signature_absent n) = reported n b ≡ false
-Flawed b (signature_bad n) = (reported n b ≡ true) × (good n b ≡ false)
-Flawed b (field_absent n) = has_field n b ≡ false
-Flawed b (field_differs n) = is_equal n b ≡ false
+Flawed b (SignatureAbsent n) = reported n b ≡ false
+Flawed b (SignatureBad n) = (reported n b ≡ true) × (good n b ≡ false)
+Flawed b (FieldAbsent n) = has_field n b ≡ false
+Flawed b (FieldDiffers n) = is_equal n b ≡ false

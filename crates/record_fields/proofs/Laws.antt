@@ -94,7 +94,7 @@ number_one s at h = rw (drop-cons s at 0) (omega arith)
 pub number_two : (s : Bytes) (at r : ℕ) → at + 2 ≤ length s → r ≡ get_or s at 0 * 256 + get_or s (at + 1) 0 → r ≡ number at 2 s
 number_two s at r h e = omega (arith, number_join s at 1 1 (omega arith), number_one s at (omega arith), number_one s (at + 1) (omega arith))
 
--- a number from its halves of n bytes each, w being the weight of the upper half
-pub number_halves : (n w : ℕ) (s : Bytes) (at r hi lo : ℕ) → w ≡ 256 ^ n → at + (n + n) ≤ length s → hi ≡ number at n s → lo ≡ number (at + n) n s → r ≡ hi * w + lo → r ≡ number at (n + n) s
-number_halves n w s at r hi lo p h d e q =
-    q ∙ rw (p, d, e) (sym (number_join s at n n (omega arith)))
+pub number_four : (s : Bytes) (at r : ℕ) → at + 4 ≤ length s → r ≡ get_or s at 0 * 16777216 + get_or s (at + 1) 0 * 65536 + get_or s (at + 2) 0 * 256 + get_or s (at + 3) 0 → r ≡ number at 4 s
+number_four s at r h e =
+    let f : at + 2 + 1 ≡ at + 3 = omega arith in
+    omega (arith, number_join s at 2 2 (omega arith), number_two s at _ (omega arith) refl, number_two s (at + 2) _ (omega arith) refl, ap (λ (k : ℕ). get_or s k 0) f)

@@ -1,3 +1,4 @@
 pub mod Laws
 pub mod Subsets
 pub mod Words
+pub mod Walks

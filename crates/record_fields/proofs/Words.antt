@@ -1,18 +1,19 @@
 -- Eight bytes at a time: a word's number is zero, or another's, exactly if its bytes are; the turns of the loops over words.
-use Prim.Native.Nat.{ℕ, ◌≤◌, ◌<◌, ◌-◌, ◌+◌, ◌*◌, ◌/◌, ◌%◌, ◌^◌}
-use native.Mathlib.Nat.{zero-add, mul-one, mul_assoc, add-mul, add_assoc, pow-suc}
+use Prim.Native.Nat.{ℕ, zero, suc, ◌≤◌, ◌<◌, ◌-◌, ◌+◌, ◌*◌}
 use native.Mathlib.Omega.{arith}
 use mathlib.Core.Path.{◌≡◌, refl, sym, ◌∙◌, ap, ap₂}
 use mathlib.Core.Bool.{Bool, true, false, ◌&&◌}
 use mathlib.Core.List.{[], ◌∷◌, ◌++◌}
 use lib.ListN.{length, take, drop, get_or, length-drop, take-append-drop}
 use lib.Dec.{eqb}
-use lib.Seq.{drop-cons, take-add, take_all, drop-drop, length-take-le}
+use lib.Seq.{take_all, drop-drop, length-take-le, get_or-drop}
 use borrow.Author.Tests.{eqb-true, eqb-false, eq-eqb, ne_eqb}
-use Rattle.rules.specs.Basics.{Bytes, Every, all_zero, same, number_from, part, number, blank}
-use Rattle.record_fields.specs.Words.{little_number, LittleEndian, swapped16, swapped32, swapped64}
+use Rattle.rules.specs.Basics.{Bytes, Every, all_zero, same, number_from, part, blank}
+use Rattle.record_fields.specs.Words.{little_number, LittleEndian}
 use Rattle.rules.proofs.Laws.{and_right, same_eq, same_refl}
-use Rattle.record_fields.proofs.Laws.{and_false, and_true, and_assoc, number_halves}
+use Rattle.std.specs.Int.{from_le_bytes, from_be_bytes}
+use Rattle.std.proofs.Common.{w64}
+use Rattle.record_fields.proofs.Laws.{and_false, and_true, and_assoc}
 
 -- A word's number and its bytes.
 zero_word_number : (bs : Bytes) → eqb (little_number bs) 0 ≡ all_zero bs
@@ -49,80 +50,54 @@ unfolding LittleEndian
 word_same a b at m n p q h k =
     rw (h.0, k.0) (same_word_number (part at 8 a) (part at 8 b) (part_length a at 8 p ∙ sym (part_length b at 8 q)) h.1 k.1)
 
--- A word from its bytes and from its halves.
-every_append : (P : ℕ → Type 0) (xs ys : Bytes) → Every P xs → Every P ys → Every P (xs ++ ys)
-every_append P [] ys h k = k
-every_append P (x ∷ xs) ys h k = (h.0, every_append P xs ys h.1 k)
+-- Eight bytes that code takes from a place on, as an array.
+module _ (s xs : Bytes) (at : ℕ) (h : at + 8 ≤ length s) (e : xs ≡ take 8 (take (length s - at) (drop at s))) where
+  pub chunk_part : xs ≡ part at 8 s
+  chunk_part = e ∙ ap (take 8) (take_all (length s - at) (drop at s) (omega (arith, length-drop at s)))
 
-number_append : (xs ys : Bytes) → little_number (xs ++ ys) ≡ little_number xs + little_number ys * 256 ^ length xs
+  pub chunk_length : length xs ≡ 8
+  chunk_length = ap length chunk_part ∙ part_length s at 8 h
+
+by_eight : (P : Bytes → Type 0) → ((a b c d e g h i : ℕ) → P (a ∷ b ∷ c ∷ d ∷ e ∷ g ∷ h ∷ i ∷ [])) → (xs : Bytes) → length xs ≡ 8 → P xs
+by_eight P f [] l = absurd (omega arith)
+by_eight P f (a ∷ []) l = absurd (omega arith)
+by_eight P f (a ∷ b ∷ []) l = absurd (omega arith)
+by_eight P f (a ∷ b ∷ c ∷ []) l = absurd (omega arith)
+by_eight P f (a ∷ b ∷ c ∷ d ∷ []) l = absurd (omega arith)
+by_eight P f (a ∷ b ∷ c ∷ d ∷ e ∷ []) l = absurd (omega arith)
+by_eight P f (a ∷ b ∷ c ∷ d ∷ e ∷ g ∷ []) l = absurd (omega arith)
+by_eight P f (a ∷ b ∷ c ∷ d ∷ e ∷ g ∷ h ∷ []) l = absurd (omega arith)
+by_eight P f (a ∷ b ∷ c ∷ d ∷ e ∷ g ∷ h ∷ i ∷ []) l = f a b c d e g h i
+by_eight P f (a ∷ b ∷ c ∷ d ∷ e ∷ g ∷ h ∷ i ∷ j ∷ k) l = absurd (omega arith)
+
+big_number : (a b c d e g h i : ℕ) → from_be_bytes w64 (a ∷ b ∷ c ∷ d ∷ e ∷ g ∷ h ∷ i ∷ []) ≡ number_from 0 (a ∷ b ∷ c ∷ d ∷ e ∷ g ∷ h ∷ i ∷ [])
+unfolding number_from
+big_number a b c d e g h i = omega arith
+
+pub big_eight : (xs : Bytes) → length xs ≡ 8 → from_be_bytes w64 xs ≡ number_from 0 xs
+big_eight = by_eight (λ xs. from_be_bytes w64 xs ≡ number_from 0 xs) big_number
+
+low_number : (a b c d e g h i : ℕ) → from_le_bytes w64 (a ∷ b ∷ c ∷ d ∷ e ∷ g ∷ h ∷ i ∷ []) ≡ little_number (a ∷ b ∷ c ∷ d ∷ e ∷ g ∷ h ∷ i ∷ [])
 unfolding little_number
-number_append [] ys = sym (zero-add (little_number ys * 256 ^ 0) ∙ mul-one (little_number ys))
-number_append (x ∷ xs) ys =
-    ap (λ (n : ℕ). x + n * 256) (number_append xs ys)
-    ∙ simp (add-mul, mul_assoc, add_assoc, pow-suc)
+low_number a b c d e g h i = omega arith
 
-part_add : (s : Bytes) (at m n : ℕ) → part at (m + n) s ≡ part at m s ++ part (at + m) n s
-part_add s at m n = take-add m n (drop at s) ∙ ap (λ (l : Bytes). part at m s ++ take n l) (drop-drop m at s)
+little_number_eight : (xs : Bytes) → length xs ≡ 8 → from_le_bytes w64 xs ≡ little_number xs
+little_number_eight = by_eight (λ xs. from_le_bytes w64 xs ≡ little_number xs) low_number
 
--- the halves are of n bytes each, w being the weight of the upper one
-pub word_halves : (n w : ℕ) (s : Bytes) (at r hi lo : ℕ) → w ≡ 256 ^ n → at + (n + n) ≤ length s → LittleEndian (part (at + n) n s) hi → LittleEndian (part at n s) lo → r ≡ hi * w + lo → LittleEndian (part at (n + n) s) r
+-- bytes of a run are bytes
+take_fits : (n : ℕ) (ys : Bytes) → ((i : ℕ) → get_or ys i 0 < 256) → Every (λ b. b < 256) (take n ys)
+take_fits zero ys h = tt
+take_fits (suc n) [] h = tt
+take_fits (suc n) (y ∷ ys) h = (h 0, take_fits n ys (λ i. h (suc i)))
+
+pub little_eight : (s xs : Bytes) (at r : ℕ) → length xs ≡ 8 → xs ≡ part at 8 s → ((i : ℕ) → get_or s i 0 < 256) → r ≡ from_le_bytes w64 xs → LittleEndian (part at 8 s) r
 unfolding LittleEndian
-word_halves n w s at r hi lo p h k l q =
-    let e = number_append (part at n s) (part (at + n) n s) in
-    let d : little_number (part at n s ++ part (at + n) n s) ≡ lo + hi * w =
-    e ∙ rw (part_length s at n (omega arith), p, k.0, l.0) refl in
-    rw (part_add s at n n) (q ∙ omega (arith, d), every_append (λ b. b < 256) (part at n s) (part (at + n) n s) l.1 k.1)
+little_eight s xs at r l p h e =
+    (e ∙ little_number_eight xs l ∙ ap little_number p, take_fits 8 (drop at s) (λ i. rw (get_or-drop at s i 0) (h (at + i))))
 
-part_one : (s : Bytes) (at : ℕ) → at < length s → part at 1 s ≡ (get_or s at 0 ∷ [])
-part_one s at h = rw (drop-cons s at 0) refl
-
-pub word_two : (s : Bytes) (at r : ℕ) → at + 2 ≤ length s → get_or s at 0 < 256 → get_or s (at + 1) 0 < 256 → r ≡ get_or s (at + 1) 0 * 256 + get_or s at 0 → LittleEndian (part at 2 s) r
-unfolding LittleEndian little_number
-word_two s at r h p q e =
-    rw (part_add s at 1 1, part_one s at (omega arith), part_one s (at + 1) (omega arith)) (omega arith, (p, (q, tt)))
-
--- A word in the other order is the big-endian number of its bytes.
-little_below : (bs : Bytes) → Every (λ b. b < 256) bs → little_number bs < 256 ^ length bs
-unfolding little_number
-little_below [] h = omega arith
-little_below (b ∷ bs) h = omega (arith, little_below bs h.1, h.0, pow-suc 256 (length bs))
-
-every_front : (P : ℕ → Type 0) (xs ys : Bytes) → Every P (xs ++ ys) → Every P xs × Every P ys
-every_front P [] ys h = (tt, h)
-every_front P (x ∷ xs) ys h = let i = every_front P xs ys h.1 in ((h.0, i.0), i.1)
-
--- a word from its halves of k bytes, of which the order is known; w is the weight of the upper one
-module _ (k w : ℕ) (p : w ≡ 256 ^ k) (swap : ℕ → ℕ) (known : (s : Bytes) (at n : ℕ) → at + k ≤ length s → LittleEndian (part at k s) n → swap n ≡ number at k s)
-    (split : (lo hi : ℕ) → lo < w → ((lo + hi * w) % w ≡ lo) × ((lo + hi * w) / w ≡ hi)) where
-  swap_halves : (s : Bytes) (at n : ℕ) → at + (k + k) ≤ length s → LittleEndian (part at (k + k) s) n → swap (n % w) * w + swap (n / w) ≡ number at (k + k) s
-  unfolding LittleEndian
-  swap_halves s at n h word =
-      let xs = part at k s in
-      let ys = part (at + k) k s in
-      let l = part_length s at k (omega arith) in
-      let e : n ≡ little_number xs + little_number ys * w = word.0 ∙ ap little_number (part_add s at k k) ∙ number_append xs ys ∙ rw (l, ← p) refl in
-      let o = every_front (λ b. b < 256) xs ys (rw (part_add s at k k) at word.1) in
-      let b : little_number xs < w = let i : little_number xs < 256 ^ k = rw l at (little_below xs o.0) in rw p i in
-      let q = split (little_number xs) (little_number ys) b in
-      let lo : n % w ≡ little_number xs = ap (λ (m : ℕ). m % w) e ∙ q.0 in
-      let hi : n / w ≡ little_number ys = ap (λ (m : ℕ). m / w) e ∙ q.1 in
-      number_halves k w s at _ (swap (n % w)) (swap (n / w)) p h (known s at (n % w) (omega arith) (lo, o.0)) (known s (at + k) (n / w) (omega arith) (hi, o.1)) refl
-
-one_byte : (s : Bytes) (at n : ℕ) → at + 1 ≤ length s → LittleEndian (part at 1 s) n → n ≡ number at 1 s
-unfolding LittleEndian little_number number_from
-one_byte s at n h word = word.0 ∙ rw (part_one s at (omega arith)) (omega arith)
-
-swap_two : (s : Bytes) (at n : ℕ) → at + 2 ≤ length s → LittleEndian (part at 2 s) n → swapped16 n ≡ number at 2 s
-unfolding swapped16
-swap_two = swap_halves 1 256 refl (λ n. n) one_byte (λ lo hi h. (omega arith, omega arith))
-
-swap_four : (s : Bytes) (at n : ℕ) → at + 4 ≤ length s → LittleEndian (part at 4 s) n → swapped32 n ≡ number at 4 s
-unfolding swapped32
-swap_four = swap_halves 2 65536 refl swapped16 swap_two (λ lo hi h. (omega arith, omega arith))
-
-pub swap_eight : (s : Bytes) (at n r : ℕ) → at + 8 ≤ length s → LittleEndian (part at 8 s) n → r ≡ swapped64 n → r ≡ number at 8 s
-unfolding swapped64
-swap_eight s at n r h word e = e ∙ swap_halves 4 4294967296 refl swapped32 swap_four (λ lo hi h. (omega arith, omega arith)) s at n h word
+-- the next word's place
+pub next_word : (k : ℕ) → 8 * (k + 1) ≡ 8 * k + 8
+next_word k = omega arith
 
 -- What a list's test says of its parts.
 zero_append : (xs ys : Bytes) → all_zero (xs ++ ys) ≡ (all_zero xs && all_zero ys)

@@ -2,10 +2,28 @@
 // each contract is a definition of the crate rules over an offset and a length.
 #![tactic(auto)]
 
-ghost use Rattle.std.specs.Prelude.{◌≡◌, ◌+◌, ◌*◌, ◌≤◌, ◌<◌, length, eqb};
-ghost use Rattle.rules.specs.Basics.{all_zero, same, bit, bit_count, within, part, number, blank, flag};
+ghost use Rattle.std.specs.Prelude.{◌≡◌, ◌+◌, ◌≤◌, ◌<◌, length, eqb};
+ghost use Rattle.rules.specs.Basics.{records, all_zero, same, bit, bit_count, within, part, number, blank, flag};
+ghost use Rattle.rules.specs.Sizes.{record_bytes};
 ghost use Rattle.rules.specs.Layout.{token_parameters_at};
-ghost use Rattle.record_fields.specs.Words.{LittleEndian, swapped16, swapped32, swapped64};
+ghost use Rattle.record_fields.specs.Words.{LittleEndian};
+
+use record_sizes::Record;
+
+// The records of a file, one after the other; the bytes past the last whole record are none.
+pub fn records(file: &[u8]) -> &[Record]
+    ensures { result.now ≡ records file.now }
+{
+    file.as_chunks().0
+}
+
+// The record at a byte of a file.
+pub fn record_at(file: &[u8], at: usize) -> &Record
+    requires { at + record_bytes ≤ length file.now }
+    ensures { result.now ≡ part at record_bytes file.now }
+{
+    file[at..].first_chunk().unwrap()
+}
 
 // Whether two runs of bytes of one length are the same, byte by byte: for runs of fewer than eight. No test here stops at the first difference, for
 // joining the answers costs less than a jump after each.
@@ -14,10 +32,8 @@ fn same_few(a: &[u8], b: &[u8]) -> bool
     ensures { result ≡ same a.now b.now }
 {
     let mut so_far = true;
-    let mut i = 0;
-    while i < a.len() {
+    for i in 0..a.len() {
         so_far = so_far & (a[i] == b[i]);
-        i += 1;
     }
     so_far
 }
@@ -28,10 +44,8 @@ fn same_words(a: &[u8], b: &[u8]) -> bool
     ensures { result ≡ same a.now b.now }
 {
     let mut so_far = same_word(a, b, a.len() - 8);
-    let mut i = 0;
-    while 8 <= a.len() - i {
-        so_far = so_far & same_word(a, b, i);
-        i += 8;
+    for k in 0..a.len() / 8 {
+        so_far = so_far & same_word(a, b, 8 * k);
     }
     so_far
 }
@@ -54,10 +68,8 @@ fn zero_few(s: &[u8]) -> bool
     ensures { result ≡ all_zero s.now }
 {
     let mut so_far = true;
-    let mut i = 0;
-    while i < s.len() {
-        so_far = so_far & (s[i] == 0);
-        i += 1;
+    for byte in s {
+        so_far = so_far & (*byte == 0);
     }
     so_far
 }
@@ -68,10 +80,8 @@ fn zero_words(s: &[u8]) -> bool
     ensures { result ≡ all_zero s.now }
 {
     let mut so_far = zero_word(s, s.len() - 8);
-    let mut i = 0;
-    while 8 <= s.len() - i {
-        so_far = so_far & zero_word(s, i);
-        i += 8;
+    for k in 0..s.len() / 8 {
+        so_far = so_far & zero_word(s, 8 * k);
     }
     so_far
 }
@@ -94,45 +104,12 @@ pub fn zero_part(s: &[u8], off: usize, len: usize) -> bool
     all_zero(&s[off..off + len])
 }
 
-// A number from its two halves, at each width.
-fn join16(hi: u8, lo: u8) -> u16
-    ensures { result ≡ hi * 256 + lo }
-{
-    (hi as u16) * 256 + (lo as u16)
-}
-
-fn join32(hi: u16, lo: u16) -> u32
-    ensures { result ≡ hi * 65536 + lo }
-{
-    (hi as u32) * 65536 + (lo as u32)
-}
-
-fn join64(hi: u32, lo: u32) -> u64
-    ensures { result ≡ hi * 4294967296 + lo }
-{
-    (hi as u64) * 4294967296 + (lo as u64)
-}
-
-// The little-endian number of 2, 4 and 8 bytes from an offset on: the order of the processor, so that each is one load.
-fn little16(s: &[u8], at: usize) -> u16
-    requires { at + 2 ≤ length s.now }
-    ensures { LittleEndian (part at 2 s.now) result }
-{
-    join16(s[at + 1], s[at])
-}
-
-fn little32(s: &[u8], at: usize) -> u32
-    requires { at + 4 ≤ length s.now }
-    ensures { LittleEndian (part at 4 s.now) result }
-{
-    join32(little16(s, at + 2), little16(s, at))
-}
-
+// The little-endian number of eight bytes: the order of the processor, so that it is one load.
 fn little64(s: &[u8], at: usize) -> u64
     requires { at + 8 ≤ length s.now }
     ensures { LittleEndian (part at 8 s.now) result }
 {
-    join64(little32(s, at + 4), little32(s, at))
+    u64::from_le_bytes(*s[at..].first_chunk().unwrap())
 }
 
 // Whether eight bytes are zero, and whether those of two runs are the same: one comparison each.
@@ -150,49 +127,27 @@ fn same_word(a: &[u8], b: &[u8], at: usize) -> bool
     little64(a, at) == little64(b, at)
 }
 
-// The big-endian number of 2, 4 and 8 bytes from an offset on.
+// The big-endian number of 2, 4 and 8 bytes from an offset on. That of two is joined by hand: with `from_be_bytes` the reader of an ACL took 63 instructions
+// for a record, and so it takes 54.
 pub fn be16(s: &[u8], at: usize) -> u16
     requires { at + 2 ≤ length s.now }
     ensures { result ≡ number at 2 s.now }
 {
-    join16(s[at], s[at + 1])
+    u16::from(s[at]) * 256 + u16::from(s[at + 1])
 }
 
 pub fn be32(s: &[u8], at: usize) -> u32
     requires { at + 4 ≤ length s.now }
     ensures { result ≡ number at 4 s.now }
 {
-    join32(be16(s, at), be16(s, at + 2))
+    u32::from_be_bytes([s[at], s[at + 1], s[at + 2], s[at + 3]])
 }
 
 pub fn be64(s: &[u8], at: usize) -> u64
     requires { at + 8 ≤ length s.now }
     ensures { result ≡ number at 8 s.now }
 {
-    swap64(little64(s, at))
-}
-
-// A number with its bytes in the other order, at each width. Eight bytes are so one load and one swap; joined from the greatest place on they
-// would be eight loads.
-fn swap16(n: u16) -> u16
-    ensures { result ≡ swapped16 n }
-{
-    join16((n % 256) as u8, (n / 256) as u8)
-}
-
-fn swap32(n: u32) -> u32
-    ensures { result ≡ swapped32 n }
-{
-    join32(swap16((n % 65536) as u16), swap16((n / 65536) as u16))
-}
-
-fn swap64(n: u64) -> u64
-    ensures { result ≡ swapped64 n }
-{
-    join64(
-        swap32((n % 4294967296) as u32),
-        swap32((n / 4294967296) as u32),
-    )
+    u64::from_be_bytes(*s[at..].first_chunk().unwrap())
 }
 
 // Bit b of a number.
@@ -211,7 +166,8 @@ pub fn flag_of(f: u16, s: &[u8]) -> bool
     bit_of(f, be16(s, 2))
 }
 
-// Whether every bit of a is set in b.
+// Whether every bit of a is set in b. Two functions, one for each width: a generic one would need bounds for `&` and `==` and the width of its type, and is
+// longer than both.
 pub fn subset16(a: u16, b: u16) -> bool
     ensures { result ≡ within 16 a b }
 {

@@ -1,4 +1,6 @@
 // The kinds of record and their flags, each named once, by the names of docs/RECORDS.md. A kind is byte 0 of a record, a flag a bit of bytes 2 and 3.
+// They are numbers and no enum: any byte may be there, each reader takes a few kinds and refuses or passes over all others, and the definitions compare the
+// number; a match on these constants says that with one arm for the rest, where an enum would add a conversion that fails, and an arm for it.
 #![tactic(auto)]
 
 // The records of an ACL: a group, its limits, its actions.

@@ -2,10 +2,12 @@
 // kinds that an ACL has most of end at the first fault: a test and a jump cost less than joining the answers.
 #![tactic(auto)]
 
-ghost use Rattle.std.specs.Prelude.{◌≡◌, ◌+◌, ◌≤◌, ◌<◌, length};
+ghost use Rattle.std.specs.Prelude.{◌≡◌, ◌+◌, ◌≤◌, ◌<◌};
 ghost use Rattle.rules.specs.Sizes.{record_bytes};
 ghost use Rattle.rules.specs.Basics.{within};
 ghost use Rattle.rules.specs.Layout.{header, zero_unless, mechanism_at, token_parameters_if, certifier_mechanism, counter_of_sort, group_laid_out, limit_laid_out, permissions_laid_out, blob_action_laid_out, archive_action_laid_out, use_laid_out, blob_request_laid_out, recovery_laid_out, certificate_laid_out, fact_laid_out, signature_laid_out, policy_laid_out, hint_laid_out, delegation_laid_out, blobfile_laid_out, blobfile_request_laid_out};
+
+use record_sizes::Record;
 
 // Flags of byte 3: none is set but those listed.
 fn low_flags(flags: u8, listed: u16) -> bool
@@ -15,16 +17,16 @@ fn low_flags(flags: u8, listed: u16) -> bool
 }
 
 // Byte 1 is zero, and no flag is set but those listed, which are bits of byte 3; so byte 2 is zero too.
-fn plain_header(listed: u16, s: &[u8]) -> bool
-    requires { (listed < 256) × (4 ≤ length s.now) }
+fn plain_header(listed: u16, s: &Record) -> bool
+    requires { listed < 256 }
     ensures { result ≡ header listed s.now }
 {
     record_fields::zero_part(s, 1, 2) & low_flags(s[3], listed)
 }
 
 // A field that flag f announces is zero where the flag is clear.
-fn zero_unless(f: u16, off: usize, len: usize, s: &[u8]) -> bool
-    requires { (f < 16) × (4 ≤ length s.now) × (off + len ≤ length s.now) }
+fn zero_unless(f: u16, off: usize, len: usize, s: &Record) -> bool
+    requires { (f < 16) × (off + len ≤ record_bytes) }
     ensures { result ≡ zero_unless f off len s.now }
 {
     if record_fields::flag_of(f, s) {
@@ -34,16 +36,16 @@ fn zero_unless(f: u16, off: usize, len: usize, s: &[u8]) -> bool
 }
 
 // A mechanism that has to be there: not zero.
-fn mechanism_at(off: usize, s: &[u8]) -> bool
-    requires { off + 2 ≤ length s.now }
+fn mechanism_at(off: usize, s: &Record) -> bool
+    requires { off + 2 ≤ record_bytes }
     ensures { result ≡ mechanism_at off s.now }
 {
     !(record_fields::be16(s, off) == 0)
 }
 
 // Token parameters that flag f announces: well formed, or zero where the flag is clear.
-fn token_parameters_if(f: u16, off: usize, s: &[u8]) -> bool
-    requires { (f < 16) × (4 ≤ length s.now) × (off + 8 ≤ length s.now) }
+fn token_parameters_if(f: u16, off: usize, s: &Record) -> bool
+    requires { (f < 16) × (off + 8 ≤ record_bytes) }
     ensures { result ≡ token_parameters_if f off s.now }
 {
     if record_fields::flag_of(f, s) {
@@ -53,8 +55,7 @@ fn token_parameters_if(f: u16, off: usize, s: &[u8]) -> bool
 }
 
 // A group's mechanism: only beside a certifier, and not zero; else absent.
-fn certifier_mechanism(s: &[u8]) -> bool
-    requires { length s.now ≡ record_bytes }
+fn certifier_mechanism(s: &Record) -> bool
     ensures { result ≡ certifier_mechanism s.now }
 {
     if record_fields::flag_of(record_kinds::MECHANISM, s) {
@@ -81,8 +82,7 @@ fn policy_bits(bits: u8) -> bool
 }
 
 // Kind 1.
-pub fn group(s: &[u8]) -> bool
-    requires { length s.now ≡ record_bytes }
+pub fn group(s: &Record) -> bool
     ensures { result ≡ group_laid_out s.now }
 {
     plain_header(3, s)
@@ -92,8 +92,7 @@ pub fn group(s: &[u8]) -> bool
 }
 
 // Kind 2.
-pub fn limit(s: &[u8]) -> bool
-    requires { length s.now ≡ record_bytes }
+pub fn limit(s: &Record) -> bool
     ensures { result ≡ limit_laid_out s.now }
 {
     let sort = s[4];
@@ -114,16 +113,14 @@ pub fn limit(s: &[u8]) -> bool
 }
 
 // Kind 3, OpPermissions.
-pub fn permissions(s: &[u8]) -> bool
-    requires { length s.now ≡ record_bytes }
+pub fn permissions(s: &Record) -> bool
     ensures { result ≡ permissions_laid_out s.now }
 {
     plain_header(0, s) & record_fields::zero_part(s, 6, 58)
 }
 
 // Kind 4, MakeBlob.
-pub fn blob_action(s: &[u8]) -> bool
-    requires { length s.now ≡ record_bytes }
+pub fn blob_action(s: &Record) -> bool
     ensures { result ≡ blob_action_laid_out s.now }
 {
     if !plain_header(127, s) {
@@ -142,8 +139,7 @@ pub fn blob_action(s: &[u8]) -> bool
 }
 
 // Kind 5, MakeArchiveBlob.
-pub fn archive_action(s: &[u8]) -> bool
-    requires { length s.now ≡ record_bytes }
+pub fn archive_action(s: &Record) -> bool
     ensures { result ≡ archive_action_laid_out s.now }
 {
     if !plain_header(65, s) {
@@ -159,16 +155,14 @@ pub fn archive_action(s: &[u8]) -> bool
 }
 
 // Kind 6, a request for a use.
-pub fn use_request(s: &[u8]) -> bool
-    requires { length s.now ≡ record_bytes }
+pub fn use_request(s: &Record) -> bool
     ensures { result ≡ use_laid_out s.now }
 {
     plain_header(0, s) & (s[4] < 16) & record_fields::zero_part(s, 5, 51)
 }
 
 // Kind 7, a request for a working blob.
-pub fn blob_request(s: &[u8]) -> bool
-    requires { length s.now ≡ record_bytes }
+pub fn blob_request(s: &Record) -> bool
     ensures { result ≡ blob_request_laid_out s.now }
 {
     plain_header(65, s)
@@ -178,24 +172,21 @@ pub fn blob_request(s: &[u8]) -> bool
 }
 
 // Kind 8, a request for a recovery blob.
-pub fn recovery_request(s: &[u8]) -> bool
-    requires { length s.now ≡ record_bytes }
+pub fn recovery_request(s: &Record) -> bool
     ensures { result ≡ recovery_laid_out s.now }
 {
     plain_header(64, s) & mechanism_at(24, s) & record_fields::zero_part(s, 26, 30)
 }
 
 // Kind 9, a presented certificate.
-pub fn certificate(s: &[u8]) -> bool
-    requires { length s.now ≡ record_bytes }
+pub fn certificate(s: &Record) -> bool
     ensures { result ≡ certificate_laid_out s.now }
 {
     plain_header(0, s) & mechanism_at(24, s) & record_fields::zero_part(s, 26, 38)
 }
 
 // Kind 10, a fact.
-pub fn fact(s: &[u8]) -> bool
-    requires { length s.now ≡ record_bytes }
+pub fn fact(s: &Record) -> bool
     ensures { result ≡ fact_laid_out s.now }
 {
     let field = s[4];
@@ -206,8 +197,7 @@ pub fn fact(s: &[u8]) -> bool
 }
 
 // Kind 11, a signature outcome.
-pub fn signature(s: &[u8]) -> bool
-    requires { length s.now ≡ record_bytes }
+pub fn signature(s: &Record) -> bool
     ensures { result ≡ signature_laid_out s.now }
 {
     let number = s[4];
@@ -218,8 +208,7 @@ pub fn signature(s: &[u8]) -> bool
 }
 
 // Kind 12, a policy.
-pub fn policy(s: &[u8]) -> bool
-    requires { length s.now ≡ record_bytes }
+pub fn policy(s: &Record) -> bool
     ensures { result ≡ policy_laid_out s.now }
 {
     let approach = s[5];
@@ -233,24 +222,21 @@ pub fn policy(s: &[u8]) -> bool
 }
 
 // Kind 13, a hint.
-pub fn hint(s: &[u8]) -> bool
-    requires { length s.now ≡ record_bytes }
+pub fn hint(s: &Record) -> bool
     ensures { result ≡ hint_laid_out s.now }
 {
     plain_header(0, s) & record_fields::zero_part(s, 5, 3) & record_fields::zero_part(s, 16, 48)
 }
 
 // Kind 14, a delegation.
-pub fn delegation(s: &[u8]) -> bool
-    requires { length s.now ≡ record_bytes }
+pub fn delegation(s: &Record) -> bool
     ensures { result ≡ delegation_laid_out s.now }
 {
     plain_header(0, s) & record_fields::zero_part(s, 46, 18)
 }
 
 // Kind 15, blobfile, in an ACL.
-pub fn file(s: &[u8]) -> bool
-    requires { length s.now ≡ record_bytes }
+pub fn file(s: &Record) -> bool
     ensures { result ≡ blobfile_laid_out s.now }
 {
     if !plain_header(3, s) {
@@ -266,8 +252,7 @@ pub fn file(s: &[u8]) -> bool
 }
 
 // A record of kind 15 in a request: it states exactly one device.
-pub fn file_request(s: &[u8]) -> bool
-    requires { length s.now ≡ record_bytes }
+pub fn file_request(s: &Record) -> bool
     ensures { result ≡ blobfile_request_laid_out s.now }
 {
     file(s)

@@ -4,6 +4,9 @@
 // Bytes of a record.
 pub const RECORD: usize = 64;
 
+// A record: its bytes.
+pub type Record = [u8; RECORD];
+
 // Bytes of a hash.
 pub const HASH: usize = 20;
 

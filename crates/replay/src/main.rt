@@ -2,263 +2,158 @@
 // call; memory is fixed, so that a script may be of any length.
 #![tactic(auto)]
 
-ghost use Rattle.std.specs.Prelude.{◌≡◌, ◌<◌, ◌≤◌, length};
-
 use cabinet::Cabinet;
 use cli_printing::Output;
 use gate::Ledger;
-use replay_script::{Call, Next, prefix};
+use replay_gate::Files;
+use replay_rows::Batch;
+use replay_script::{Call, Room, Stop, prefix, within};
 
-// What is carried from call to call, and whether the run goes on.
-#[derive(Clone, Copy)]
-struct State {
+// Where the lines go, and what is carried from call to call.
+#[derive(Drop)]
+struct Replay {
+    out: Output,
     ledger: Ledger,
     cabinet: Cabinet,
-    on: bool,
 }
 
-fn fresh() -> State {
-    State {
-        ledger: Ledger::fresh(),
-        cabinet: Cabinet::fresh(),
-        on: true,
+impl Replay {
+    fn new(rt: &HostRuntime) -> Replay {
+        Replay {
+            out: Output::new(rt),
+            ledger: Ledger::fresh(),
+            cabinet: Cabinet::fresh(),
+        }
     }
-}
 
-// The end of a script.
-fn ended(mut s: State) -> State {
-    s.on = false;
-    s
-}
+    // A call on the ledger, the cabinet or the desk, or a preparation. No other letter is left.
+    fn answer_read(&mut self, k: u64, call: Call, files: Files) -> Result<(), Stop> {
+        let letter = call.letter;
+        let out = &mut self.out;
+        if replay_gate::is_ledgers(letter) {
+            self.ledger = replay_gate::ledger_call(out, k, self.ledger, letter, call.first, files);
+        } else if replay_gate::is_cabinets(letter) {
+            self.cabinet = replay_gate::cabinet_call(
+                out,
+                k,
+                self.cabinet,
+                letter,
+                call.first,
+                call.second,
+                files,
+            );
+        } else if letter == b'D' {
+            replay_files::desk_call(out, k, files.km0, files.acl);
+        } else if letter == b'P' {
+            replay_runs::prepare_call(out, k, files.km0);
+        } else {
+            return Err(Stop);
+        }
+        Ok(())
+    }
 
-// Prints that the script cannot be read any further.
-fn stopped(out: &mut Output, k: u64, s: State) -> State {
-    cli_printing::print_line(out, k);
-    cli_printing::print(out, b"stop\n");
-    ended(s)
-}
+    // A call that is no run, its arguments in their room. Those that write do so in the second, a trimming in the third and fourth.
+    fn answer_alone(&mut self, k: u64, call: Call, room: &mut Room) -> Result<(), Stop> {
+        let letter = call.letter;
+        let given = prefix(&room.a, call.a);
+        let m = within(&room.b, call.b);
+        let n = within(&room.c, call.c);
+        let o = within(&room.d, call.d);
+        let b = &mut room.b[..];
+        let c = &mut room.c[..];
+        let d = &mut room.d[..];
+        if replay_files::is_buffers(letter) {
+            replay_files::buffer_call(
+                &mut self.out,
+                k,
+                letter,
+                call.first,
+                call.second,
+                given,
+                &mut b[..m],
+            );
+            return Ok(());
+        }
+        if letter == b'M' {
+            replay_files::trim_call(&mut self.out, k, given, &b[..m], &mut c[..n], &mut d[..o]);
+            return Ok(());
+        }
+        self.answer_read(
+            k,
+            call,
+            Files {
+                km0: given,
+                acl: &b[..m],
+                req: &c[..n],
+                new: &d[..o],
+                hints: prefix(&room.e, call.e),
+            },
+        )
+    }
 
-// A call that only reads what it is lent: of the ledger, of the cabinet or of the desk. No other letter is left.
-fn called(
-    out: &mut Output,
-    k: u64,
-    mut s: State,
-    call: Call,
-    a: &[u8],
-    b: &[u8],
-    c: &[u8],
-    d: &[u8],
-    e: &[u8],
-) -> State {
-    let letter = call.letter;
-    let first = call.first;
-    if replay_gate::is_ledgers(letter) {
-        let before = s.ledger;
-        s.ledger = replay_gate::ledger_call(out, k, before, letter, first, a, b, c, d, e);
-        return s;
+    // A call, its arguments in their room. A run writes in the fifth.
+    fn answer(&mut self, k: u64, call: Call, room: &mut Room) -> Result<(), Stop> {
+        let slot_run = replay_script::is_slot_run(call.letter);
+        if !replay_script::is_run(call.letter) && !slot_run {
+            return self.answer_alone(k, call, room);
+        }
+        let batch = Batch {
+            km0: prefix(&room.a, call.a),
+            acl: prefix(&room.b, call.b),
+            row: prefix(&room.c, call.c),
+            requests: prefix(&room.d, call.d),
+        };
+        let m = within(&room.e, call.e);
+        let e = &mut room.e[..];
+        let answers = &mut e[..m];
+        let out = &mut self.out;
+        if slot_run {
+            self.cabinet = replay_runs::slot_run_call(
+                out,
+                k,
+                self.cabinet,
+                call.letter,
+                call.first,
+                &room.form,
+                batch,
+                answers,
+            );
+        } else {
+            self.ledger = replay_runs::run_call(
+                out,
+                k,
+                self.ledger,
+                call.letter,
+                &room.form,
+                batch,
+                answers,
+            );
+        }
+        Ok(())
     }
-    if replay_gate::is_cabinets(letter) {
-        let before = s.cabinet;
-        let second = call.second;
-        s.cabinet = replay_gate::cabinet_call(out, k, before, letter, first, second, a, b, c, d, e);
-        return s;
-    }
-    if letter == b'D' {
-        replay_files::desk_call(out, k, a, b);
-        return s;
-    }
-    if letter == b'P' {
-        replay_runs::prepare_call(out, k, a);
-        return s;
-    }
-    stopped(out, k, s)
-}
 
-// A run of many requests, its arguments in the buffers.
-fn ran(
-    out: &mut Output,
-    k: u64,
-    mut s: State,
-    call: Call,
-    form: &[u8],
-    a: &[u8],
-    b: &[u8],
-    c: &[u8],
-    d: &[u8],
-    e: &mut [u8],
-) -> State
-    requires { length form.now ≡ 144 }
-{
-    let before = s.ledger;
-    let m = replay_script::within(e, call.e);
-    s.ledger = replay_runs::run_call(
-        out,
-        k,
-        before,
-        call.letter,
-        form,
-        prefix(a, call.a),
-        prefix(b, call.b),
-        prefix(c, call.c),
-        prefix(d, call.d),
-        &mut e[0..m],
-    );
-    s
-}
-
-// A run in a slot of the cabinet, its arguments in the buffers.
-fn ran_in_slot(
-    out: &mut Output,
-    k: u64,
-    mut s: State,
-    call: Call,
-    form: &[u8],
-    a: &[u8],
-    b: &[u8],
-    c: &[u8],
-    d: &[u8],
-    e: &mut [u8],
-) -> State
-    requires { length form.now ≡ 144 }
-{
-    let before = s.cabinet;
-    let m = replay_script::within(e, call.e);
-    s.cabinet = replay_runs::slot_run_call(
-        out,
-        k,
-        before,
-        call.letter,
-        call.first,
-        form,
-        prefix(a, call.a),
-        prefix(b, call.b),
-        prefix(c, call.c),
-        prefix(d, call.d),
-        &mut e[0..m],
-    );
-    s
-}
-
-// A call that is no run, its arguments in the buffers. Those that write do so in the second, a trimming in the third and fourth.
-fn answered_alone(
-    out: &mut Output,
-    k: u64,
-    s: State,
-    call: Call,
-    a: &[u8],
-    b: &mut [u8],
-    c: &mut [u8],
-    d: &mut [u8],
-    e: &[u8],
-) -> State {
-    let letter = call.letter;
-    let given = prefix(a, call.a);
-    let m = replay_script::within(b, call.b);
-    let n = replay_script::within(c, call.c);
-    let o = replay_script::within(d, call.d);
-    if replay_files::is_buffers(letter) {
-        replay_files::buffer_call(out, k, letter, call.first, call.second, given, &mut b[0..m]);
-        return s;
+    // Reads the next call, call k, and answers it. Whether there was one.
+    fn turn(&mut self, rt: &HostRuntime, k: u64, room: &mut Room) -> Result<bool, Stop> {
+        let Some(call) = replay_script::read_call(rt, room)? else {
+            return Ok(false);
+        };
+        self.answer(k, call, room)?;
+        Ok(true)
     }
-    if letter == b'M' {
-        replay_files::trim_call(out, k, given, &b[0..m], &mut c[0..n], &mut d[0..o]);
-        return s;
-    }
-    let last = prefix(e, call.e);
-    called(out, k, s, call, given, &b[0..m], &c[0..n], &d[0..o], last)
-}
-
-// A call, its arguments in the buffers. A run writes in the fifth.
-fn answered(
-    out: &mut Output,
-    k: u64,
-    s: State,
-    call: Call,
-    a: &[u8],
-    b: &mut [u8],
-    c: &mut [u8],
-    d: &mut [u8],
-    e: &mut [u8],
-    form: &[u8],
-) -> State
-    requires { length form.now ≡ 144 }
-{
-    let letter = call.letter;
-    if replay_script::is_run(letter) {
-        return ran(out, k, s, call, form, a, b, c, d, e);
-    }
-    if replay_script::is_slot_run(letter) {
-        return ran_in_slot(out, k, s, call, form, a, b, c, d, e);
-    }
-    answered_alone(out, k, s, call, a, b, c, d, e)
-}
-
-// The next item of the script: a call, or the end.
-fn turn(
-    out: &mut Output,
-    k: u64,
-    s: State,
-    next: Next,
-    a: &[u8],
-    b: &mut [u8],
-    c: &mut [u8],
-    d: &mut [u8],
-    e: &mut [u8],
-    form: &[u8],
-) -> State
-    requires { length form.now ≡ 144 }
-{
-    match next {
-        Next::Is(call) => answered(out, k, s, call, a, b, c, d, e, form),
-        Next::Stop => stopped(out, k, s),
-        Next::End => ended(s),
-    }
-}
-
-// Reads the next call into the buffers, and makes it.
-fn next_turn(
-    rt: &HostRuntime,
-    out: &mut Output,
-    k: u64,
-    s: State,
-    a: &mut [u8],
-    b: &mut [u8],
-    c: &mut [u8],
-    d: &mut [u8],
-    e: &mut [u8],
-) -> State {
-    let mut form = [0u8; replay_script::FORM];
-    let next = replay_script::read_call(rt, a, b, c, d, e, &mut form);
-    turn(out, k, s, next, a, b, c, d, e, &form)
-}
-
-// The number of the call after call k; the greatest where the run has ended.
-fn number_after(on: bool, k: u64) -> u64
-    requires { k < 18446744073709551615 }
-    ensures { (k < result) × (result ≤ 18446744073709551615) }
-{
-    if on {
-        return k + 1;
-    }
-    u64::MAX
 }
 
 // A proved loop has to end, and nothing says that a script does: the calls are counted up to a number that no run reaches.
-fn run(rt: &HostRuntime, a: &mut [u8], b: &mut [u8], c: &mut [u8], d: &mut [u8], e: &mut [u8]) {
-    let mut out = Output::new(rt);
-    let mut s = fresh();
-    let mut k: u64 = 1;
-    while k < u64::MAX {
-        s = next_turn(rt, &mut out, k, s, a, b, c, d, e);
-        k = number_after(s.on, k);
-    }
-}
-
 fn main(rt: HostRuntime) {
-    let mut a = [0u8; replay_script::MOST];
-    let mut b = [0u8; replay_script::MOST];
-    let mut c = [0u8; replay_script::MOST];
-    let mut d = [0u8; replay_script::MOST];
-    let mut e = [0u8; replay_script::MOST];
-    run(&rt, &mut a, &mut b, &mut c, &mut d, &mut e);
+    let mut room = Room::new();
+    let mut replay = Replay::new(&rt);
+    for k in 1..u64::MAX {
+        match replay.turn(&rt, k, &mut room) {
+            Ok(true) => {}
+            Ok(false) => return,
+            Err(Stop) => {
+                replay.out.print(format_args!("{k} stop\n"));
+                return;
+            }
+        }
+    }
 }

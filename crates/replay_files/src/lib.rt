@@ -6,71 +6,49 @@ ghost use Rattle.std.specs.Prelude.{◌≡◌};
 ghost use Rattle.rules.specs.Trim.{trim_acl_buffer, trim_hint_buffer};
 ghost use Rattle.replay_files.specs.Letters.{buffer_after};
 
-use cli_printing::{Output, print};
+use cli_printing::Output;
 use desk_steps::Step;
-use subject::Written;
-use trimming::TrimReply;
+use text_acl::TextError;
+use trimming::{Lengths, Untrimmed};
 
 // The desk's verdict, in its own line.
 pub fn desk_call(out: &mut Output, k: u64, bundle: &[u8], acl: &[u8]) {
     let mut line = [0u8; desk_verdict::LINE];
     let n = desk_verdict::verdict_line(desk::assess(bundle, acl), &mut line);
-    cli_printing::print_line(out, k);
-    print(out, &line[..n]);
+    out.print_line(k);
+    out.print_bytes(&line[..n]);
 }
 
-fn print_length(out: &mut Output, n: usize) {
-    print(out, b"length");
-    cli_printing::print_spaced(out, n);
-}
-
-fn print_written(out: &mut Output, w: Written) {
-    match w {
-        Written::Length(n) => print_length(out, n),
-        Written::Refused(why) => cli_printing::print_refusal(out, refusals::number(why) as u64),
-    }
-}
-
-fn print_listed(out: &mut Output, reply: text_acl::Reply) {
-    match reply {
-        text_acl::Reply::Produced(n) => print_length(out, n),
-        text_acl::Reply::Refused(why) => cli_printing::print_refusal(
-            out,
-            refusals::number(why) as u64,
-        ),
-        text_acl::Reply::BadLine(n) => {
-            cli_printing::print_refusal(out, 15);
-            cli_printing::print_spaced(out, n);
+// The length of what was written, or why nothing was.
+fn print_written(out: &mut Output, written: Result<usize, TextError>) {
+    match written {
+        Ok(n) => out.print(format_args!("length {n}")),
+        Err(TextError::Refused(why)) => out.print_refusal(u8::from(why)),
+        Err(TextError::BadLine(n)) => {
+            out.print_refusal(15);
+            out.print_spaced(n);
         }
     }
 }
 
 // Whether the call of a letter writes into one lent buffer.
 pub fn is_buffers(letter: u8) -> bool {
-    (letter == b'S') | (letter == b'W') | (letter == b'T') | (letter == b'V') | (letter == b'U')
+    matches!(letter, b'S' | b'W' | b'T' | b'V' | b'U')
 }
 
 // The answer to a letter: a subject, a listing or a text, written or read.
+#[tactic(auto, unfolding(crate::specs::Letters::buffer_after))]
 fn answer(out: &mut Output, letter: u8, first: u64, second: u64, given: &[u8], buffer: &mut [u8])
     ensures { buffer.new ≡ buffer_after letter first second given.now buffer.old }
 {
-    if letter == b'S' {
-        print_written(out, subject::write_subject(first, second, given, buffer));
-        return;
-    }
-    if letter == b'W' {
-        print_listed(out, text_acl::write_listing(given, buffer));
-        return;
-    }
-    if letter == b'T' {
-        print_listed(out, text_acl::read_listing(given, buffer));
-        return;
-    }
-    if letter == b'V' {
-        print_listed(out, text_kinds::write(first, given, buffer));
-        return;
-    }
-    print_listed(out, text_kinds::read(first, given, buffer));
+    let written = match letter {
+        b'S' => subject::write_subject(first, second, given, buffer).map_err(TextError::Refused),
+        b'W' => text_acl::write_listing(given, buffer),
+        b'T' => text_acl::read_listing(given, buffer),
+        b'V' => text_kinds::write(first, given, buffer),
+        _ => text_kinds::read(first, given, buffer),
+    };
+    print_written(out, written);
 }
 
 // A call that writes into a lent buffer, and the whole buffer after it.
@@ -85,29 +63,29 @@ pub fn buffer_call(
 )
     ensures { buffer.new ≡ buffer_after letter first second given.now buffer.old }
 {
-    cli_printing::print_line(out, k);
+    out.print_line(k);
     answer(out, letter, first, second, given, buffer);
-    print(out, b" ");
-    cli_printing::print_hex(out, buffer);
-    print(out, b"\n");
+    out.print(" ");
+    out.print_hex(buffer);
+    out.print("\n");
 }
 
 fn print_step(out: &mut Output, step: Step) {
     let mut name = [0u8; desk_verdict::LINE];
     let n = desk_verdict::append_step(step, 0, &mut name);
-    print(out, b"fail");
-    print(out, &name[..n]);
+    out.print("fail");
+    out.print_bytes(&name[..n]);
 }
 
-fn print_trimmed(out: &mut Output, reply: TrimReply) {
-    match reply {
-        TrimReply::Trimmed(m, n) => {
-            print(out, b"lengths");
-            cli_printing::print_spaced(out, m);
-            cli_printing::print_spaced(out, n);
+fn print_trimmed(out: &mut Output, trimmed: Result<Lengths, Untrimmed>) {
+    match trimmed {
+        Ok(n) => {
+            out.print("lengths");
+            out.print_spaced(n.acl);
+            out.print_spaced(n.hints);
         }
-        TrimReply::Failed(s) => print_step(out, s),
-        TrimReply::Refused(why) => cli_printing::print_refusal(out, refusals::number(why) as u64),
+        Err(Untrimmed::Failed(step)) => print_step(out, step),
+        Err(Untrimmed::Refused(why)) => out.print_refusal(u8::from(why)),
     }
 }
 
@@ -123,11 +101,11 @@ pub fn trim_call(
     ensures trimmed { new.new ≡ trim_acl_buffer bundle.now acl.now new.old hints.old }
     ensures hinted { hints.new ≡ trim_hint_buffer bundle.now acl.now new.old hints.old }
 {
-    cli_printing::print_line(out, k);
+    out.print_line(k);
     print_trimmed(out, trimming::trim(bundle, acl, new, hints));
-    print(out, b" ");
-    cli_printing::print_hex(out, new);
-    print(out, b" ");
-    cli_printing::print_hex(out, hints);
-    print(out, b"\n");
+    out.print(" ");
+    out.print_hex(new);
+    out.print(" ");
+    out.print_hex(hints);
+    out.print("\n");
 }

@@ -11,47 +11,36 @@ use cabinet::{Cabinet, CabinetOutcome};
 use cli_printing::Output;
 use gate::{Ledger, Outcome};
 
+// The files of a call, empty where it does not take one.
+#[derive(Clone, Copy)]
+pub struct Files<'a> {
+    pub km0: &'a [u8],
+    pub acl: &'a [u8],
+    pub req: &'a [u8],
+    pub new: &'a [u8],
+    pub hints: &'a [u8],
+}
+
 // Whether a letter is one of the ledger's.
 pub fn is_ledgers(letter: u8) -> bool
     ensures { result ≡ is_ledgers letter }
 {
-    (letter == b'F')
-        | (letter == b'L')
-        | (letter == b'C')
-        | (letter == b'R')
-        | (letter == b'N')
-        | (letter == b'X')
+    matches!(letter, b'F' | b'L' | b'C' | b'R' | b'N' | b'X')
 }
 
 // The answer to a letter of the ledger's: fresh, load, clear, request, narrow or expand.
-fn ledger_answer(
-    ledger: Ledger,
-    letter: u8,
-    number: u64,
-    km0: &[u8],
-    acl: &[u8],
-    req: &[u8],
-    new: &[u8],
-    hints: &[u8],
-) -> Outcome
-    ensures { outcome_as result ≡ ledger_answer (ledger_as ledger) letter number km0.now acl.now req.now new.now hints.now }
+#[tactic(auto, unfolding(crate::specs::Letters::ledger_answer))]
+fn ledger_answer(ledger: Ledger, letter: u8, number: u64, files: Files) -> Outcome
+    ensures { outcome_as result ≡ ledger_answer (ledger_as ledger) letter number files.entry.km0.now files.entry.acl.now files.entry.req.now files.entry.new.now files.entry.hints.now }
 {
-    if letter == b'F' {
-        return cli_outcomes::fresh_ledger();
+    match letter {
+        b'F' => cli_outcomes::fresh_ledger(),
+        b'L' => ledger.load(number),
+        b'C' => ledger.clear(number as usize),
+        b'R' => ledger.request(files.km0, files.acl, files.req),
+        b'N' => ledger.narrow(files.km0, files.acl, files.req, files.new, files.hints),
+        _ => ledger.expand(files.km0, files.acl, files.req, files.new),
     }
-    if letter == b'L' {
-        return ledger.load(number);
-    }
-    if letter == b'C' {
-        return ledger.clear(number as usize);
-    }
-    if letter == b'R' {
-        return ledger.request(km0, acl, req);
-    }
-    if letter == b'N' {
-        return ledger.narrow(km0, acl, req, new, hints);
-    }
-    ledger.expand(km0, acl, req, new)
 }
 
 // A ledger call.
@@ -61,15 +50,11 @@ pub fn ledger_call(
     before: Ledger,
     letter: u8,
     number: u64,
-    km0: &[u8],
-    acl: &[u8],
-    req: &[u8],
-    new: &[u8],
-    hints: &[u8],
+    files: Files,
 ) -> Ledger
-    ensures { ledger_as result ≡ (ledger_answer (ledger_as before) letter number km0.now acl.now req.now new.now hints.now).ledger }
+    ensures { ledger_as result ≡ (ledger_answer (ledger_as before) letter number files.entry.km0.now files.entry.acl.now files.entry.req.now files.entry.new.now files.entry.hints.now).ledger }
 {
-    let o = ledger_answer(before, letter, number, km0, acl, req, new, hints);
+    let o = ledger_answer(before, letter, number, files);
     cli_outcomes::ledger_line(out, k, o)
 }
 
@@ -77,54 +62,46 @@ pub fn ledger_call(
 pub fn is_cabinets(letter: u8) -> bool
     ensures { result ≡ is_cabinets letter }
 {
-    (letter == b'f')
-        | (letter == b'l')
-        | (letter == b'c')
-        | (letter == b'r')
-        | (letter == b'n')
-        | (letter == b'x')
+    matches!(letter, b'f' | b'l' | b'c' | b'r' | b'n' | b'x')
 }
 
 // The answer to a letter of the cabinet's: the same. The number is a slot's or, for a clear, a counter's.
+#[tactic(auto, unfolding(crate::specs::Letters::cabinet_answer))]
 fn cabinet_answer(
     cabinet: Cabinet,
     letter: u8,
     place: usize,
     time: u64,
-    km0: &[u8],
-    acl: &[u8],
-    req: &[u8],
-    new: &[u8],
-    hints: &[u8],
+    files: Files,
 ) -> CabinetOutcome
-    ensures { cabinet_outcome_as result ≡ cabinet_answer (cabinet_as cabinet) letter place time km0.now acl.now req.now new.now hints.now }
+    ensures { cabinet_outcome_as result ≡ cabinet_answer (cabinet_as cabinet) letter place time files.entry.km0.now files.entry.acl.now files.entry.req.now files.entry.new.now files.entry.hints.now }
 {
-    if letter == b'f' {
-        return cli_outcomes::fresh_cabinet();
+    match letter {
+        b'f' => cli_outcomes::fresh_cabinet(),
+        b'l' => cabinet.load(place, time),
+        b'c' => cabinet.clear(place),
+        b'r' => cabinet.request(place, files.km0, files.acl, files.req),
+        b'n' => cabinet.narrow(
+            place,
+            files.km0,
+            files.acl,
+            files.req,
+            files.new,
+            files.hints,
+        ),
+        _ => cabinet.expand(place, files.km0, files.acl, files.req, files.new),
     }
-    if letter == b'l' {
-        return cabinet.load(place, time);
-    }
-    if letter == b'c' {
-        return cabinet.clear(place);
-    }
-    if letter == b'r' {
-        return cabinet.request(place, km0, acl, req);
-    }
-    if letter == b'n' {
-        return cabinet.narrow(place, km0, acl, req, new, hints);
-    }
-    cabinet.expand(place, km0, acl, req, new)
 }
 
 // The slot that a cabinet call names; past the last where it takes none.
 fn slot_of(letter: u8, place: usize) -> usize
     ensures { result ≡ slot_of letter place }
 {
-    if (letter == b'f') | (letter == b'c') {
-        return Cabinet::SLOTS;
+    if letter == b'f' || letter == b'c' {
+        Cabinet::SLOTS
+    } else {
+        place
     }
-    place
 }
 
 // A cabinet call.
@@ -135,15 +112,11 @@ pub fn cabinet_call(
     letter: u8,
     first: u64,
     second: u64,
-    km0: &[u8],
-    acl: &[u8],
-    req: &[u8],
-    new: &[u8],
-    hints: &[u8],
+    files: Files,
 ) -> Cabinet
-    ensures { cabinet_as result ≡ (cabinet_answer (cabinet_as before) letter first second km0.now acl.now req.now new.now hints.now).cabinet }
+    ensures { cabinet_as result ≡ (cabinet_answer (cabinet_as before) letter first second files.entry.km0.now files.entry.acl.now files.entry.req.now files.entry.new.now files.entry.hints.now).cabinet }
 {
     let place = first as usize;
-    let o = cabinet_answer(before, letter, place, second, km0, acl, req, new, hints);
+    let o = cabinet_answer(before, letter, place, second, files);
     cli_outcomes::cabinet_line(out, k, o, slot_of(letter, place))
 }

@@ -1,9 +1,7 @@
-// A row of certificates that is given as bytes, decoded and lent to a run as a host lends its own. Each of the functions that lend it is one call.
+// A row of certificates that is given as bytes, decoded and lent to a run as a host lends its own.
 #![tactic(auto)]
 
-ghost use Rattle.std.specs.Prelude.{◌≡◌, ◌+◌, ◌≤◌, List, length, take};
-ghost use Rattle.rules.specs.Sizes.{hash_bytes, certificates_max};
-ghost use Rattle.rules.specs.Request as rules;
+ghost use Rattle.std.specs.Prelude.{◌≡◌, ◌≤◌, length};
 ghost use Rattle.rules.specs.Runs.{run};
 ghost use Rattle.rules.specs.Prepared.{prepared_run};
 ghost use Rattle.rules.specs.CabinetRuns.{cabinet_run, cabinet_prepared_run};
@@ -27,21 +25,22 @@ const CERTIFICATE: usize = record_sizes::HASH + 2;
 
 // How many certificates of a row are lent at most: one more than a run takes. A run with more than it takes is refused by the lengths of its files (1) or
 // else by the number of its certificates (3), before a mechanism, the ACL's records, the room or the form is looked at. So the first 33 of a longer row
-// get the answer of the whole row: the theorems `run_long_row` and `prepared_run_long_row`, which the contracts of the functions that lend rest on.
+// get the answer of the whole row: the theorems `run_long_row` and `prepared_run_long_row`, which the contracts of the runs rest on.
 const LENT: usize = record_sizes::CERTIFICATES + 1;
 
-// The hash at the front of some bytes.
-fn hash_of(bytes: &[u8]) -> [u8; record_sizes::HASH]
-    requires { 20 ≤ length bytes.now }
-    ensures { result ≡ take hash_bytes bytes.now }
-{
-    let mut hash = [0u8; record_sizes::HASH];
-    let mut i = 0;
-    while i < record_sizes::HASH {
-        hash[i] = bytes[i];
-        i += 1;
-    }
-    hash
+// No certificate: what a place of the row is before it is decoded.
+const BLANK: Certificate = Certificate {
+    hash: [0; record_sizes::HASH],
+    mechanism: 0,
+};
+
+// What a run is lent, its row as bytes.
+#[derive(Clone, Copy)]
+pub struct Batch<'a> {
+    pub km0: &'a [u8],
+    pub acl: &'a [u8],
+    pub row: &'a [u8],
+    pub requests: &'a [u8],
 }
 
 // The certificate at the front of some bytes.
@@ -49,170 +48,62 @@ fn certificate_of(bytes: &[u8]) -> Certificate
     requires { 22 ≤ length bytes.now }
     ensures { certificate_as result ≡ given_at bytes.now 0 }
 {
-    let hash = hash_of(bytes);
     Certificate {
-        hash,
+        hash: *bytes.first_chunk().unwrap(),
         mechanism: record_fields::be16(bytes, record_sizes::HASH),
     }
 }
 
-// The certificates of a row that are lent, blank ones behind them.
-fn decoded(bytes: &[u8]) -> [Certificate; LENT]
-    ensures { row_as (take (length (lent_of bytes.now)) result) ≡ lent_of bytes.now }
+// The certificates of a row that are lent, decoded into the room for them.
+fn decoded<'a>(bytes: &[u8], room: &'a mut [Certificate; LENT]) -> &'a [Certificate]
+    ensures { row_as result.now ≡ lent_of bytes.now }
 {
-    let blank = Certificate {
-        hash: [0u8; record_sizes::HASH],
-        mechanism: 0,
-    };
-    let mut row = [blank; LENT];
-    let mut i = 0;
-    while i < LENT {
-        if bytes.len() < i * CERTIFICATE + CERTIFICATE {
-            return row;
-        }
-        row[i] = certificate_of(&bytes[i * CERTIFICATE..]);
-        i += 1;
+    let n = (bytes.len() / CERTIFICATE).min(LENT);
+    for i in 0..n {
+        room[i] = certificate_of(&bytes[i * CERTIFICATE..]);
     }
-    row
-}
-
-// How many of a row are lent.
-fn lent(bytes: &[u8]) -> usize
-    ensures { (result ≡ length (lent_of bytes.now)) × (result ≤ 33) }
-{
-    let n = bytes.len() / CERTIFICATE;
-    if LENT < n {
-        return LENT;
-    }
-    n
-}
-
-// A run with the first certificates of a row: the answer of every row that has these as its first 33, or as all there are.
-fn run_lent(
-    ledger: Ledger,
-    km0: &[u8],
-    acl: &[u8],
-    row: [Certificate; LENT],
-    n: usize,
-    requests: &[u8],
-    answers: &mut [u8],
-) -> RunOutcome
-    requires { n ≤ 33 }
-    ensures { (whole : List rules.Certificate) → take (certificates_max + 1) whole ≡ row_as (take n row) → run_outcome_as result answers.new ≡ run (ledger_as ledger) km0.now acl.now whole requests.now answers.old }
-{
-    runs::run(ledger, km0, acl, &row[..n], requests, answers)
-}
-
-// The same on a prepared ACL.
-fn prepared_run_lent(
-    ledger: Ledger,
-    km0: &[u8],
-    acl: &[u8],
-    row: [Certificate; LENT],
-    n: usize,
-    form: Prepared,
-    requests: &[u8],
-    answers: &mut [u8],
-) -> RunOutcome
-    requires { n ≤ 33 }
-    ensures { (whole : List rules.Certificate) → take (certificates_max + 1) whole ≡ row_as (take n row) → run_outcome_as result answers.new ≡ prepared_run (ledger_as ledger) km0.now acl.now whole (form_as form) requests.now answers.old }
-{
-    runs::prepared_run(ledger, km0, acl, &row[..n], form, requests, answers)
+    &room[..n]
 }
 
 // A run with a row of certificates that is given as bytes.
-pub fn run(
-    ledger: Ledger,
-    km0: &[u8],
-    acl: &[u8],
-    row: &[u8],
-    requests: &[u8],
-    answers: &mut [u8],
-) -> RunOutcome
-    ensures { run_outcome_as result answers.new ≡ run (ledger_as ledger) km0.now acl.now (row_given row.now) requests.now answers.old }
+pub fn run(ledger: Ledger, batch: Batch, answers: &mut [u8]) -> RunOutcome
+    ensures { run_outcome_as result answers.new ≡ run (ledger_as ledger) batch.entry.km0.now batch.entry.acl.now (row_given batch.entry.row.now) batch.entry.requests.now answers.old }
 {
-    run_lent(ledger, km0, acl, decoded(row), lent(row), requests, answers)
+    let mut room = [BLANK; LENT];
+    let row = decoded(batch.row, &mut room);
+    runs::run(ledger, batch.km0, batch.acl, row, batch.requests, answers)
 }
 
 // The same on a prepared ACL.
-pub fn prepared_run(
-    ledger: Ledger,
-    km0: &[u8],
-    acl: &[u8],
-    row: &[u8],
-    form: Prepared,
-    requests: &[u8],
-    answers: &mut [u8],
-) -> RunOutcome
-    ensures { run_outcome_as result answers.new ≡ prepared_run (ledger_as ledger) km0.now acl.now (row_given row.now) (form_as form) requests.now answers.old }
+pub fn prepared_run(ledger: Ledger, batch: Batch, form: Prepared, answers: &mut [u8]) -> RunOutcome
+    ensures { run_outcome_as result answers.new ≡ prepared_run (ledger_as ledger) batch.entry.km0.now batch.entry.acl.now (row_given batch.entry.row.now) (form_as form) batch.entry.requests.now answers.old }
 {
-    prepared_run_lent(
+    let mut room = [BLANK; LENT];
+    let row = decoded(batch.row, &mut room);
+    runs::prepared_run(
         ledger,
-        km0,
-        acl,
-        decoded(row),
-        lent(row),
+        batch.km0,
+        batch.acl,
+        row,
         form,
-        requests,
+        batch.requests,
         answers,
     )
 }
 
-// A run in a slot of a cabinet with the first certificates of a row.
-fn cabinet_run_lent(
-    cabinet: Cabinet,
-    slot: usize,
-    km0: &[u8],
-    acl: &[u8],
-    row: [Certificate; LENT],
-    n: usize,
-    requests: &[u8],
-    answers: &mut [u8],
-) -> CabinetRan
-    requires { n ≤ 33 }
-    ensures { (whole : List rules.Certificate) → take (certificates_max + 1) whole ≡ row_as (take n row) → cabinet_ran_as result answers.new ≡ cabinet_run (cabinet_as cabinet) slot km0.now acl.now whole requests.now answers.old }
-{
-    cabinet_runs::run(cabinet, slot, km0, acl, &row[..n], requests, answers)
-}
-
-// The same on a prepared ACL.
-fn cabinet_prepared_run_lent(
-    cabinet: Cabinet,
-    slot: usize,
-    km0: &[u8],
-    acl: &[u8],
-    row: [Certificate; LENT],
-    n: usize,
-    form: Prepared,
-    requests: &[u8],
-    answers: &mut [u8],
-) -> CabinetRan
-    requires { n ≤ 33 }
-    ensures { (whole : List rules.Certificate) → take (certificates_max + 1) whole ≡ row_as (take n row) → cabinet_ran_as result answers.new ≡ cabinet_prepared_run (cabinet_as cabinet) slot km0.now acl.now whole (form_as form) requests.now answers.old }
-{
-    cabinet_runs::prepared_run(cabinet, slot, km0, acl, &row[..n], form, requests, answers)
-}
-
 // A run in a slot of a cabinet with a row of certificates that is given as bytes.
-pub fn cabinet_run(
-    cabinet: Cabinet,
-    slot: usize,
-    km0: &[u8],
-    acl: &[u8],
-    row: &[u8],
-    requests: &[u8],
-    answers: &mut [u8],
-) -> CabinetRan
-    ensures { cabinet_ran_as result answers.new ≡ cabinet_run (cabinet_as cabinet) slot km0.now acl.now (row_given row.now) requests.now answers.old }
+pub fn cabinet_run(cabinet: Cabinet, slot: usize, batch: Batch, answers: &mut [u8]) -> CabinetRan
+    ensures { cabinet_ran_as result answers.new ≡ cabinet_run (cabinet_as cabinet) slot batch.entry.km0.now batch.entry.acl.now (row_given batch.entry.row.now) batch.entry.requests.now answers.old }
 {
-    cabinet_run_lent(
+    let mut room = [BLANK; LENT];
+    let row = decoded(batch.row, &mut room);
+    cabinet_runs::run(
         cabinet,
         slot,
-        km0,
-        acl,
-        decoded(row),
-        lent(row),
-        requests,
+        batch.km0,
+        batch.acl,
+        row,
+        batch.requests,
         answers,
     )
 }
@@ -221,24 +112,22 @@ pub fn cabinet_run(
 pub fn cabinet_prepared_run(
     cabinet: Cabinet,
     slot: usize,
-    km0: &[u8],
-    acl: &[u8],
-    row: &[u8],
+    batch: Batch,
     form: Prepared,
-    requests: &[u8],
     answers: &mut [u8],
 ) -> CabinetRan
-    ensures { cabinet_ran_as result answers.new ≡ cabinet_prepared_run (cabinet_as cabinet) slot km0.now acl.now (row_given row.now) (form_as form) requests.now answers.old }
+    ensures { cabinet_ran_as result answers.new ≡ cabinet_prepared_run (cabinet_as cabinet) slot batch.entry.km0.now batch.entry.acl.now (row_given batch.entry.row.now) (form_as form) batch.entry.requests.now answers.old }
 {
-    cabinet_prepared_run_lent(
+    let mut room = [BLANK; LENT];
+    let row = decoded(batch.row, &mut room);
+    cabinet_runs::prepared_run(
         cabinet,
         slot,
-        km0,
-        acl,
-        decoded(row),
-        lent(row),
+        batch.km0,
+        batch.acl,
+        row,
         form,
-        requests,
+        batch.requests,
         answers,
     )
 }

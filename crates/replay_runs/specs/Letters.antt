@@ -9,10 +9,6 @@ use Rattle.rules.specs.Cabinet.{Cabinet}
 use Rattle.rules.specs.CabinetRuns.{CabinetRan, cabinet_run, cabinet_prepared_run}
 use Rattle.replay_rows.specs.Given.{row_given}
 
--- a form that is given as bytes, "144 of them: eighteen numbers"
-abbrev pub form_bytes : ℕ
-form_bytes = 144
-
 -- the sets of the first n permissions
 unfoldable pub uses_given : Bytes → ℕ → List ℕ
 uses_given s zero = []

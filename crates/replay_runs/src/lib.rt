@@ -3,78 +3,77 @@
 // can say what is printed.
 #![tactic(auto)]
 
-ghost use Rattle.std.specs.Prelude.{◌≡◌, length};
+ghost use Rattle.std.specs.Prelude.{◌≡◌};
 ghost use Rattle.rules.specs.Sizes.{permissions_max};
 ghost use Rattle.gate.specs.Outcomes.{ledger_as};
 ghost use Rattle.run_form.specs.Forms.{form_as};
 ghost use Rattle.runs.specs.Judged.{run_outcome_as};
 ghost use Rattle.cabinet.specs.Kept.{cabinet_as};
 ghost use Rattle.cabinet_runs.specs.Handed.{cabinet_ran_as};
-ghost use Rattle.replay_runs.specs.Letters.{form_bytes, uses_given, form_given, run_answer, slot_run_answer};
+ghost use Rattle.replay_runs.specs.Letters.{uses_given, form_given, run_answer, slot_run_answer};
 
 use cabinet::Cabinet;
 use cabinet_runs::CabinetRan;
-use cli_printing::{Output, print};
-use files::Checked;
+use cli_printing::Output;
 use gate::Ledger;
+use refusals::Refusal;
+use replay_rows::Batch;
 use run_form::Prepared;
-use runs::{RunOutcome, RunReply};
+use runs::RunOutcome;
+
+// Bytes of a form: eighteen numbers.
+const FORM: usize = 8 * (record_sizes::PERMISSIONS + 2);
 
 // The sets of the permissions, at the front of a form's bytes.
-fn uses_of(bytes: &[u8]) -> [u64; record_sizes::PERMISSIONS]
-    requires { length bytes.now ≡ form_bytes }
+fn uses_of(bytes: &[u8; FORM]) -> [u64; record_sizes::PERMISSIONS]
     ensures { result ≡ uses_given bytes.now permissions_max }
 {
     let mut uses = [0u64; record_sizes::PERMISSIONS];
-    let mut i = 0;
-    while i < record_sizes::PERMISSIONS {
+    for i in 0..record_sizes::PERMISSIONS {
         uses[i] = record_fields::be64(bytes, i * 8);
-        i += 1;
     }
     uses
 }
 
 // A form that is given as bytes: eighteen numbers, big-endian.
-fn form_of(bytes: &[u8]) -> Prepared
-    requires { length bytes.now ≡ form_bytes }
+fn form_of(bytes: &[u8; FORM]) -> Prepared
     ensures { form_as result ≡ form_given bytes.now }
 {
-    let uses = uses_of(bytes);
     Prepared {
-        uses,
+        uses: uses_of(bytes),
         working: record_fields::be64(bytes, 128),
         recovery: record_fields::be64(bytes, 136),
     }
 }
 
 // The answer to a letter of a run: plain, or on a prepared ACL.
+#[tactic(auto, unfolding(crate::specs::Letters::run_answer))]
 fn answer(
     ledger: Ledger,
     letter: u8,
-    form: &[u8],
-    km0: &[u8],
-    acl: &[u8],
-    row: &[u8],
-    requests: &[u8],
+    form: &[u8; FORM],
+    batch: Batch,
     answers: &mut [u8],
 ) -> RunOutcome
-    requires { length form.now ≡ form_bytes }
-    ensures { run_outcome_as result answers.new ≡ run_answer (ledger_as ledger) letter form.now km0.now acl.now row.now requests.now answers.old }
+    ensures { run_outcome_as result answers.new ≡ run_answer (ledger_as ledger) letter form.now batch.entry.km0.now batch.entry.acl.now batch.entry.row.now batch.entry.requests.now answers.old }
 {
     if letter == b'B' {
-        return replay_rows::run(ledger, km0, acl, row, requests, answers);
+        replay_rows::run(ledger, batch, answers)
+    } else {
+        replay_rows::prepared_run(ledger, batch, form_of(form), answers)
     }
-    replay_rows::prepared_run(ledger, km0, acl, row, form_of(form), requests, answers)
 }
 
-fn print_ran(out: &mut Output, reply: RunReply) {
+// Prints the reply of a run, and the whole buffer after it.
+fn print_ran(out: &mut Output, reply: Result<usize, Refusal>, answers: &[u8]) {
     match reply {
-        RunReply::Ran(n) => {
-            print(out, b"length");
-            cli_printing::print_spaced(out, n);
+        Ok(n) => out.print(format_args!("length {n} ")),
+        Err(why) => {
+            out.print_refusal(u8::from(why));
+            out.print(" ");
         }
-        RunReply::Refused(why) => cli_printing::print_refusal(out, refusals::number(why) as u64),
     }
+    out.print_hex(answers);
 }
 
 // Makes a run, prints its reply and the whole buffer after it, and returns the ledger.
@@ -83,54 +82,37 @@ pub fn run_call(
     k: u64,
     before: Ledger,
     letter: u8,
-    form: &[u8],
-    km0: &[u8],
-    acl: &[u8],
-    row: &[u8],
-    requests: &[u8],
+    form: &[u8; FORM],
+    batch: Batch,
     answers: &mut [u8],
 ) -> Ledger
-    requires { length form.now ≡ form_bytes }
-    ensures { (ledger_as result ≡ (run_answer (ledger_as before) letter form.now km0.now acl.now row.now requests.now answers.old).ledger) × (answers.new ≡ (run_answer (ledger_as before) letter form.now km0.now acl.now row.now requests.now answers.old).buffer) }
+    ensures { (ledger_as result ≡ (run_answer (ledger_as before) letter form.now batch.entry.km0.now batch.entry.acl.now batch.entry.row.now batch.entry.requests.now answers.old).ledger) × (answers.new ≡ (run_answer (ledger_as before) letter form.now batch.entry.km0.now batch.entry.acl.now batch.entry.row.now batch.entry.requests.now answers.old).buffer) }
 {
-    let o = answer(before, letter, form, km0, acl, row, requests, answers);
-    let reply = o.reply;
+    let o = answer(before, letter, form, batch, answers);
     let ledger = o.ledger;
-    cli_printing::print_line(out, k);
-    print_ran(out, reply);
-    print(out, b" ");
-    cli_printing::print_hex(out, answers);
-    cli_outcomes::print_ledger(out, ledger)
+    out.print_line(k);
+    print_ran(out, o.reply, answers);
+    cli_outcomes::print_ledger(out, &ledger);
+    ledger
 }
 
 // The answer to a letter of a run in a slot: plain, or on a prepared ACL.
+#[tactic(auto, unfolding(crate::specs::Letters::slot_run_answer))]
 fn slot_answer(
     cabinet: Cabinet,
     letter: u8,
     slot: usize,
-    form: &[u8],
-    km0: &[u8],
-    acl: &[u8],
-    row: &[u8],
-    requests: &[u8],
+    form: &[u8; FORM],
+    batch: Batch,
     answers: &mut [u8],
 ) -> CabinetRan
-    requires { length form.now ≡ form_bytes }
-    ensures { cabinet_ran_as result answers.new ≡ slot_run_answer (cabinet_as cabinet) letter slot form.now km0.now acl.now row.now requests.now answers.old }
+    ensures { cabinet_ran_as result answers.new ≡ slot_run_answer (cabinet_as cabinet) letter slot form.now batch.entry.km0.now batch.entry.acl.now batch.entry.row.now batch.entry.requests.now answers.old }
 {
     if letter == b'b' {
-        return replay_rows::cabinet_run(cabinet, slot, km0, acl, row, requests, answers);
+        replay_rows::cabinet_run(cabinet, slot, batch, answers)
+    } else {
+        replay_rows::cabinet_prepared_run(cabinet, slot, batch, form_of(form), answers)
     }
-    replay_rows::cabinet_prepared_run(
-        cabinet,
-        slot,
-        km0,
-        acl,
-        row,
-        form_of(form),
-        requests,
-        answers,
-    )
 }
 
 // A run in a slot: its reply, the whole buffer after it, the slot and the shared counters of the cabinet that it returns.
@@ -140,44 +122,31 @@ pub fn slot_run_call(
     before: Cabinet,
     letter: u8,
     first: u64,
-    form: &[u8],
-    km0: &[u8],
-    acl: &[u8],
-    row: &[u8],
-    requests: &[u8],
+    form: &[u8; FORM],
+    batch: Batch,
     answers: &mut [u8],
 ) -> Cabinet
-    requires { length form.now ≡ form_bytes }
-    ensures { (cabinet_as result ≡ (slot_run_answer (cabinet_as before) letter first form.now km0.now acl.now row.now requests.now answers.old).cabinet) × (answers.new ≡ (slot_run_answer (cabinet_as before) letter first form.now km0.now acl.now row.now requests.now answers.old).buffer) }
+    ensures { (cabinet_as result ≡ (slot_run_answer (cabinet_as before) letter first form.now batch.entry.km0.now batch.entry.acl.now batch.entry.row.now batch.entry.requests.now answers.old).cabinet) × (answers.new ≡ (slot_run_answer (cabinet_as before) letter first form.now batch.entry.km0.now batch.entry.acl.now batch.entry.row.now batch.entry.requests.now answers.old).buffer) }
 {
     let slot = first as usize;
-    let o = slot_answer(before, letter, slot, form, km0, acl, row, requests, answers);
-    let reply = o.reply;
+    let o = slot_answer(before, letter, slot, form, batch, answers);
     let cabinet = o.cabinet;
-    cli_printing::print_line(out, k);
-    print_ran(out, reply);
-    print(out, b" ");
-    cli_printing::print_hex(out, answers);
-    cli_outcomes::print_cabinet(out, cabinet, slot)
+    out.print_line(k);
+    print_ran(out, o.reply, answers);
+    cli_outcomes::print_cabinet(out, &cabinet, slot);
+    cabinet
 }
 
-// The sets of a form, sixteen lower-case digits for each.
-fn print_form(out: &mut Output, form: Prepared) {
-    let uses = form.uses;
-    print(out, b"form ");
-    cli_printing::print_words(out, &uses);
-    cli_printing::print_word(out, form.working);
-    cli_printing::print_word(out, form.recovery);
-}
-
-// A preparation: the form, or the ACL's refusal.
+// A preparation: the sets of the form, or the ACL's refusal.
 pub fn prepare_call(out: &mut Output, k: u64, acl: &[u8]) {
-    let p = run_form::prepare(acl);
-    let fault = p.fault;
-    cli_printing::print_line(out, k);
-    match fault {
-        Checked::Sound => print_form(out, p.form),
-        Checked::Refused(why) => cli_printing::print_refusal(out, refusals::number(why) as u64),
+    out.print_line(k);
+    match run_form::prepare(acl) {
+        Ok(form) => {
+            out.print("form ");
+            out.print_words(&form.uses);
+            out.print_words(&[form.working, form.recovery]);
+        }
+        Err(why) => out.print_refusal(u8::from(why)),
     }
-    print(out, b"\n");
+    out.print("\n");
 }

@@ -4,11 +4,11 @@ use native.Mathlib.Omega.{arith}
 use mathlib.Core.Path.{◌≡◌, refl, sym, ◌∙◌, ap}
 use mathlib.Core.List.{List, [], ◌∷◌, ◌++◌}
 use mathlib.Core.Option.{Option, none, some}
-use mathlib.Core.Bool.{Bool, true, false, not, ◌&&◌}
+use mathlib.Core.Bool.{Bool, true, false, ◌&&◌}
 use lib.ListN.{length, take, drop, get_or, length-drop, length-append}
 use lib.Seq.{take-add, take_at, drop_at, drop-drop, length-take-le}
 use lib.Dec.{eqb, ltb}
-use borrow.Author.Tests.{eq-eqb, ne_eqb, eqb-true, not-true, not-false}
+use borrow.Author.Tests.{eq-eqb, ne_eqb, eqb-true}
 use Rattle.rules.specs.Sizes.{certificates_max, delegations_max}
 use Rattle.rules.specs.Numbers.{malformed, too_many}
 use Rattle.std.specs.Prelude.{if◌then◌else◌}
@@ -18,11 +18,16 @@ use Rattle.rules.specs.Layout.{delegation_laid_out, blobfile_request_laid_out}
 use Rattle.rules.proofs.Laws.{and_left, and_right, not_both, unless_passed, or_next_first, or_next_next, fault_none_every}
 use Rattle.request_reader.specs.Following.{following_fault}
 use Rattle.request_reader.specs.Parts.{Parted}
-use Rattle.rules.proofs.Rows.{first, scan_stop, scan_next, bad_record, full_record, sound_record, no_rows, rows_start, rows_at, rows_rest, rows_lent, rows_end, lent_record, lent_rest, lent_record_lem, kind_at}
+use Rattle.record_fields.proofs.Walks.{scan_stop, scan_next, bad_record, full_record, sound_record}
+use Rattle.rules.proofs.Rows.{first, no_rows, rows_rest, rows_lent, rows_end, lent_record, lent_rest, lent_record_lem, kind_at}
 
--- the first record as code lends it, `&s[..64]`, and what follows
-request_rows : (s : Bytes) → 64 ≤ length s → records s ≡ take 64 s ∷ records (take (length s - 64) (drop 64 s))
-request_rows s h = sym (rows_start s) ∙ rows_at s 0 (omega arith) ∙ ap (λ (l : List Bytes). take 64 s ∷ l) (sym (rows_rest s 64))
+-- the first record and what follows
+request_rows : (s : Bytes) → 64 ≤ length s → records s ≡ take 64 s ∷ records (drop 64 s)
+request_rows s h = first s h
+
+-- a part after the first 64 bytes: there are so many
+pub enough : (n k : ℕ) → n + 64 ≡ k → 64 ≤ k
+enough n k e = omega arith
 
 -- a fault and none after it
 next_none : {F : Type 0} (o : Option F) → or_next o none ≡ o
@@ -34,93 +39,93 @@ module _ (first : Bytes → Bool) (s : Bytes) where
   unfolding request_fault
   request_missing h = sym (ap (request_fault first) (no_rows s h))
 
-  pub request_bad : (r : Bool) → 64 ≤ length s → r ≡ first (take 64 s) → not r ≡ true → some malformed ≡ request_fault first (records s)
+  pub request_bad : (r : Bool) → 64 ≤ length s → r ≡ first (take 64 s) → r ≡ false → some malformed ≡ request_fault first (records s)
   unfolding request_fault first_fault
-  request_bad r h e n = sym (ap (request_fault first) (request_rows s h) ∙ rw (sym e ∙ not-true r n))
+  request_bad r h e n = sym (ap (request_fault first) (request_rows s h) ∙ rw (sym e ∙ n))
 
-  pub request_rest : (r : Bool) (x : Option ℕ) → 64 ≤ length s → r ≡ first (take 64 s) → not r ≡ false
-      → x ≡ following_fault (take 64 s) (records (take (length s - 64) (drop 64 s))) → x ≡ request_fault first (records s)
+  pub request_rest : (r : Bool) (x : Option ℕ) → 64 ≤ length s → r ≡ first (take 64 s) → r ≡ true
+      → x ≡ following_fault (take 64 s) (records (drop 64 s)) → x ≡ request_fault first (records s)
   unfolding request_fault following_fault first_fault
   request_rest r x h e n p =
-      let rest = records (take (length s - 64) (drop 64 s)) in
+      let rest = records (drop 64 s) in
       let f = presented_fault (presented_after (take 64 s) rest) in
       let d : or_next f none ≡ f = next_none f in
-      p ∙ sym (ap (request_fault first) (request_rows s h) ∙ rw (sym e ∙ not-false r n, d))
+      p ∙ sym (ap (request_fault first) (request_rows s h) ∙ rw (sym e ∙ n, d))
 
 -- What follows a request record, by the flag that the code read.
 module _ (r s : Bytes) (f : Bool) (e : f ≡ flag 6 r) where
-  pub following_plain : (x : Option ℕ) → not f ≡ true → x ≡ presented_fault (records s) → x ≡ following_fault r (records s)
+  pub following_plain : (x : Option ℕ) → f ≡ false → x ≡ presented_fault (records s) → x ≡ following_fault r (records s)
   unfolding following_fault
-  following_plain x n p = p ∙ sym (rw (sym e ∙ not-true f n))
+  following_plain x n p = p ∙ sym (rw (sym e ∙ n))
 
-  pub following_missing : not f ≡ false → length s < 64 → some malformed ≡ following_fault r (records s)
+  pub following_missing : f ≡ true → length s < 64 → some malformed ≡ following_fault r (records s)
   unfolding following_fault blobfile_follows
-  following_missing n h = sym (ap (following_fault r) (no_rows s h) ∙ rw (sym e ∙ not-false f n))
+  following_missing n h = sym (ap (following_fault r) (no_rows s h) ∙ rw (sym e ∙ n))
 
-  module _ (n : not f ≡ false) (h : 64 ≤ length s) (b : Bool) (d : b ≡ blobfile_request_record (take 64 s)) where
-    pub following_bad : not b ≡ true → some malformed ≡ following_fault r (records s)
+  module _ (n : f ≡ true) (h : 64 ≤ length s) (b : Bool) (d : b ≡ blobfile_request_record (take 64 s)) where
+    pub following_bad : b ≡ false → some malformed ≡ following_fault r (records s)
     unfolding following_fault blobfile_follows
-    following_bad k = sym (ap (following_fault r) (request_rows s h) ∙ rw (sym e ∙ not-false f n, sym d ∙ not-true b k))
+    following_bad k = sym (ap (following_fault r) (request_rows s h) ∙ rw (sym e ∙ n, sym d ∙ k))
 
-    pub following_file : (x : Option ℕ) → not b ≡ false → x ≡ presented_fault (records (take (length s - 64) (drop 64 s))) → x ≡ following_fault r (records s)
+    pub following_file : (x : Option ℕ) → b ≡ true → x ≡ presented_fault (records (drop 64 s)) → x ≡ following_fault r (records s)
     unfolding following_fault blobfile_follows
-    following_file x k p = p ∙ sym (ap (following_fault r) (request_rows s h) ∙ rw (sym e ∙ not-false f n, sym d ∙ not-false b k))
+    following_file x k p = p ∙ sym (ap (following_fault r) (request_rows s h) ∙ rw (sym e ∙ n, sym d ∙ k))
 
 -- The turns of the loop over certificates and delegations, after n of the one and m of the other.
-module _ (s : Bytes) (at n m : ℕ) (x : Option ℕ)
-    (inv : scan presented_record_fault after_presented presented_end (record { certificates = n; delegations = m }) (records_from s at) ≡ x)
-    (more : 64 ≤ length s - at) where
+module _ (rs : List Bytes) (i n m : ℕ) (x : Option ℕ)
+    (inv : scan presented_record_fault after_presented presented_end (record { certificates = n; delegations = m }) (drop i rs) ≡ x)
+    (more : i < length rs) where
   abbrev Counts : PresentedCounts
   Counts = record { certificates = n; delegations = m }
 
-  module _ (e : get_or s at 0 ≡ 9) (r : Bool) (d : r ≡ certificate_record (lent_record s at)) where
-    certificate_is : presented_record_fault Counts (lent_record s at) ≡ record_fault (certificate_record (lent_record s at) && eqb m 0) (ltb n certificates_max)
+  module _ (e : kind (get_or rs i []) ≡ 9) (r : Bool) (d : r ≡ certificate_record (get_or rs i [])) where
+    certificate_is : presented_record_fault Counts (get_or rs i []) ≡ record_fault (certificate_record (get_or rs i []) && eqb m 0) (ltb n certificates_max)
     unfolding presented_record_fault certificate_fault
-    certificate_is = rw (lent_record_lem s at, kind_at s at, eq-eqb (get_or s at 0) 9 e)
+    certificate_is = rw (eq-eqb (kind (get_or rs i [])) 9 e)
 
-    good : (r && eqb m 0) ≡ (certificate_record (lent_record s at) && eqb m 0)
+    good : (r && eqb m 0) ≡ (certificate_record (get_or rs i []) && eqb m 0)
     good = ap (λ (b : Bool). b && eqb m 0) d
 
-    pub certificate_bad : not (r && eqb m 0) ≡ true → some malformed ≡ x
-    certificate_bad h = scan_stop _ _ _ s at _ x inv _ more (bad_record _ _ _ _ certificate_is good h)
+    pub certificate_bad : (r && eqb m 0) ≡ false → some malformed ≡ x
+    certificate_bad h = scan_stop _ _ _ rs i _ x inv _ more (bad_record _ _ _ _ certificate_is good h)
 
-    pub certificate_full : not (r && eqb m 0) ≡ false → not (ltb n certificates_max) ≡ true → some too_many ≡ x
-    certificate_full h k = scan_stop _ _ _ s at _ x inv _ more (full_record _ _ _ _ certificate_is good _ refl h k)
+    pub certificate_full : (r && eqb m 0) ≡ true → ltb n certificates_max ≡ false → some too_many ≡ x
+    certificate_full h k = scan_stop _ _ _ rs i _ x inv _ more (full_record _ _ _ _ certificate_is good _ refl h k)
 
-    pub certificate_sound : not (r && eqb m 0) ≡ false → not (ltb n certificates_max) ≡ false
-        → scan presented_record_fault after_presented presented_end (record { certificates = n + 1; delegations = m }) (records_from s (at + 64)) ≡ x
+    pub certificate_sound : (r && eqb m 0) ≡ true → ltb n certificates_max ≡ true
+        → scan presented_record_fault after_presented presented_end (record { certificates = n + 1; delegations = m }) (drop (i + 1) rs) ≡ x
     unfolding after_presented
     certificate_sound h k =
-        scan_next _ _ _ s at _ x inv _ more (sound_record _ _ _ _ certificate_is good _ refl h k)
-        (sym (rw (lent_record_lem s at, kind_at s at, eq-eqb (get_or s at 0) 9 e)))
+        scan_next _ _ _ rs i _ x inv _ more (sound_record _ _ _ _ certificate_is good _ refl h k)
+        (sym (rw (eq-eqb (kind (get_or rs i [])) 9 e)))
 
-  module _ (e : get_or s at 0 ≡ 9 → ⊥) (r : Bool) (d : r ≡ delegation_record (lent_record s at)) where
-    delegation_is : presented_record_fault Counts (lent_record s at) ≡ record_fault (delegation_record (lent_record s at)) (ltb m delegations_max)
+  module _ (e : kind (get_or rs i []) ≡ 9 → ⊥) (r : Bool) (d : r ≡ delegation_record (get_or rs i [])) where
+    delegation_is : presented_record_fault Counts (get_or rs i []) ≡ record_fault (delegation_record (get_or rs i [])) (ltb m delegations_max)
     unfolding presented_record_fault delegation_fault
-    delegation_is = rw (lent_record_lem s at, kind_at s at, ne_eqb (get_or s at 0) 9 e)
+    delegation_is = rw (ne_eqb (kind (get_or rs i [])) 9 e)
 
-    pub delegation_bad : not r ≡ true → some malformed ≡ x
-    delegation_bad h = scan_stop _ _ _ s at _ x inv _ more (bad_record _ _ _ _ delegation_is d h)
+    pub delegation_bad : r ≡ false → some malformed ≡ x
+    delegation_bad h = scan_stop _ _ _ rs i _ x inv _ more (bad_record _ _ _ _ delegation_is d h)
 
-    pub delegation_full : not r ≡ false → not (ltb m delegations_max) ≡ true → some too_many ≡ x
-    delegation_full h k = scan_stop _ _ _ s at _ x inv _ more (full_record _ _ _ _ delegation_is d _ refl h k)
+    pub delegation_full : r ≡ true → ltb m delegations_max ≡ false → some too_many ≡ x
+    delegation_full h k = scan_stop _ _ _ rs i _ x inv _ more (full_record _ _ _ _ delegation_is d _ refl h k)
 
-    pub delegation_sound : not r ≡ false → not (ltb m delegations_max) ≡ false
-        → scan presented_record_fault after_presented presented_end (record { certificates = n; delegations = m + 1 }) (records_from s (at + 64)) ≡ x
+    pub delegation_sound : r ≡ true → ltb m delegations_max ≡ true
+        → scan presented_record_fault after_presented presented_end (record { certificates = n; delegations = m + 1 }) (drop (i + 1) rs) ≡ x
     unfolding after_presented
     delegation_sound h k =
-        scan_next _ _ _ s at _ x inv _ more (sound_record _ _ _ _ delegation_is d _ refl h k)
-        (sym (rw (lent_record_lem s at, kind_at s at, ne_eqb (get_or s at 0) 9 e)))
+        scan_next _ _ _ rs i _ x inv _ more (sound_record _ _ _ _ delegation_is d _ refl h k)
+        (sym (rw (ne_eqb (kind (get_or rs i [])) 9 e)))
 
 -- The fault of a hint.
 module _ (r : Bytes) (a : Bool) (e : a ≡ hint_record r) where
-  pub hint_bad : not a ≡ true → hint_fault r ≡ some malformed
+  pub hint_bad : a ≡ false → hint_fault r ≡ some malformed
   unfolding hint_fault
-  hint_bad h = rw (sym e ∙ not-true a h)
+  hint_bad h = rw (sym e ∙ h)
 
-  pub hint_sound : not a ≡ false → hint_fault r ≡ none
+  pub hint_sound : a ≡ true → hint_fault r ≡ none
   unfolding hint_fault
-  hint_sound h = rw (sym e ∙ not-false a h)
+  hint_sound h = rw (sym e ∙ h)
 
 -- What a request says.
 module _ (s : Bytes) where

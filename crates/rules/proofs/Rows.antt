@@ -10,7 +10,7 @@ use borrow.Author.Tests.{not-true, not-false}
 use lib.ListN.{length, take, drop, get_or, length-drop}
 use lib.Seq.{drop-drop, take_all, length-take-le, get_or-take, get_or-drop}
 use Rattle.rules.specs.Numbers.{malformed, too_many}
-use Rattle.rules.specs.Basics.{Bytes, Every, part, chunks, records, records_from, or_next, first_fault, record_fault, each_fault, scan}
+use Rattle.rules.specs.Basics.{Bytes, Every, part, chunks, records, records_from, first_fault, record_fault}
 use Rattle.rules.specs.Request.{wanted_of, blobfile_next, request_from, request_of}
 
 pub rows_start : (s : Bytes) → records_from s 0 ≡ records s
@@ -80,38 +80,6 @@ rows_lent s at h = rows_at s at h ∙ ap (λ (r : Bytes). r ∷ records_from s (
 -- the first byte of the record at a place
 pub kind_at : (s : Bytes) (at : ℕ) → get_or (part at 64 s) 0 0 ≡ get_or s at 0
 kind_at s at = get_or-take 64 (drop at s) 0 0 (omega arith) ∙ get_or-drop at s 0 0 ∙ ap (λ (n : ℕ). get_or s n 0) (add-zero at)
-
--- The turns of a loop that carries a state over the records and stops at the first fault.
-module _ {S F : Type 0} (fault : S → Bytes → Option F) (next : S → Bytes → S) (end : S → Option F) (s : Bytes) (at : ℕ) (st : S) (x : Option F) (inv : scan fault next end st (records_from s at) ≡ x) where
-  scan_step : 64 ≤ length s - at → or_next (fault st (lent_record s at)) (scan fault next end (next st (lent_record s at)) (records_from s (at + 64))) ≡ x
-  unfolding scan
-  scan_step h = sym (ap (scan fault next end st) (rows_lent s at h)) ∙ inv
-
-  pub scan_stop : (f : F) → 64 ≤ length s - at → fault st (lent_record s at) ≡ some f → some f ≡ x
-  scan_stop f h e = rw e at (scan_step h)
-
-  pub scan_next : (st' : S) → 64 ≤ length s - at → fault st (lent_record s at) ≡ none → st' ≡ next st (lent_record s at) → scan fault next end st' (records_from s (at + 64)) ≡ x
-  scan_next st' h e d = ap (λ (z : S). scan fault next end z (records_from s (at + 64))) d ∙ rw e at (scan_step h)
-
-  pub scan_done : (f : Option F) → length s - at < 64 → f ≡ end st → f ≡ x
-  unfolding scan
-  scan_done f h e = e ∙ sym (ap (scan fault next end st) (rows_end s at h)) ∙ inv
-
--- the same for a reader that judges each record by itself
-module _ {F : Type 0} (fault : Bytes → Option F) (s : Bytes) (at : ℕ) (x : Option F) (inv : each_fault fault (records_from s at) ≡ x) where
-  each_step : 64 ≤ length s - at → or_next (fault (lent_record s at)) (each_fault fault (records_from s (at + 64))) ≡ x
-  unfolding each_fault first_fault
-  each_step h = sym (ap (each_fault fault) (rows_lent s at h)) ∙ inv
-
-  pub each_stop : (f : F) → 64 ≤ length s - at → fault (lent_record s at) ≡ some f → some f ≡ x
-  each_stop f h e = rw e at (each_step h)
-
-  pub each_next : 64 ≤ length s - at → fault (lent_record s at) ≡ none → each_fault fault (records_from s (at + 64)) ≡ x
-  each_next h e = rw e at (each_step h)
-
-  pub each_done : length s - at < 64 → none ≡ x
-  unfolding each_fault first_fault
-  each_done h = sym (ap (each_fault fault) (rows_end s at h)) ∙ inv
 
 -- "within one record 2 before 3": a record's fault, by what two tests of the code answered, `if !f(..)`
 module _ (x : Option ℕ) (good room r : Bool) (is : x ≡ record_fault good room) (e : r ≡ good) where

@@ -1,6 +1,5 @@
--- The trimming tool's definitions (specs/Trim.antt) as code meets them: a record with other bits, lengths and places, the loops over an ACL's records,
--- and the ways that the tool ends.
-use Prim.Native.Nat.{ℕ, suc, ◌+◌, ◌-◌, ◌≤◌, ◌<◌}
+-- The trimming tool's definitions (specs/Trim.antt) as code meets them: a record with other bits, lengths and places, and the ways that the tool ends.
+use Prim.Native.Nat.{ℕ, suc, ◌+◌, ◌≤◌, ◌<◌}
 use native.Mathlib.Omega.{arith}
 use mathlib.Core.Path.{◌≡◌, refl, sym, ◌∙◌, ap}
 use mathlib.Core.List.{List, [], ◌∷◌}
@@ -11,15 +10,14 @@ use lib.Dec.{eqb}
 use borrow.Author.Tests.{ltb-true}
 use Rattle.rules.specs.Sizes.{actions_max}
 use Rattle.rules.specs.Numbers.{short_buffer}
-use Rattle.rules.specs.Basics.{Bytes, Every, number, kind, first_fault, scan, records, records_from}
+use Rattle.rules.specs.Basics.{Bytes, Every, number, kind, first_fault, scan, records}
 use Rattle.rules.specs.Layout.{header, permissions_laid_out}
 use Rattle.rules.specs.Acl.{AclState, has_room_under, after_record, acl_record_fault}
-use Rattle.rules.specs.Written.{big_endian, hint_bytes}
+use Rattle.rules.specs.Written.{big_endian}
 use Rattle.rules.specs.Bundle.{policy_of}
 use Rattle.rules.specs.Desk.{Step, before_acl, desk_fault}
-use Rattle.rules.specs.Trim.{roomy, kept_bits, with_bits, is_checked, action_passes, stays, trimmed_record, kept_before, trimmed_from, kept_indices, hints_from, untrimmed, unread, trim_fault}
+use Rattle.rules.specs.Trim.{roomy, kept_bits, with_bits, is_checked, action_passes, stays, trimmed_record, kept_before, trimmed_from, kept_indices, untrimmed, unread, trim_fault}
 use Rattle.rules.proofs.Laws.{or_next_first, or_next_next}
-use Rattle.rules.proofs.Rows.{rows_lent, rows_end, lent_record}
 use Rattle.rules.proofs.Joined.{Whole}
 use Rattle.rules.proofs.Places.{acl_from, record_has_room}
 use Rattle.rules.proofs.Written.{big_endian_number}
@@ -164,54 +162,6 @@ places_below b checked place s (r ∷ rs) e h =
         kept : (z : Bool) → stays b checked r ≡ z → Every (λ p. p < actions_max) (kept_indices b checked place (r ∷ rs))
         kept true v = rw (p, q, u, v) (below, f (place + 1) next)
         kept false v = rw (p, q, u, v) (f (place + 1) next)
-
--- The trimmed ACL's records.
-module _ (b : List Bytes) (checked kept : Bool) (s : Bytes) (at : ℕ) where
-  pub trim_end : length s - at < 64 → trimmed_from b checked kept (records_from s at) ≡ []
-  unfolding trimmed_from
-  trim_end h = ap (trimmed_from b checked kept) (rows_end s at h)
-
--- The places that a group's hint names.
-module _ (b : List Bytes) (checked : Bool) (place : ℕ) (s : Bytes) (at : ℕ) where
-  pub places_group : 64 ≤ length s - at → eqb (kind (lent_record s at)) 1 ≡ true → kept_indices b checked place (records_from s at) ≡ []
-  unfolding kept_indices
-  places_group h p = ap (kept_indices b checked place) (rows_lent s at h) ∙ rw p
-
-  pub places_limit : 64 ≤ length s - at → eqb (kind (lent_record s at)) 1 ≡ false → eqb (kind (lent_record s at)) 2 ≡ true → kept_indices b checked place (records_from s at) ≡ kept_indices b checked place (records_from s (at + 64))
-  unfolding kept_indices
-  places_limit h p q = ap (kept_indices b checked place) (rows_lent s at h) ∙ rw (p, q)
-
-  pub places_file : 64 ≤ length s - at → eqb (kind (lent_record s at)) 1 ≡ false → eqb (kind (lent_record s at)) 2 ≡ false → eqb (kind (lent_record s at)) 15 ≡ true → kept_indices b checked place (records_from s at) ≡ kept_indices b checked place (records_from s (at + 64))
-  unfolding kept_indices
-  places_file h p q u = ap (kept_indices b checked place) (rows_lent s at h) ∙ rw (p, q, u)
-
-  pub places_stays : 64 ≤ length s - at → eqb (kind (lent_record s at)) 1 ≡ false → eqb (kind (lent_record s at)) 2 ≡ false → eqb (kind (lent_record s at)) 15 ≡ false → stays b checked (lent_record s at) ≡ true
-      → kept_indices b checked place (records_from s at) ≡ place ∷ kept_indices b checked (place + 1) (records_from s (at + 64))
-  unfolding kept_indices
-  places_stays h p q u r = ap (kept_indices b checked place) (rows_lent s at h) ∙ rw (p, q, u, r)
-
-  pub places_goes : 64 ≤ length s - at → eqb (kind (lent_record s at)) 1 ≡ false → eqb (kind (lent_record s at)) 2 ≡ false → eqb (kind (lent_record s at)) 15 ≡ false → stays b checked (lent_record s at) ≡ false
-      → kept_indices b checked place (records_from s at) ≡ kept_indices b checked (place + 1) (records_from s (at + 64))
-  unfolding kept_indices
-  places_goes h p q u r = ap (kept_indices b checked place) (rows_lent s at h) ∙ rw (p, q, u, r)
-
-  pub places_end : length s - at < 64 → kept_indices b checked place (records_from s at) ≡ []
-  unfolding kept_indices
-  places_end h = ap (kept_indices b checked place) (rows_end s at h)
-
--- The hints' records.
-module _ (b : List Bytes) (place : ℕ) (s : Bytes) (at : ℕ) where
-  pub hints_group : 64 ≤ length s - at → eqb (kind (lent_record s at)) 1 ≡ true → hints_from b place (records_from s at) ≡ hint_bytes place (kept_indices b (is_checked b (lent_record s at)) 0 (records_from s (at + 64))) ∷ hints_from b (place + 1) (records_from s (at + 64))
-  unfolding hints_from
-  hints_group h p = ap (hints_from b place) (rows_lent s at h) ∙ rw p
-
-  pub hints_other : 64 ≤ length s - at → eqb (kind (lent_record s at)) 1 ≡ false → hints_from b place (records_from s at) ≡ hints_from b place (records_from s (at + 64))
-  unfolding hints_from
-  hints_other h p = ap (hints_from b place) (rows_lent s at h) ∙ rw p
-
-  pub hints_end : length s - at < 64 → hints_from b place (records_from s at) ≡ []
-  unfolding hints_from
-  hints_end h = ap (hints_from b place) (rows_end s at h)
 
 -- The ways that the tool ends: as the desk refuses, at a step before the ACL, with 9, or with both results written.
 module _ (bundle acl aclBuffer hintBuffer : Bytes) where

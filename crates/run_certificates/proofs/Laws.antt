@@ -13,7 +13,6 @@ use Rattle.rules.specs.Acl.{acl_of}
 use Rattle.rules.specs.Runs.{mechanism_named, Decoded}
 use Rattle.rules.specs.Request as rules
 use Rattle.run_certificates.specs.declared.Certificate.{Certificate}
-use Rattle.run_certificates.specs.declared.RowSummary.{RowSummary}
 use Rattle.run_certificates.specs.Rows.{certificate_as, row_as, certified_set, readable_of, Saw}
 
 -- an element past a row's end
@@ -68,13 +67,14 @@ all_decoded [] e = tt
 all_decoded (y ∷ ys) e = (e 0 (omega arith), all_decoded ys (λ k h. e (suc k) (omega (arith, h))))
 
 -- what a run knows of its row, from the answers of the calls
-pub saw : (r : RowSummary) (acl file : Bytes) (ys : List Certificate) (f : Bool) (c : ℕ) → r ≡ record { count = length ys; named = f; certified = c } → f ≡ all mechanism_named (row_as ys) → file ≡ readable_of acl (length ys)
-    → c ≡ certified_set (row_as ys) (take set_bits (acl_of file)) → Every Decoded (row_as ys) → Saw r acl (row_as ys)
-saw r acl file ys f c e named_is file-is c-is sized =
+pub saw : (acl file : Bytes) (ys : List Certificate) (f : Bool) (c : ℕ) → f ≡ all mechanism_named (row_as ys) → file ≡ readable_of acl (length ys)
+    → c ≡ certified_set (row_as ys) (take set_bits (acl_of file)) → Every Decoded (row_as ys)
+    → Saw (record { count = length ys; named = f; certified = c }) acl (row_as ys)
+saw acl file ys f c named_is file-is c-is sized =
     let n : length (row_as ys) ≡ length ys = length-map ys certificate_as in
     record {
-      count_is = ap (λ (s : RowSummary). s.count) e ∙ sym n;
-      named_is = ap (λ (s : RowSummary). s.named) e ∙ named_is;
-      certified_is = ap (λ (s : RowSummary). s.certified) e ∙ c-is ∙ ap (λ (z : Bytes). certified_set (row_as ys) (take set_bits (acl_of z))) (file-is ∙ ap (readable_of acl) (sym n));
+      count_is = sym n;
+      named_is = named_is;
+      certified_is = c-is ∙ ap (λ (z : Bytes). certified_set (row_as ys) (take set_bits (acl_of z))) (file-is ∙ ap (readable_of acl) (sym n));
       decoded = sized;
     }

@@ -1,9 +1,9 @@
 -- A lent row of decoded certificates, as the definitions have it, and the groups of an ACL that it certifies.
-use Rattle.std.specs.Prelude.{ℕ, ◌-◌, ◌%◌, ◌<◌, ◌≤◌, List, [], map, ◌≡◌, Bool, true, ◌&&◌, length, take, drop, get_or, leb, if◌then◌else◌}
+use Rattle.std.specs.Prelude.{ℕ, List, [], map, ◌≡◌, Bool, true, ◌&&◌, length, take, leb, if◌then◌else◌}
 use Rattle.std.proofs.Math.Option.{Option, none, some}
-use Rattle.rules.specs.Sizes.{record_bytes, hash_bytes, acl_records, certificates_max, set_bits}
-use Rattle.rules.specs.Basics.{Bytes, Every, any, all, part, number, flag, optional, set_of, fits, records_from}
-use Rattle.rules.specs.Acl.{Group, groups_of, acl_of}
+use Rattle.rules.specs.Sizes.{hash_bytes, acl_records, certificates_max, set_bits}
+use Rattle.rules.specs.Basics.{Bytes, Every, any, all, part, number, flag, optional, set_of, fits}
+use Rattle.rules.specs.Acl.{Group, acl_of}
 use Rattle.rules.specs.Request as rules
 use Rattle.rules.specs.Chain.{serves}
 use Rattle.rules.specs.Runs.{mechanism_named, Decoded}
@@ -34,21 +34,6 @@ certified_set row gs = set_of (λ g. certified_in row g.certifier g.mechanism) g
 -- a binary digit
 abbrev pub digit : Bool → ℕ
 digit b = if b then 1 else 0
-
--- the record of an ACL that ends at a byte, as code lends it
-unfoldable pub record_before : Bytes → ℕ → Bytes
-record_before acl end = take (end - (end - record_bytes)) (drop (end - record_bytes) acl)
-
--- the groups whose records begin at a byte or after it
-unfoldable pub groups_from : Bytes → ℕ → List Group
-groups_from acl at = groups_of (records_from acl at)
-
--- the end of the last group's record before a byte: no group's record lies between, and a group's record ends there, unless there is none
-pub record LastGroup (acl : Bytes) (before end : ℕ) : Type 0 where
-  pub low : end ≤ before
-  pub whole : end % record_bytes ≡ 0
-  pub skipped : groups_from acl end ≡ groups_from acl before
-  pub begins : 0 < end → get_or acl (end - record_bytes) 0 ≡ 1
 
 -- the ACL, where it and a row of so many certificates have lengths that they may have; nothing else
 unfoldable pub readable_of : Bytes → ℕ → Bytes

@@ -7,7 +7,7 @@ use mathlib.Core.Logic.{◌⊎◌, inl, inr}
 use mathlib.Core.List.{List, [], ◌∷◌}
 use mathlib.Core.Bool.{Bool, true, false, ◌&&◌}
 use borrow.Author.Tests.{ltb-true, lt-ltb, leb-true, le-leb}
-use lib.ListN.{get_or, take, drop}
+use lib.ListN.{get_or}
 use lib.Bits.{bit_and, and_step, and_mask, and_le_l}
 use lib.Count.{count_trailing_zeros}
 use lib.Pow.{pow_pos, pow_mono}
@@ -16,7 +16,8 @@ use Rattle.rules.specs.Sizes.{groups_max}
 use Rattle.std.specs.Prelude.{if◌then◌else◌}
 use Rattle.rules.specs.Basics.{all}
 use Rattle.rules.proofs.Laws.{never, and_left, and_right, and_both}
-use Rattle.run_limits.specs.Rows.{word_left, row_left}
+use Rattle.run_limits.specs.declared.row.Row.{Row}
+use Rattle.run_limits.specs.Rows.{word_left, words_of, row_left, row_at}
 use Rattle.run_decision.proofs.GroupSets.{two, lowest_out, member_below}
 use Rattle.run_decision.specs.GroupSets.{first_in}
 use Rattle.run_decision.proofs.Laws.{low_le}
@@ -48,15 +49,15 @@ words_before counters counters' (w ∷ ws) c e =
     (below_too (get_or counters (w % 256) 0) (get_or counters' (w % 256) 0) (w / 256) (c (w % 256)) (and_left a b e))
     (words_before counters counters' ws c (and_right a b e))
 
-module _ (counts counts' counters counters' : List ℕ) (elapsed elapsed' : ℕ) (rows : List ℕ) (h : NoLess counts counts') (c : NoLess counters counters') (t : elapsed ≤ elapsed') where
+module _ (counts counts' counters counters' : List ℕ) (elapsed elapsed' : ℕ) (rows : List Row) (h : NoLess counts counts') (c : NoLess counters counters') (t : elapsed ≤ elapsed') where
   left_before : (k : ℕ) → left_at counts' counters' elapsed' rows k ≡ true → left_at counts counters elapsed rows k ≡ true
   unfolding left_at row_left NoLess
   left_before k e =
       let own = get_or counts k 0 in
       let own' = get_or counts' k 0 in
-      let bound = get_or rows (k * 8) 0 in
-      let last = get_or rows (k * 8 + 1) 0 in
-      let ws = take (get_or rows (k * 8 + 2) 0) (drop (k * 8 + 3) rows) in
+      let bound = (row_at rows k).bound in
+      let last = (row_at rows k).last in
+      let ws = words_of (row_at rows k) in
       let x = ltb own' bound in
       let y = leb elapsed' last in
       let z = all (word_left counters') ws in
@@ -130,22 +131,22 @@ first_open t u (suc w) a c f =
     middle i = rw (heads (two c) (u 0) refl, i)
 
 -- The groups of the run's certified ones that are unspent before it.
-pub open_start : (counts counters : List ℕ) (since loaded last : ℕ) (rows : List ℕ) (c o c' o' : ℕ) → since ≡ last - loaded
+pub open_start : (counts counters : List ℕ) (since loaded last : ℕ) (rows : List Row) (c o c' o' : ℕ) → since ≡ last - loaded
     → o ≡ members_in (left_at counts counters since rows) 64 c → c' ≡ c → o' ≡ o → OpenFrom counts counters (last - loaded) rows c' o'
 unfolding OpenFrom Opened
 open_start counts counters since loaded last rows c o c' o' s e p q counts' counters' elapsed h k t set =
     rw (q ∙ e, p) (first_open (left_at counts' counters' elapsed rows) (left_at counts counters since rows) 64 set c (stays_spent counts counts' counters counters' since elapsed rows h k (omega arith)))
 
 -- the same when more was used
-pub open_on : (counts counts' counters counters' : List ℕ) (since since' : ℕ) (rows : List ℕ) (c o : ℕ) → NoLess counts counts' → NoLess counters counters' → since ≤ since'
+pub open_on : (counts counts' counters counters' : List ℕ) (since since' : ℕ) (rows : List Row) (c o : ℕ) → NoLess counts counts' → NoLess counters counters' → since ≤ since'
     → OpenFrom counts counters since rows c o → OpenFrom counts' counters' since' rows c o
 unfolding OpenFrom
 open_on counts counts' counters counters' since since' rows c o h k l f x y e p q m =
     f x y e (no_less_over counts counts' x h p) (no_less_over counters counters' y k q) (omega arith)
 
-pub open_first : (left : ℕ → Bool) (set c o k : ℕ) → Opened left c o → k ≡ first_in left 64 (bit_and set o) → k ≡ first_in left 64 (bit_and set c)
+pub open_first : (left : ℕ → Bool) (set c o : ℕ) → Opened left c o → first_in left 64 (bit_and set o) ≡ first_in left 64 (bit_and set c)
 unfolding Opened
-open_first left set c o k h e = e ∙ h set
+open_first left set c o h = h set
 
 -- A set without one member that fails a test.
 module _ (t : ℕ → Bool) (w a o : ℕ) where
@@ -225,24 +226,24 @@ pub open_word : (o m n : ℕ) → o < 18446744073709551616 → n ≡ bit_and o m
 open_word o m n h e = let l = and_le_l o m in omega arith
 
 -- What a judgement leaves serves from its request on.
-pub open_judged : (counts counters : List ℕ) (since : ℕ) (rows : List ℕ) (c used o : ℕ) → OpenFrom counts counters since rows c used
+pub open_judged : (counts counters : List ℕ) (since : ℕ) (rows : List Row) (c used o : ℕ) → OpenFrom counts counters since rows c used
     → Closes (left_at counts counters since rows) used o → OpenFrom counts counters since rows c o
 unfolding OpenFrom Opened Closes
 open_judged counts counters since rows c used o h k counts' counters' elapsed x y t set =
     k (left_at counts' counters' elapsed rows) (stays_spent counts counts' counters counters' since elapsed rows x y t) set
     ∙ h counts' counters' elapsed x y t set
 
-pub open_at : (counts counters : List ℕ) (loaded last time : ℕ) (rows : List ℕ) (c o : ℕ) → (last ≤ time → OpenFrom counts counters (time - loaded) rows c o)
+pub open_at : (counts counters : List ℕ) (loaded last time : ℕ) (rows : List Row) (c o : ℕ) → (last ≤ time → OpenFrom counts counters (time - loaded) rows c o)
     → OpenAt counts counters loaded last time rows c o
 unfolding OpenAt OpenFrom
 open_at counts counters loaded last time rows c o f l = f l counts counters (time - loaded) (no_less_same counts) (no_less_same counters) (omega arith)
 
 -- the same as the code reads that time
-pub open_timed : (counts counters : List ℕ) (loaded last time t : ℕ) (rows : List ℕ) (c o : ℕ) → OpenAt counts counters loaded last t rows c o → time ≡ t → last ≤ time
+pub open_timed : (counts counters : List ℕ) (loaded last time t : ℕ) (rows : List Row) (c o : ℕ) → OpenAt counts counters loaded last t rows c o → time ≡ t → last ≤ time
     → Opened (left_at counts counters (time - loaded) rows) c o
 unfolding OpenAt
 open_timed counts counters loaded last time t rows c o f e l = rw e (f (omega arith))
 
-pub closes_then : (counts counters : List ℕ) (loaded time t : ℕ) (rows : List ℕ) (u o : ℕ) → Closes (left_at counts counters (time - loaded) rows) u o → time ≡ t
+pub closes_then : (counts counters : List ℕ) (loaded time t : ℕ) (rows : List Row) (u o : ℕ) → Closes (left_at counts counters (time - loaded) rows) u o → time ≡ t
     → Closes (left_at counts counters (t - loaded) rows) u o
 closes_then counts counters loaded time t rows u o h e = rw e at h

@@ -1,24 +1,25 @@
 -- One request of a run by sets of groups.
-use Rattle.std.specs.Prelude.{ℕ, List, [], ◌≡◌, eqb, if◌then◌else◌}
+use Rattle.std.specs.Prelude.{ℕ, ◌<◌, List, [], Result, Ok, Err, eqb, if◌then◌else◌}
 use Rattle.std.proofs.Math.Option.{none}
-use Rattle.rules.specs.Basics.{Bytes, any, number, set_of, records}
-use Rattle.rules.specs.Acl.{Group, acl_of, acl_fault}
+use Rattle.rules.specs.Sizes.{groups_max}
+use Rattle.rules.specs.Basics.{Bytes, any, number, set_of}
+use Rattle.rules.specs.Acl.{Group}
 use Rattle.rules.specs.Request.{Wanted, wanted_of, request_record_fault}
 use Rattle.rules.specs.Ledger.{Ledger}
 use Rattle.rules.specs.Grant.{admits}
 use Rattle.rules.specs.Gate.{Outcome, early, Judgement, denied, too_early, permitted, settle, outcome_unless}
 use Rattle.rules.specs.Runs.{request_with}
-use Rattle.rules.specs.Prepared.{form_of}
+use Rattle.refusals.specs.declared.Denial.{Denial}
+use Rattle.refusals.specs.declared.Denial.TheVariants.{ClockBack, NotAdmitted, NotCertified, Spent}
 use Rattle.run_decision.specs.GroupSets.{judged_by_sets, unspent_at}
-use Rattle.run_form.specs.Places.{Offsets}
 
--- What a run knows of its ACL, of the table of its groups and of the form: the ACL is without fault, and table and form are those made of it.
-pub record Ready (acl : Bytes) (bodies uses : List ℕ) (working recovery : ℕ) : Type 0 where
-  pub sound : acl_fault (records acl) ≡ none
-  pub places : Offsets acl bodies
-  pub uses_is : uses ≡ (form_of (acl_of acl)).uses
-  pub working_is : working ≡ (form_of (acl_of acl)).working
-  pub recovery_is : recovery ≡ (form_of (acl_of acl)).recovery
+-- the group that a judgement names has a place in the tables
+abbrev pub Within : Result ℕ Denial → Type 0
+Within (Ok k) = k < groups_max
+Within (Err ClockBack) = Unit {0}
+Within (Err NotAdmitted) = Unit {0}
+Within (Err (NotCertified k)) = k < groups_max
+Within (Err (Spent k)) = k < groups_max
 
 -- the groups that admit what is asked for
 unfoldable pub admitting_set : Bytes → Wanted → List Group → ℕ

@@ -1,5 +1,6 @@
 -- How a run judges: by sets of groups, each a number, bit i for group i.
-use Rattle.std.specs.Prelude.{ℕ, zero, suc, ◌/◌, ◌%◌, List, Bool, ◌&&◌, eqb, if◌then◌else◌}
+use Rattle.std.specs.Prelude.{ℕ, zero, suc, ◌/◌, ◌%◌, ◌<◌, ◌≡◌, List, Bool, ◌&&◌, Some, None, eqb, if◌then◌else◌}
+use Rattle.std.specs.Prelude as prelude
 use Rattle.std.proofs.Math.Option.{Option, none, some}
 use Rattle.std.proofs.Math.ListN.{get_elem?}
 use Rattle.std.specs.Int.Bits.{bit_and}
@@ -16,6 +17,11 @@ use Rattle.rules.specs.Gate.{Lowest, not_found, group, unadmitted, uncertified, 
 unfoldable pub first_in : (ℕ → Bool) → ℕ → ℕ → ℕ
 first_in test zero n = 0
 first_in test (suc w) n = if eqb (n % 2) 1 && test 0 then 0 else suc (first_in (λ k. test (suc k)) w (n / 2))
+
+-- a place that is found, or none: then the number is past the last place
+abbrev pub IsPlace : prelude.Option ℕ → ℕ → Type 0
+IsPlace None n = n ≡ set_bits
+IsPlace (Some k) n = (n ≡ k) × (k < set_bits)
 
 -- an optional group, with its index
 abbrev pub placed_at : ℕ → Option Group → Lowest

@@ -1,4 +1,5 @@
 pub mod GroupSets
 pub mod Members
+pub mod Ready
 pub mod Deciding
 pub mod Opening

@@ -3,7 +3,7 @@ use Rattle.std.specs.Prelude.{ℕ, ◌+◌, ◌-◌, ◌≤◌, ◌<◌, List, [
 use Rattle.std.proofs.Math.Option.{some}
 use Rattle.std.proofs.Math.ListN.{get_elem?}
 use Rattle.rules.specs.Sizes.{record_bytes, groups_max}
-use Rattle.rules.specs.Basics.{Bytes, Every, part, kind, records}
+use Rattle.rules.specs.Basics.{Bytes, part, kind, records}
 use Rattle.rules.specs.Acl.{group_of, acl_of}
 
 -- a table in which the places of the groups are put, from number g on, of records of which the first begins at a byte; those past the last group stay
@@ -13,11 +13,11 @@ offsets_from bodies g at (r ∷ rs) =
     if eqb (kind r) 1 then offsets_from (set bodies g (at + record_bytes)) (g + 1) (at + record_bytes) rs
     else offsets_from bodies g (at + record_bytes) rs
 
--- every place of a table stands in a file, or at its end
-unfoldable pub Inside : Bytes → List ℕ → Type 0
-Inside acl bodies = Every (λ b. b ≤ length acl) bodies
+-- every place of a table is in a file, or at its end
+pub record Inside (acl : Bytes) (bodies : List ℕ) : Type 0 where
+  pub each : (k : ℕ) → get_or bodies k 0 ≤ length acl
 
--- group k stands before the byte b: its first record ends there, and its limits and actions follow
+-- group k is before the byte b: its first record ends there, and its limits and actions follow
 pub record OffsetAt (acl : Bytes) (k b : ℕ) : Type 0 where
   pub after : record_bytes ≤ b
   pub there : get_elem? (acl_of acl) k ≡ some (group_of (part (b - record_bytes) record_bytes acl) (records (drop b acl)))

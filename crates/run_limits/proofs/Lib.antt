@@ -1,3 +1,3 @@
-pub mod Laws
 pub mod Filling
+pub mod Laws
 pub mod Meaning

@@ -17,6 +17,7 @@ use Rattle.rules.specs.Ledger.{raised, raised_by}
 use Rattle.rules.specs.Fits.{LimitFits}
 use Rattle.rules.proofs.Laws.{and_left, and_right}
 use Rattle.gate_charge.specs.Charges.{limit_not_full, Chargeable}
+use Rattle.run_limits.specs.declared.row.Row.{Row}
 use Rattle.run_limits.specs.Rows.{no_end, bound_with, last_with, named_word, bound_of, last_of, named_of, word_left, row_left, IsRow, raised_words, Able}
 
 -- Tests of a lesser number.
@@ -125,9 +126,9 @@ module _ (counters : List ℕ) (own elapsed : ℕ) (late : elapsed ≤ no_end) w
           rw (within_min elapsed (last_of ms) m.maximum x) (more_last (ltb elapsed m.maximum) A B C F L i)
 
   -- a row answers as the limits do
-  pub row_left_is : (rows : List ℕ) (at : ℕ) (ms : List Limit) → Every LimitFits ms → IsRow rows at ms → row_left counters own elapsed rows at ≡ unspent_with counters own elapsed ms
+  pub row_left_is : (row : Row) (ms : List Limit) → Every LimitFits ms → IsRow row ms → row_left counters own elapsed row ≡ unspent_with counters own elapsed ms
   unfolding row_left
-  row_left_is rows at ms f r = rw (r.bound, r.last, r.words) (row_says ms f)
+  row_left_is row ms f r = rw (r.bound, r.last, r.words) (row_says ms f)
 
 -- it charges as they do
 pub words_raise : (before : List ℕ) (ms : List Limit) (now : List ℕ) → Every LimitFits ms → raised_words before (named_of ms) now ≡ raised_by before ms now

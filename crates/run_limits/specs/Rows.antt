@@ -1,37 +1,35 @@
--- The limits of a group as a row of numbers: the bound of its own count, the last second since load at which it grants, how many counters its limits name,
--- and for each of them a word with its maximum and its number.
-use Rattle.std.specs.Prelude.{ℕ, ◌+◌, ◌-◌, ◌*◌, ◌/◌, ◌%◌, ◌≤◌, ◌<◌, min, List, [], ◌∷◌, ◌≡◌, Bool, ◌&&◌, length, get_or, take, drop, set, eqb, leb, ltb, if◌then◌else◌}
-use Rattle.rules.specs.Sizes.{limits_max, full_count}
+-- The limits of a group as a row: the bound of its own count, the last second since load at which it grants, and a word for each counter that its limits
+-- name, with its maximum and its number.
+use Rattle.std.specs.Prelude.{ℕ, ◌+◌, ◌-◌, ◌*◌, ◌/◌, ◌%◌, ◌≤◌, ◌<◌, min, List, [], ◌∷◌, ◌++◌, ◌≡◌, Bool, ◌&&◌, length, get_or, take, drop, eqb, leb, ltb, if◌then◌else◌}
+use Rattle.std.proofs.Common.{lit≤}
+use Rattle.rules.specs.Sizes.{groups_max, full_count}
 use Rattle.rules.specs.Basics.{Bytes, Every, all, records}
 use Rattle.rules.specs.Acl.{Limit, limits_of, acl_of}
 use Rattle.rules.specs.Ledger.{raised}
-
--- the numbers of a table
-abbrev pub table_words : ℕ
-table_words = 512
+use Rattle.run_limits.specs.declared.row.Row.{Row}
 
 -- seconds without an end: no time since load is later
 abbrev pub no_end : ℕ
 no_end = 18446744073709551615
 
--- "its own count is below any sort 1 maximum": the bound of the own count, with one limit more; no second is below a maximum of 0
-unfoldable pub bound_with : ℕ → ℕ → ℕ → ℕ
-bound_with bound sort maximum = if eqb sort 1 then min bound maximum else if eqb sort 2 then bound else if eqb maximum 0 then 0 else bound
+-- "elapsed seconds are below any sort 3 maximum": the bound of the own count and the last second, with one such limit more; no second is below a maximum of 0
+abbrev pub ended_bound : ℕ → ℕ → ℕ
+ended_bound bound maximum = if eqb maximum 0 then 0 else bound
 
--- "elapsed seconds are below any sort 3 maximum": the last second, with one limit more
+abbrev pub ended_last : ℕ → ℕ → ℕ
+ended_last last maximum = if eqb maximum 0 then 0 else min last (maximum - 1)
+
+-- "its own count is below any sort 1 maximum": the bound of the own count, with one limit more
+unfoldable pub bound_with : ℕ → ℕ → ℕ → ℕ
+bound_with bound sort maximum = if eqb sort 1 then min bound maximum else if eqb sort 2 then bound else ended_bound bound maximum
+
+-- the last second, with one limit more
 unfoldable pub last_with : ℕ → ℕ → ℕ → ℕ
-last_with last sort maximum = if eqb sort 1 then last else if eqb sort 2 then last else if eqb maximum 0 then 0 else min last (maximum - 1)
+last_with last sort maximum = if eqb sort 1 then last else if eqb sort 2 then last else ended_last last maximum
 
 -- "each counter named is below its maximum": the word of a counter; one that is full is below no maximum
 unfoldable pub named_word : ℕ → ℕ → ℕ
 named_word counter maximum = min maximum full_count * 256 + counter
-
--- a table and the number of words, with the word of one limit more
-unfoldable pub named_put : List ℕ → ℕ → ℕ → ℕ → List ℕ
-named_put rows at sort word = if eqb sort 2 then set rows at word else rows
-
-unfoldable pub named_count : ℕ → ℕ → ℕ
-named_count n sort = if eqb sort 2 then n + 1 else n
 
 -- the bound, the last second and the words of limits
 unfoldable pub bound_of : List Limit → ℕ
@@ -50,27 +48,41 @@ named_of (m ∷ ms) = if eqb m.sort 2 then named_word m.counter m.maximum ∷ na
 unfoldable pub word_left : List ℕ → ℕ → Bool
 word_left counters word = ltb (get_or counters (word % 256) 0) (word / 256)
 
--- a group is unspent, by the row that begins at an index of the table
-unfoldable pub row_left : List ℕ → ℕ → ℕ → List ℕ → ℕ → Bool
-row_left counters own elapsed rows at =
-    ltb own (get_or rows at 0) && (leb elapsed (get_or rows (at + 1) 0) && all (word_left counters) (take (get_or rows (at + 2) 0) (drop (at + 3) rows)))
+-- the words of a row
+abbrev pub words_of : Row → List ℕ
+words_of row = take row.named row.words
 
--- the row that begins at an index is that of limits
-pub record IsRow (rows : List ℕ) (at : ℕ) (ms : List Limit) : Type 0 where
-  pub bound : get_or rows at 0 ≡ bound_of ms
-  pub last : get_or rows (at + 1) 0 ≡ last_of ms
-  pub few : get_or rows (at + 2) 0 ≤ limits_max
-  pub words : take (get_or rows (at + 2) 0) (drop (at + 3) rows) ≡ named_of ms
+-- a group is unspent, by its row
+unfoldable pub row_left : List ℕ → ℕ → ℕ → Row → Bool
+row_left counters own elapsed row = ltb own row.bound && (leb elapsed row.last && all (word_left counters) (words_of row))
 
--- a table of rows, each with no more words than there is room for
-pub record Fits (rows : List ℕ) : Type 0 where
-  pub sized : length rows ≡ table_words
-  pub few : (k : ℕ) → get_or rows (k * 8 + 2) 0 ≤ limits_max
+-- a row of no limits
+pub record IsUnlimited (row : Row) : Type 0 where
+  pub bound : row.bound ≡ full_count
+  pub last : row.last ≡ no_end
+  pub none : row.named ≡ 0
+
+-- a row with one limit more
+pub record Limited (row : Row) (m : Limit) (next : Row) : Type 0 where
+  pub bound : next.bound ≡ bound_with row.bound m.sort m.maximum
+  pub last : next.last ≡ last_with row.last m.sort m.maximum
+  pub words : words_of next ≡ words_of row ++ named_of (m ∷ [])
+  pub one : next.named ≤ row.named + 1
+
+-- a row is that of limits
+pub record IsRow (row : Row) (ms : List Limit) : Type 0 where
+  pub bound : row.bound ≡ bound_of ms
+  pub last : row.last ≡ last_of ms
+  pub words : words_of row ≡ named_of ms
+
+-- a row of a table
+abbrev pub row_at : List Row → ℕ → Row
+row_at rows k = get_or rows k (record { bound = 0; last = 0; named = 0; words = []; few = lit≤ tt })
 
 -- each group of an ACL has its row; the table of offsets says where its limits begin
-pub record Rows (acl : Bytes) (bodies rows : List ℕ) : Type 0 where
-  pub fits : Fits rows
-  pub filled : (k : ℕ) → k < length (acl_of acl) → IsRow rows (k * 8) (limits_of (records (drop (get_or bodies k 0) acl)))
+pub record Rows (acl : Bytes) (bodies : List ℕ) (rows : List Row) : Type 0 where
+  pub sized : length rows ≡ groups_max
+  pub filled : (k : ℕ) → k < length (acl_of acl) → IsRow (row_at rows k) (limits_of (records (drop (get_or bodies k 0) acl)))
 
 -- "each named counter plus 1", by words
 unfoldable pub raised_words : List ℕ → List ℕ → List ℕ → List ℕ

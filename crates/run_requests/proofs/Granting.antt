@@ -1,19 +1,19 @@
 -- From a judgement by sets to the answer: the group that grants is at its index, is not full, names no counter twice, and is charged; a denial keeps
 -- the tables.
-use Prim.Native.Nat.{ℕ, zero, suc, ◌+◌, ◌-◌, ◌*◌, ◌/◌, ◌%◌, ◌≤◌, ◌<◌}
+use Prim.Native.Nat.{ℕ, zero, suc, ◌-◌, ◌/◌, ◌%◌, ◌≤◌, ◌<◌}
 use native.Mathlib.Omega.{arith}
 use mathlib.Core.Path.{◌≡◌, refl, sym, ◌∙◌, ap}
 use mathlib.Core.List.{List, [], ◌∷◌}
 use mathlib.Core.Option.{Option, none, some}
 use mathlib.Core.Bool.{Bool, true, false, not, ◌&&◌}
-use borrow.Author.Tests.{ltb-true, lt-ltb, le-ltb, eq-eqb, not-true, not-false}
-use lib.ListN.{length, get_or, get_elem?, take, drop}
+use borrow.Author.Tests.{ltb-true, eq-eqb, not-true, not-false}
+use lib.ListN.{length, get_or, get_elem?}
 use lib.Bits.{bit_and}
 use lib.Count.{count_trailing_zeros}
 use lib.Dec.{eqb, ltb}
-use Rattle.rules.specs.Sizes.{full_count, groups_max, set_bits}
+use Rattle.rules.specs.Sizes.{full_count, set_bits}
 use Rattle.rules.specs.Numbers.{malformed, no_group}
-use Rattle.std.specs.Prelude.{if◌then◌else◌}
+use Rattle.std.specs.Prelude.{Ok, Err, if◌then◌else◌}
 use Rattle.rules.specs.Basics.{Bytes, Every, kind, flag, number, holds_at}
 use Rattle.rules.specs.Layout.{use_laid_out}
 use Rattle.rules.specs.Acl.{Group, announces_blobfile, acl_of}
@@ -30,15 +30,17 @@ use Rattle.rules.proofs.AclSizes.{acl_fits}
 use Rattle.refusals.specs.Refusals.{denial_number, denial_group}
 use Rattle.gate_charge.specs.Charges.{Chargeable}
 use Rattle.gate_charge.proofs.Granting.{limits_room}
-use Rattle.run_limits.specs.Rows.{named_of, Rows, raised_words, Able}
+use Rattle.run_form.specs.declared.Prepared.{Prepared}
+use Rattle.run_limits.specs.declared.row.Row.{Row}
+use Rattle.run_limits.specs.Rows.{named_of, words_of, row_at, Rows, raised_words, Able}
 use Rattle.run_limits.proofs.Meaning.{words_raise, words_able}
-use Rattle.gate_decision.specs.declared.Judged.{Judged}
-use Rattle.gate_decision.specs.declared.Judged.TheVariants.{Granted, Denied}
+use Rattle.refusals.specs.declared.Denial as code
 use Rattle.refusals.specs.declared.Denial.TheVariants.{ClockBack}
 use Rattle.gate_decision.specs.Standings.{denial_for, judged_for, ledger_of_tables}
-use Rattle.run_decision.specs.Deciding.{Ready, admitting_set, set_judge, ask_sets}
+use Rattle.run_decision.specs.Ready.{Ready}
+use Rattle.run_decision.specs.Deciding.{admitting_set, set_judge, ask_sets}
 use Rattle.run_decision.proofs.Deciding.{place_group, ready_few}
-use Rattle.run_requests.specs.Answers.{granted_index, judged_number, place_or, denied_group, shown_group, IsOutcome}
+use Rattle.run_requests.specs.Answers.{IsOutcome}
 
 -- what a walk finds passes
 first_true : (test : ℕ → Bool) (w n : ℕ) → first_in test w n < w → test (first_in test w n) ≡ true
@@ -53,69 +55,20 @@ first_true test (suc w) n h = pick (eqb (n % 2) 1 && test 0) refl (first_true (�
     pick true q f = rw q (and_right (eqb (n % 2) 1) (test 0) q)
     pick false q f = let l : suc next < suc w = rw q at h in rw q (f (omega arith))
 
-none_granted : (k : ℕ) (d : Denial) → Granted k ≡ Denied (denial_for d) → ⊥
+none_granted : (k : ℕ) (d : Denial) → Ok k ≡ Err (denial_for d) → ⊥
 none_granted k d f = never (cc)
 
-none_ungranted : (k : ℕ) (x y : Lowest) → Granted k ≡ judged_for (ungranted x y) → ⊥
+none_ungranted : (k : ℕ) (x y : Lowest) → Ok k ≡ judged_for (ungranted x y) → ⊥
 none_ungranted k not_found not_found f = never (cc)
 none_ungranted k not_found (group p g) f = never (cc)
 none_ungranted k (group p g) y f = never (cc)
-
--- a group that is found is one of the ACL's groups
-abbrev FoundIn : ℕ → Lowest → Type 0
-FoundIn n not_found = Unit {0}
-FoundIn n (group p g) = p < n
-
--- a group that a denial names is one of the ACL's groups
-abbrev NamedIn : ℕ → Denial → Type 0
-NamedIn n early = Unit {0}
-NamedIn n unadmitted = Unit {0}
-NamedIn n (uncertified p g) = p < n
-NamedIn n (exhausted p g) = p < n
-
-abbrev JudgedIn : ℕ → Judgement → Type 0
-JudgedIn n (granted p g) = Unit {0}
-JudgedIn n (denied d) = NamedIn n d
-
-placed_in : (gs : List Group) (k : ℕ) → FoundIn (length gs) (placed gs k)
-placed_in gs k = pick (get_elem? gs k) refl
-  where
-    pick : (o : Option Group) → get_elem? gs k ≡ o → FoundIn (length gs) (placed_at k o)
-    pick none e = tt
-    pick (some g) e = there_below gs k g e
-
-ungranted_in : (n : ℕ) (x y : Lowest) → FoundIn n x → FoundIn n y → JudgedIn n (ungranted x y)
-ungranted_in n not_found not_found p q = tt
-ungranted_in n not_found (group k g) p q = q
-ungranted_in n (group j h) y p q = p
-
-judged_in : (n : ℕ) (j : Judgement) (x : Lowest) → JudgedIn n j → JudgedIn n (or_else x granted j)
-judged_in n j not_found p = p
-judged_in n j (group k g) p = tt
-
-set_judged_in : (l : Ledger) (km0 : Bytes) (gs : List Group) (c : ℕ) (r : Bytes) → JudgedIn (length gs) (set_judge l km0 gs c r)
-unfolding set_judge judged_by_sets
-set_judged_in l km0 gs c r = pick (too_early l (request_with r []))
-  where
-    a : ℕ
-    a = admitting_set km0 (wanted_of r none) gs
-
-    d : Judgement
-    d = ungranted (placed gs (count_trailing_zeros set_bits (bit_and a c))) (placed gs (count_trailing_zeros set_bits a))
-
-    x : Lowest
-    x = placed gs (first_in (unspent_at l (request_with r []) gs) set_bits (bit_and a c))
-
-    pick : (b : Bool) → JudgedIn (length gs) (if b then denied early else or_else x granted d)
-    pick true = tt
-    pick false = judged_in (length gs) d x (ungranted_in (length gs) (placed gs (count_trailing_zeros set_bits (bit_and a c))) (placed gs (count_trailing_zeros set_bits a)) (placed_in gs (count_trailing_zeros set_bits (bit_and a c))) (placed_in gs (count_trailing_zeros set_bits a)))
 
 -- The group that grants, by the code's answer.
 module _ (l : Ledger) (km0 : Bytes) (gs : List Group) (c : ℕ) (r : Bytes) (fit : length gs ≤ set_bits) where
   abbrev left : ℕ → Bool
   left = unspent_at l (request_with r []) gs
 
-  granted_found : (k : ℕ) → Granted k ≡ judged_for (set_judge l km0 gs c r)
+  granted_found : (k : ℕ) → Ok k ≡ judged_for (set_judge l km0 gs c r)
       → (g : Group) × (set_judge l km0 gs c r ≡ granted k g) × (get_elem? gs k ≡ some g) × (unspent l k (request_with r []) g ≡ true)
   unfolding set_judge judged_by_sets
   granted_found k e = pick (too_early l (request_with r [])) refl
@@ -126,7 +79,7 @@ module _ (l : Ledger) (km0 : Bytes) (gs : List Group) (c : ℕ) (r : Bytes) (fit
       f : ℕ
       f = first_in left set_bits both
 
-      found : (x y : Lowest) (o : Option Group) → get_elem? gs f ≡ o → Granted k ≡ judged_for (or_else (placed_at f o) granted (ungranted x y))
+      found : (x y : Lowest) (o : Option Group) → get_elem? gs f ≡ o → Ok k ≡ judged_for (or_else (placed_at f o) granted (ungranted x y))
           → (g : Group) × (or_else (placed_at f o) granted (ungranted x y) ≡ granted k g) × (get_elem? gs k ≡ some g) × (unspent l k (request_with r []) g ≡ true)
       found x y none p q = absurd (none_ungranted k x y q)
       found x y (some g) p q =
@@ -138,7 +91,7 @@ module _ (l : Ledger) (km0 : Bytes) (gs : List Group) (c : ℕ) (r : Bytes) (fit
 
       pick : (b : Bool) → too_early l (request_with r []) ≡ b
           → (g : Group) × (set_judge l km0 gs c r ≡ granted k g) × (get_elem? gs k ≡ some g) × (unspent l k (request_with r []) g ≡ true)
-      pick true q = let n : Granted k ≡ Denied ClockBack = rw q at e in absurd (none_granted k early n)
+      pick true q = let n : Ok k ≡ Err ClockBack = rw q at e in absurd (none_granted k early n)
       pick false q = rw q (found (placed gs (count_trailing_zeros set_bits both)) (placed gs (count_trailing_zeros set_bits (admitting_set km0 (wanted_of r none) gs))) (get_elem? gs f) refl (rw q at e))
 
 -- every element, and one of them
@@ -148,46 +101,28 @@ every_at P [] (suc k) x h e = every_at P [] k x h e
 every_at P (y ∷ ys) zero x h e = let q : y ≡ x = cc in rw (← q) h.0
 every_at P (y ∷ ys) (suc k) x h e = every_at P ys k x h.1 e
 
-module _ (counts counters : List ℕ) (loaded last : ℕ) (km0 acl : Bytes) (bodies uses : List ℕ) (working recovery c : ℕ) (r : Bytes) (ready : Ready acl bodies uses working recovery) where
+module _ (counts counters : List ℕ) (loaded last : ℕ) (km0 acl : Bytes) (bodies : List ℕ) (form : Prepared) (c : ℕ) (r : Bytes) (ready : Ready acl bodies form) where
   abbrev tables : Ledger
   tables = ledger_of_tables counts counters loaded last
 
   fits : length (acl_of acl) ≤ set_bits
-  fits = let h = ready_few acl bodies uses working recovery ready in omega arith
+  fits = let h = ready_few acl bodies form ready in omega arith
 
-  -- the code's answer is of a group that grants
-  granting : (j : Judged) (k : ℕ) → j ≡ judged_for (set_judge tables km0 (acl_of acl) c r) → k ≡ granted_index j → k < groups_max → Granted k ≡ judged_for (set_judge tables km0 (acl_of acl) c r)
-  granting (Granted i) k e p h = ap Granted p ∙ e
-  granting (Denied d) k e p h = absurd (omega arith)
-
-  granted_below : (k : ℕ) → Granted k ≡ judged_for (set_judge tables km0 (acl_of acl) c r) → k < groups_max
-  granted_below k e =
-      let g = granted_found tables km0 (acl_of acl) c r fits k e in
-      let a = there_below (acl_of acl) k g.0 g.2 in
-      let b = ready_few acl bodies uses working recovery ready in
-      omega arith
-
-  module _ (j : Judged) (k : ℕ) (told : j ≡ judged_for (set_judge tables km0 (acl_of acl) c r)) (place_is : k ≡ granted_index j) (below : k < groups_max) where
-    e : Granted k ≡ judged_for (set_judge tables km0 (acl_of acl) c r)
-    e = granting j k told place_is below
-
+  module _ (k : ℕ) (e : Ok k ≡ judged_for (set_judge tables km0 (acl_of acl) c r)) where
     pub granted_count : get_or counts k 0 < full_count
     granted_count =
         let g = granted_found tables km0 (acl_of acl) c r fits k e in
         ltb-true (get_or counts k 0) full_count (and_left (ltb (get_or counts k 0) full_count) (limits_left counters (get_or counts k 0) (number 56 8 r - loaded) g.0.limits) g.3)
 
-    module _ (rows : List ℕ) (table : Rows acl bodies rows) where
-      abbrev words : List ℕ
-      words = take (get_or rows (k * 8 + 2) 0) (drop (k * 8 + 3) rows)
-
+    module _ (rows : List Row) (table : Rows acl bodies rows) where
       -- the words of the row of the group that grants
-      row_words : (g : Group) → get_elem? (acl_of acl) k ≡ some g → words ≡ named_of g.limits
+      row_words : (g : Group) → get_elem? (acl_of acl) k ≡ some g → words_of (row_at rows k) ≡ named_of g.limits
       row_words g q = (table.filled k (there_below (acl_of acl) k g q)).words ∙ ap named_of (sym (place_group acl bodies ready.places k g q).0)
 
       group_fits : (g : Group) → get_elem? (acl_of acl) k ≡ some g → GroupFits g
       group_fits g q = every_at GroupFits (acl_of acl) k g (acl_fits acl ready.sound).each q
 
-      pub granted_able : Able counters (take (get_or rows (k * 8 + 2) 0) (drop (k * 8 + 3) rows))
+      pub granted_able : Able counters (words_of (row_at rows k))
       granted_able =
           let g = granted_found tables km0 (acl_of acl) c r fits k e in
           let f = group_fits g.0 g.2 in
@@ -196,7 +131,7 @@ module _ (counts counters : List ℕ) (loaded last : ℕ) (km0 acl : Bytes) (bod
           rw (row_words g.0 g.2) (words_able counters g.0.limits f.each able)
 
       pub answered_permit : (laid : Bool) (counts' counters' : List ℕ) (time n place after : ℕ) → laid ≡ stands_alone r → not laid ≡ false → time ≡ number 56 8 r
-          → counts' ≡ raised counts k counts → counters' ≡ raised_words counters (take (get_or rows (k * 8 + 2) 0) (drop (k * 8 + 3) rows)) counters → n ≡ 0 → place ≡ k → after ≡ time
+          → counts' ≡ raised counts k counts → counters' ≡ raised_words counters (words_of (row_at rows k)) counters → n ≡ 0 → place ≡ k → after ≡ time
           → IsOutcome (ask_sets km0 (acl_of acl) c tables r) counts' counters' loaded n place after
       unfolding ask_sets request_record_fault charge bytes_of_answer
       answered_permit laid counts' counters' time n place after t h s a b x y z =
@@ -205,12 +140,11 @@ module _ (counts counters : List ℕ) (loaded last : ℕ) (km0 acl : Bytes) (bod
           let laid_out : stands_alone r ≡ true = sym t ∙ not-false laid h in
           rw (laid_out, g.1, a, m, x, y, z, s) (record { ledger = refl; answer = refl })
 
-  pub answered_denied : (j : Judged) (laid : Bool) (k m i n place after : ℕ) → j ≡ judged_for (set_judge tables km0 (acl_of acl) c r) → laid ≡ stands_alone r → not laid ≡ false
-      → k ≡ granted_index j → groups_max ≤ k → m ≡ judged_number j → i ≡ denied_group j → n ≡ m → place ≡ shown_group i → after ≡ last
+  pub answered_denied : (d : code.Denial) (laid : Bool) (n place after : ℕ) → Err d ≡ judged_for (set_judge tables km0 (acl_of acl) c r) → laid ≡ stands_alone r → not laid ≡ false
+      → n ≡ denial_number d → place ≡ group_or (denial_group d) → after ≡ last
       → IsOutcome (ask_sets km0 (acl_of acl) c tables r) counts counters loaded n place after
-  unfolding ask_sets request_record_fault bytes_of_answer shown_group
-  answered_denied j laid k m i n place after e t h a past w v x y z =
-      rw (laid_out, z) (pick (set_judge tables km0 (acl_of acl) c r) refl (set_judged_in tables km0 (acl_of acl) c r) (x ∙ w ∙ ap judged_number e) (y ∙ ap shown_group (v ∙ ap denied_group e)))
+  unfolding ask_sets request_record_fault bytes_of_answer
+  answered_denied d laid n place after e t h x y z = rw (laid_out, z) (pick (set_judge tables km0 (acl_of acl) c r) e)
     where
       laid_out : stands_alone r ≡ true
       laid_out = sym t ∙ not-false laid h
@@ -221,27 +155,21 @@ module _ (counts counters : List ℕ) (loaded last : ℕ) (km0 acl : Bytes) (bod
       number_same (uncertified p g) = refl
       number_same (exhausted p g) = refl
 
-      shows : (p : ℕ) → p < length (acl_of acl) → shown_group p ≡ p
-      shows p q = let f = ready_few acl bodies uses working recovery ready in rw (lt-ltb p groups_max (omega arith))
+      near_same : (d : Denial) → denial_group (denial_for d) ≡ nearest d
+      near_same early = refl
+      near_same unadmitted = refl
+      near_same (uncertified p g) = refl
+      near_same (exhausted p g) = refl
 
-      near_same : (d : Denial) → NamedIn (length (acl_of acl)) d → shown_group (place_or (denial_group (denial_for d))) ≡ group_or (nearest d)
-      near_same early q = refl
-      near_same unadmitted q = refl
-      near_same (uncertified p g) q = shows p q
-      near_same (exhausted p g) q = shows p q
+      pick : (v : Judgement) → Err d ≡ judged_for v → IsOutcome (settle tables (number 56 8 r) permitted v) counts counters loaded n place last
+      pick (granted p g) q = absurd (never (cc))
+      pick (denied w) q =
+          let s : d ≡ denial_for w = cc in
+          rw (x, y, s, number_same w, near_same w) (record { ledger = refl; answer = refl })
 
-      pick : (v : Judgement) → set_judge tables km0 (acl_of acl) c r ≡ v → JudgedIn (length (acl_of acl)) v → n ≡ judged_number (judged_for v) → place ≡ shown_group (denied_group (judged_for v))
-          → IsOutcome (settle tables (number 56 8 r) permitted v) counts counters loaded n place last
-      pick (granted p g) d u q f =
-          let s : Granted p ≡ judged_for (set_judge tables km0 (acl_of acl) c r) = sym (ap judged_for d) in
-          let b = granted_below p s in
-          let i : k ≡ p = a ∙ ap granted_index (e ∙ sym s) in
-          absurd (omega arith)
-      pick (denied d) w u q f = rw (q ∙ number_same d, f ∙ near_same d u) (record { ledger = refl; answer = refl })
-
-  pub answered_malformed : (laid : Bool) (n place after : ℕ) → laid ≡ stands_alone r → not laid ≡ true → n ≡ malformed → place ≡ shown_group groups_max → after ≡ last
+  pub answered_malformed : (laid : Bool) (n place after : ℕ) → laid ≡ stands_alone r → not laid ≡ true → n ≡ malformed → place ≡ no_group → after ≡ last
       → IsOutcome (ask_sets km0 (acl_of acl) c tables r) counts counters loaded n place after
-  unfolding ask_sets request_record_fault bytes_of_answer shown_group
+  unfolding ask_sets request_record_fault bytes_of_answer
   answered_malformed laid n place after t h x y z =
       let bad : stands_alone r ≡ false = sym t ∙ not-true laid h in
       rw (bad, x, y, z) (record { ledger = refl; answer = refl })
@@ -254,12 +182,3 @@ use_alone r laid announced e p q = rw (p, q, eq-eqb (kind r) 6 e)
 pub is_laid_out : (r : Bytes) (laid : Bool) → laid ≡ stands_alone r → not laid ≡ false → request_laid_out r ≡ true
 unfolding stands_alone
 is_laid_out r laid t h = and_left (request_laid_out r) (not (announces_blobfile r)) (sym t ∙ not-false laid h)
-
--- a group as an answer shows it
-pub shown_below : (k : ℕ) → k < groups_max → k ≡ shown_group k
-unfolding shown_group
-shown_below k h = sym (rw (lt-ltb k groups_max h))
-
-pub shown_past : (k : ℕ) → groups_max ≤ k → no_group ≡ shown_group k
-unfolding shown_group
-shown_past k h = sym (rw (le-ltb k groups_max h))

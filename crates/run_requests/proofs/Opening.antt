@@ -17,6 +17,7 @@ use Rattle.rules.specs.Ledger.{Ledger, raised, raised_by, charge}
 use Rattle.rules.specs.Gate.{Judgement, granted, denied, early, too_early, permitted, settle, outcome_unless}
 use Rattle.rules.specs.Runs.{request_with}
 use Rattle.rules.proofs.Laws.{never}
+use Rattle.run_limits.specs.declared.row.Row.{Row}
 use Rattle.run_decision.specs.GroupSets.{judged_by_sets, unspent_at}
 use Rattle.gate_decision.specs.Standings.{ledger_of_tables}
 use Rattle.run_decision.specs.Deciding.{admitting_set, set_judge, ask_sets}
@@ -80,7 +81,7 @@ ask_grows km0 gs c l r = fault (request_record_fault r)
     fault none = judged (too_early l (request_with r [])) refl
     fault (some n) = same_grown l
 
-pub open_next : (km0 : Bytes) (gs : List Group) (c o : ℕ) (r : Bytes) (rows counts counters counts' counters' : List ℕ) (loaded before n place last : ℕ)
+pub open_next : (km0 : Bytes) (gs : List Group) (c o : ℕ) (r : Bytes) (rows : List Row) (counts counters counts' counters' : List ℕ) (loaded before n place last : ℕ)
     → IsOutcome (ask_sets km0 gs c (ledger_of_tables counts counters loaded before) r) counts' counters' loaded n place last
     → OpenFrom counts counters (before - loaded) rows c o → OpenFrom counts' counters' (last - loaded) rows c o
 open_next km0 gs c o r rows counts counters counts' counters' loaded before n place last a h =
@@ -90,7 +91,7 @@ open_next km0 gs c o r rows counts counters counts' counters' loaded before n pl
     open_on counts counts' counters counters' (before - loaded) (last - loaded) rows c o g.counts g.counters (omega arith) h
 
 -- the groups that need a look from a time on are still right after a charge
-pub open_kept : (km0 : Bytes) (gs : List Group) (c o : ℕ) (r : Bytes) (rows counts counters counts' counters' : List ℕ) (loaded before n place last since : ℕ)
+pub open_kept : (km0 : Bytes) (gs : List Group) (c o : ℕ) (r : Bytes) (rows : List Row) (counts counters counts' counters' : List ℕ) (loaded before n place last since : ℕ)
     → IsOutcome (ask_sets km0 gs c (ledger_of_tables counts counters loaded before) r) counts' counters' loaded n place last
     → OpenFrom counts counters (since - loaded) rows c o → OpenFrom counts' counters' (since - loaded) rows c o
 open_kept km0 gs c o r rows counts counters counts' counters' loaded before n place last since a h =
@@ -99,7 +100,7 @@ open_kept km0 gs c o r rows counts counters counts' counters' loaded before n pl
     open_on counts counts' counters counters' (since - loaded) (since - loaded) rows c o g.counts g.counters (omega arith) h
 
 -- The groups to look at for a request, and those to look at after it.
-module _ (counts counters : List ℕ) (loaded last since : ℕ) (rows : List ℕ) (c unspent still : ℕ)
+module _ (counts counters : List ℕ) (loaded last since : ℕ) (rows : List Row) (c unspent still : ℕ)
     (u : OpenFrom counts counters (last - loaded) rows c unspent) (s : OpenFrom counts counters (since - loaded) rows c still) where
   used_open : (time used : ℕ) → used ≡ (if leb since time then still else unspent) → last ≤ time → OpenFrom counts counters (time - loaded) rows c used
   used_open time used e h = rw e (choose (leb since time) refl)

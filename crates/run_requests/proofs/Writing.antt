@@ -1,41 +1,40 @@
 -- The turns of the loop over the requests of a run, and the bytes of an answer.
-use Prim.Native.Nat.{ℕ, ◌≤◌, ◌<◌, ◌+◌, ◌-◌, ◌*◌, ◌/◌, ◌%◌}
+use Prim.Native.Nat.{ℕ, ◌≤◌, ◌<◌, ◌+◌, ◌*◌, ◌/◌, ◌%◌}
 use native.Mathlib.Omega.{arith}
 use native.Mathlib.Numerals.{add-one, add-two, add-three}
-use mathlib.Core.Path.{◌≡◌, sym, ◌∙◌, ap, ap₂, subst}
+use mathlib.Core.Path.{◌≡◌, sym, ◌∙◌, ap, ap₂}
 use mathlib.Core.List.{List, [], ◌∷◌, ◌++◌, append_assoc}
-use mathlib.Core.Option.{Option, none, some}
-use lib.ListN.{length, take, drop, set, length-append}
+use lib.ListN.{length, take, drop, get_or, set, length-append}
 use lib.Seq.{sets-eq, length-take-le, take-append-le, take-take, drop_at}
-use Rattle.rules.specs.Sizes.{groups_max, counters_max}
-use Rattle.rules.specs.Basics.{Bytes, number, records_from}
-use Rattle.rules.specs.Acl.{Group}
-use Rattle.rules.specs.Request.{request_record_fault}
+use Rattle.rules.specs.Basics.{Bytes, number, records}
 use Rattle.rules.specs.Ledger.{Ledger}
-use Rattle.rules.specs.Gate.{Outcome, Judgement, granted, denied, permitted, settle, outcome_unless}
+use Rattle.rules.specs.Gate.{Outcome}
 use Rattle.rules.specs.Written.{big_endian}
 use Rattle.rules.specs.Runs.{answer_with}
-use Rattle.rules.proofs.Rows.{lent_record, rows_lent, rows_end}
+use Rattle.rules.proofs.Laws.{chunks_length}
+use Rattle.record_fields.proofs.Walks as walks
 use Rattle.run_requests.specs.Written.{Running, over_at, writing}
 use Rattle.run_requests.proofs.Loop.{length_over}
-use Rattle.rules.specs.Fits.{Sized}
-use Rattle.rules.proofs.Ledgers.{charge_sized}
 use Rattle.gate_decision.specs.Standings.{ledger_of_tables}
-use Rattle.run_decision.specs.Deciding.{set_judge, ask_sets}
 use Rattle.run_requests.specs.Answers.{IsOutcome}
 
 -- The turns of a loop over the requests of a run.
-module _ (ask : Ledger → Bytes → Outcome) (requests : Bytes) (x : Running) (l : Ledger) (buf : Bytes) (at : ℕ) (inv : writing ask l buf (at / 64 * 8) (records_from requests at) ≡ x) where
-  pub writing_next : (counts counters : List ℕ) (loaded n place last : ℕ) (after : Bytes) → 64 ≤ length requests - at → IsOutcome (ask l (lent_record requests at)) counts counters loaded n place last
-      → after ≡ over_at (at / 64 * 8) (answer_with n place) buf → writing ask (ledger_of_tables counts counters loaded last) after ((at + 64) / 64 * 8) (records_from requests (at + 64)) ≡ x
+module _ (ask : Ledger → Bytes → Outcome) (rows : List Bytes) (x : Running) (l : Ledger) (buf : Bytes) (i : ℕ) (inv : writing ask l buf (i * 8) (drop i rows) ≡ x) where
+  pub writing_next : (counts counters : List ℕ) (loaded n place last : ℕ) (after : Bytes) → i < length rows → IsOutcome (ask l (get_or rows i [])) counts counters loaded n place last
+      → after ≡ over_at (i * 8) (answer_with n place) buf → writing ask (ledger_of_tables counts counters loaded last) after ((i + 1) * 8) (drop (i + 1) rows) ≡ x
   unfolding writing
   writing_next counts counters loaded n place last after h a d =
-      let o : (at + 64) / 64 * 8 ≡ at / 64 * 8 + 8 = omega arith in
-      rw (a.ledger, d, a.answer, o) (sym (ap (writing ask l buf (at / 64 * 8)) (rows_lent requests at h)) ∙ inv)
+      let o : (i + 1) * 8 ≡ i * 8 + 8 = omega arith in
+      rw (a.ledger, d, a.answer, o) (sym (ap (writing ask l buf (i * 8)) (walks.left_at rows i h)) ∙ inv)
 
-  pub writing_done : length requests - at < 64 → record { ledger = l; buffer = buf } ≡ x
+  pub writing_done : length rows ≤ i → record { ledger = l; buffer = buf } ≡ x
   unfolding writing
-  writing_done h = sym (ap (writing ask l buf (at / 64 * 8)) (rows_end requests at h)) ∙ inv
+  writing_done h = sym (ap (writing ask l buf (i * 8)) (walks.left_none rows i h)) ∙ inv
+
+-- the room for an answer
+pub answer_room : (s : Bytes) (rows : List Bytes) (i n : ℕ) → rows ≡ records s → i < length rows → length s / 64 * 8 ≤ n → i * 8 + 8 ≤ n
+unfolding records
+answer_room s rows i n e h f = let l = chunks_length (length s / 64) s in let m = ap length e in omega arith
 
 -- Bytes that are stored one by one, and two parts side by side.
 pub stored_four : (buf : Bytes) (at n : ℕ) → at + 4 ≤ length buf
@@ -79,27 +78,3 @@ same_lengths a b c p q = p ∙ q
 pub answer_sized : (out number place : ℕ) (old new : Bytes) → out + 8 ≤ length old → new ≡ over_at out (answer_with number place) old → length new ≡ length old
 unfolding big_endian
 answer_sized out number place old new h e = ap length e ∙ length_over out (answer_with number place) old (omega arith)
-
--- A request keeps the lengths of the tables.
-ask_sized : (km0 : Bytes) (gs : List Group) (c : ℕ) (l : Ledger) (r : Bytes) → Sized l → Sized (ask_sets km0 gs c l r).ledger
-unfolding ask_sets
-ask_sized km0 gs c l r h = fault (request_record_fault r)
-  where
-    settled : (j : Judgement) → Sized (settle l (number 56 8 r) permitted j).ledger
-    settled (granted k g) = charge_sized l k g (number 56 8 r) h
-    settled (denied d) = h
-
-    fault : (f : Option ℕ) → Sized (outcome_unless l f (settle l (number 56 8 r) permitted (set_judge l km0 gs c r))).ledger
-    fault none = settled (set_judge l km0 gs c r)
-    fault (some n) = h
-
-module _ (km0 : Bytes) (gs : List Group) (c : ℕ) (r : Bytes) (counts counters counts' counters' : List ℕ) (loaded before n place last : ℕ)
-    (a : IsOutcome (ask_sets km0 gs c (ledger_of_tables counts counters loaded before) r) counts' counters' loaded n place last) (g : length counts ≡ groups_max) (h : length counters ≡ counters_max) where
-  answers_sized : Sized (ledger_of_tables counts' counters' loaded last)
-  answers_sized = subst Sized (sym a.ledger) (ask_sized km0 gs c (ledger_of_tables counts counters loaded before) r (record { groups = g; named = h }))
-
-  pub counts_sized : length counts' ≡ groups_max
-  counts_sized = answers_sized.groups
-
-  pub counters_sized : length counters' ≡ counters_max
-  counters_sized = answers_sized.named

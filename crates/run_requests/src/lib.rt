@@ -2,26 +2,25 @@
 // bytes.
 #![tactic(auto)]
 
-ghost use Rattle.std.specs.Prelude.{◌≡◌, ◌≤◌, ◌<◌, ◌+◌, ◌-◌, ◌*◌, ◌/◌, length, leb, if◌then◌else◌};
-ghost use Rattle.rules.specs.Sizes.{record_bytes, answer_bytes, groups_max, counters_max, prepared_records};
-ghost use Rattle.rules.specs.Numbers.{malformed};
+ghost use Rattle.std.specs.Prelude.{◌≡◌, ◌≤◌, ◌<◌, ◌+◌, ◌-◌, ◌*◌, ◌/◌, Err, length, leb, if◌then◌else◌};
+ghost use Rattle.rules.specs.Sizes.{record_bytes, answer_bytes, groups_max};
+ghost use Rattle.rules.specs.Numbers.{malformed, no_group};
 ghost use Rattle.rules.specs.Basics.{number, records};
 ghost use Rattle.rules.specs.Acl.{acl_of};
 ghost use Rattle.rules.specs.Request.{stands_alone};
 ghost use Rattle.rules.specs.Written.{big_endian};
-ghost use Rattle.rules.specs.Runs.{answer_with};
-ghost use Rattle.run_requests.specs.Written.{over_at, writing, Wrote};
-ghost use Rattle.run_limits.specs.Rows.{Rows};
+ghost use Rattle.rules.specs.Runs.{answer_with, group_or};
+ghost use Rattle.refusals.specs.Refusals.{denial_number, denial_group};
 ghost use Rattle.gate_decision.specs.Standings.{ledger_of_tables};
-ghost use Rattle.run_decision.specs.Deciding.{Ready, ask_sets};
+ghost use Rattle.run_decision.specs.Deciding.{Within, ask_sets};
 ghost use Rattle.run_decision.specs.Members.{left_at};
 ghost use Rattle.run_decision.specs.Opening.{OpenFrom, Closes, OpenAt};
-ghost use Rattle.refusals.specs.Refusals.{denial_group};
-ghost use Rattle.run_requests.specs.Answers.{granted_index, judged_number, place_or, denied_group, shown_group, IsOutcome};
+ghost use Rattle.run_requests.specs.Written.{over_at, writing, Wrote};
+ghost use Rattle.run_requests.specs.Answers.{IsOutcome};
 
-use gate_decision::Judged;
+use record_sizes::Record;
 use refusals::{Denial, Refusal};
-use run_decision::Sets;
+use run_decision::Plan;
 
 // No group is named: all ones.
 const NO_GROUP: u32 = 4294967295;
@@ -45,76 +44,42 @@ struct Turn {
     from: u64,
 }
 
-// The group that grants; past the last place where none does.
-fn group_of(judged: Judged) -> usize
-    ensures { result ≡ granted_index judged }
-{
-    match judged {
-        Judged::Granted(k) => k,
-        Judged::Denied(_) => record_sizes::GROUPS,
-    }
-}
-
-// The number of a judgement; 0 where a group grants.
-fn number_of(judged: Judged) -> u32
-    ensures { result ≡ judged_number judged }
-{
-    match judged {
-        Judged::Granted(_) => 0,
-        Judged::Denied(d) => refusals::denial_number(d) as u32,
-    }
-}
-
-// The group that a denial names; past the last place where it names none.
-fn denial_near(denial: Denial) -> usize
-    ensures { result ≡ place_or (denial_group denial) }
+// The group that a denial names, as an answer shows it: all ones where it names none.
+fn shown(denial: Denial) -> u32
+    requires { Within (Err denial) }
+    ensures { result ≡ group_or (denial_group denial) }
 {
     match denial {
-        Denial::ClockBack => record_sizes::GROUPS,
-        Denial::NotAdmitted => record_sizes::GROUPS,
-        Denial::NotCertified(k) => k,
-        Denial::Spent(k) => k,
+        Denial::ClockBack => NO_GROUP,
+        Denial::NotAdmitted => NO_GROUP,
+        Denial::NotCertified(k) => k as u32,
+        Denial::Spent(k) => k as u32,
     }
 }
 
-// The group that a judgement names as nearest; past the last one if it names none.
-fn near_of(judged: Judged) -> usize
-    ensures { result ≡ denied_group judged }
-{
-    match judged {
-        Judged::Granted(_) => record_sizes::GROUPS,
-        Judged::Denied(d) => denial_near(d),
-    }
-}
-
-// A group as an answer shows it: all ones past the last place.
-fn shown(near: usize) -> u32
-    ensures { result ≡ shown_group near }
-{
-    if near < record_sizes::GROUPS {
-        return near as u32;
-    }
-    NO_GROUP
-}
-
-// A refusal: the last time is unchanged.
-fn refusal(number: u32, near: usize, last: u64, still: u64) -> Answered
-    ensures { (result.number ≡ number) × (result.group ≡ shown_group near) × (result.last ≡ last) × (result.still ≡ still) }
+// A denial: the last time is unchanged.
+fn denied(denial: Denial, last: u64, still: u64) -> Answered
+    requires { Within (Err denial) }
+    ensures { (result.number ≡ denial_number denial) × (result.group ≡ group_or (denial_group denial)) × (result.last ≡ last) × (result.still ≡ still) }
 {
     Answered {
-        number,
-        group: shown(near),
+        number: u8::from(denial) as u32,
+        group: shown(denial),
         last,
         still,
     }
 }
 
-// The answer of a malformed record: 2, and no group.
+// The answer of a malformed record: 2, and no group; the last time is unchanged.
 fn bad_record(last: u64, still: u64) -> Answered
-    ensures { (result.number ≡ malformed) × (result.group ≡ shown_group groups_max) × (result.last ≡ last) × (result.still ≡ still) }
+    ensures { (result.number ≡ malformed) × (result.group ≡ no_group) × (result.last ≡ last) × (result.still ≡ still) }
 {
-    let number = refusals::number(Refusal::Malformed) as u32;
-    refusal(number, record_sizes::GROUPS, last, still)
+    Answered {
+        number: u8::from(Refusal::Malformed) as u32,
+        group: NO_GROUP,
+        last,
+        still,
+    }
 }
 
 // A permit: the last time is the request's.
@@ -134,16 +99,12 @@ fn permit(k: usize, time: u64, still: u64) -> Answered
 fn pick(low: u64, high: u64, first: u64, other: u64) -> u64
     ensures { result ≡ (if leb low high then first else other) }
 {
-    if low <= high {
-        return first;
-    }
-    other
+    if low <= high { first } else { other }
 }
 
 // Whether a record is a well-formed request that announces no record of kind 15. It says what `request_reader::stands_alone` says, which tests all kinds and is a
 // call for each record: most records of a run are uses, and these are tested here, in the loop itself.
-fn stands_alone(rec: &[u8]) -> bool
-    requires { length rec.now ≡ record_bytes }
+fn stands_alone(rec: &Record) -> bool
     ensures { result ≡ stands_alone rec.now }
 {
     if rec[0] == 6 {
@@ -158,37 +119,28 @@ fn answer_used(
     counters: &mut [u32; record_sizes::COUNTERS],
     loaded: u64,
     last: u64,
-    km0: &[u8],
-    acl: &[u8],
-    bodies: &[usize; record_sizes::GROUPS],
-    rows: &[u64; run_limits::TABLE],
-    uses: &[u64; record_sizes::PERMISSIONS],
-    sets: Sets,
+    plan: &Plan,
     used: u64,
-    rec: &[u8],
+    rec: &Record,
 ) -> Answered
-    requires { Ready acl.now bodies.now uses.now sets.working sets.recovery × (length counts.old ≡ groups_max) ×
-        (length counters.old ≡ counters_max) × (length rec.now ≡ record_bytes) ×
-        OpenAt counts.old counters.old loaded last (number 56 8 rec.now) rows.now sets.certified used × Rows acl.now bodies.now rows.now }
+    requires { OpenAt counts.old counters.old loaded last (number 56 8 rec.now) plan.now.rows.now plan.now.certified used }
     ensures { IsOutcome
-        (ask_sets km0.now (acl_of acl.now) sets.certified
+        (ask_sets plan.now.km0.now (acl_of plan.now.acl.now) plan.now.certified
         (ledger_of_tables counts.old counters.old loaded last) rec.now) counts.new counters.new
         loaded result.number result.group result.last ×
-        Closes (left_at counts.old counters.old (number 56 8 rec.now - loaded) rows.now) used result.still }
+        Closes (left_at counts.old counters.old (number 56 8 rec.now - loaded) plan.now.rows.now) used result.still }
 {
     if !stands_alone(rec) {
         return bad_record(last, used);
     }
-    let chosen = run_decision::judge_record(
-        counts, counters, loaded, last, km0, acl, bodies, rows, uses, sets, used, rec,
-    );
-    let judged = chosen.judged;
-    let k = group_of(judged);
-    if record_sizes::GROUPS <= k {
-        return refusal(number_of(judged), near_of(judged), last, chosen.still);
+    let chosen = plan.judge_record(counts, counters, loaded, last, used, rec);
+    match chosen.judged {
+        Ok(k) => {
+            run_limits::charge_row(plan.rows, k, counts, counters);
+            permit(k, record_fields::be64(rec, 56), chosen.still)
+        }
+        Err(denial) => denied(denial, last, chosen.still),
     }
-    run_limits::charge_row(rows, k, counts, counters);
-    permit(k, record_fields::be64(rec, 56), chosen.still)
 }
 
 // One request of a run. From the time `from` on no group needs a look but those of `still`, before it none but those of `unspent`; what is found spent at
@@ -198,32 +150,23 @@ fn answer_one(
     counters: &mut [u32; record_sizes::COUNTERS],
     loaded: u64,
     last: u64,
-    km0: &[u8],
-    acl: &[u8],
-    bodies: &[usize; record_sizes::GROUPS],
-    rows: &[u64; run_limits::TABLE],
-    uses: &[u64; record_sizes::PERMISSIONS],
-    sets: Sets,
+    plan: &Plan,
     unspent: u64,
     still: u64,
     from: u64,
-    rec: &[u8],
+    rec: &Record,
 ) -> Turn
-    requires { Ready acl.now bodies.now uses.now sets.working sets.recovery × (length counts.old ≡ groups_max) ×
-        (length counters.old ≡ counters_max) × (length rec.now ≡ record_bytes) ×
-        OpenFrom counts.old counters.old (last - loaded) rows.now sets.certified unspent ×
-        OpenFrom counts.old counters.old («from» - loaded) rows.now sets.certified still × Rows acl.now bodies.now rows.now }
+    requires { OpenFrom counts.old counters.old (last - loaded) plan.now.rows.now plan.now.certified unspent ×
+        OpenFrom counts.old counters.old («from» - loaded) plan.now.rows.now plan.now.certified still }
     ensures { IsOutcome
-        (ask_sets km0.now (acl_of acl.now) sets.certified
+        (ask_sets plan.now.km0.now (acl_of plan.now.acl.now) plan.now.certified
         (ledger_of_tables counts.old counters.old loaded last) rec.now) counts.new counters.new
         loaded result.number result.group result.last ×
-        OpenFrom counts.old counters.old (result.«from» - loaded) rows.now sets.certified result.still }
+        OpenFrom counts.old counters.old (result.«from» - loaded) plan.now.rows.now plan.now.certified result.still }
 {
     let time = record_fields::be64(rec, 56);
     let used = pick(from, time, still, unspent);
-    let a = answer_used(
-        counts, counters, loaded, last, km0, acl, bodies, rows, uses, sets, used, rec,
-    );
+    let a = answer_used(counts, counters, loaded, last, plan, used, rec);
     if a.still == used {
         return Turn {
             number: a.number,
@@ -268,67 +211,30 @@ fn ask_records(
     counters: &mut [u32; record_sizes::COUNTERS],
     loaded: u64,
     before: u64,
-    km0: &[u8],
-    acl: &[u8],
-    bodies: &[usize; record_sizes::GROUPS],
-    rows: &[u64; run_limits::TABLE],
-    uses: &[u64; record_sizes::PERMISSIONS],
-    sets: Sets,
+    plan: &Plan,
     unspent: u64,
     requests: &[u8],
     buf: &mut [u8],
 ) -> u64
-    requires { Ready acl.now bodies.now uses.now sets.working sets.recovery × (length counts.old ≡ groups_max) ×
-        (length counters.old ≡ counters_max) × (length requests.now ≤ prepared_records * record_bytes) ×
-        (length requests.now / record_bytes * answer_bytes ≤ length buf.old) ×
-        OpenFrom counts.old counters.old (before - loaded) rows.now sets.certified unspent × Rows acl.now bodies.now rows.now }
+    requires { (length requests.now / record_bytes * answer_bytes ≤ length buf.old) ×
+        OpenFrom counts.old counters.old (before - loaded) plan.now.rows.now plan.now.certified unspent }
     ensures { Wrote counts.new counters.new loaded result buf.new
-        (writing (ask_sets km0.now (acl_of acl.now) sets.certified)
+        (writing (ask_sets plan.now.km0.now (acl_of plan.now.acl.now) plan.now.certified)
         (ledger_of_tables counts.old counters.old loaded before) buf.old 0 (records requests.now)) }
 {
     let mut last = before;
     let mut still = unspent;
     let mut from = before;
-    let mut at = 0;
-    while record_sizes::RECORD <= requests.len() - at {
+    for (i, rec) in record_fields::records(requests).iter().enumerate() {
         let a = answer_one(
-            counts,
-            counters,
-            loaded,
-            last,
-            km0,
-            acl,
-            bodies,
-            rows,
-            uses,
-            sets,
-            unspent,
-            still,
-            from,
-            &requests[at..at + record_sizes::RECORD],
+            counts, counters, loaded, last, plan, unspent, still, from, rec,
         );
-        put_answer(
-            buf,
-            at / record_sizes::RECORD * record_sizes::ANSWER,
-            a.number,
-            a.group,
-        );
+        put_answer(buf, i * record_sizes::ANSWER, a.number, a.group);
         last = a.last;
         still = a.still;
         from = a.from;
-        at += record_sizes::RECORD;
     }
     last
-}
-
-// The seconds between load and last time; none where the last time is before the load.
-fn seconds_used(loaded: u64, last: u64) -> u64
-    ensures { result ≡ last - loaded }
-{
-    if last < loaded {
-        return 0;
-    }
-    last - loaded
 }
 
 // The requests of a run one after the other, on the lent tables; the last time after them. Groups that are spent before the first request are spent for
@@ -338,27 +244,18 @@ pub fn run_records(
     counters: &mut [u32; record_sizes::COUNTERS],
     loaded: u64,
     before: u64,
-    km0: &[u8],
-    acl: &[u8],
-    bodies: &[usize; record_sizes::GROUPS],
-    rows: &[u64; run_limits::TABLE],
-    uses: &[u64; record_sizes::PERMISSIONS],
-    sets: Sets,
+    plan: &Plan,
     requests: &[u8],
     buf: &mut [u8],
 ) -> u64
-    requires { Ready acl.now bodies.now uses.now sets.working sets.recovery × (length counts.old ≡ groups_max) ×
-        (length counters.old ≡ counters_max) × (length requests.now ≤ prepared_records * record_bytes) ×
-        (length requests.now / record_bytes * answer_bytes ≤ length buf.old) × Rows acl.now bodies.now rows.now }
+    requires { length requests.now / record_bytes * answer_bytes ≤ length buf.old }
     ensures { Wrote counts.new counters.new loaded result buf.new
-        (writing (ask_sets km0.now (acl_of acl.now) sets.certified)
+        (writing (ask_sets plan.now.km0.now (acl_of plan.now.acl.now) plan.now.certified)
         (ledger_of_tables counts.old counters.old loaded before) buf.old 0 (records requests.now)) }
 {
-    let since = seconds_used(loaded, before);
-    let certified = sets.certified;
-    let unspent = run_decision::unspent_of(counts, counters, since, rows, certified);
+    let since = before.saturating_sub(loaded);
+    let unspent = plan.unspent_of(counts, counters, since, plan.certified);
     ask_records(
-        counts, counters, loaded, before, km0, acl, bodies, rows, uses, sets, unspent, requests,
-        buf,
+        counts, counters, loaded, before, plan, unspent, requests, buf,
     )
 }

@@ -7,12 +7,12 @@ use mathlib.Core.List.{List, [], ◌∷◌, ◌++◌}
 use mathlib.Core.Option.{Option, none, some}
 use mathlib.Core.Bool.{Bool, true, false, not, ◌&&◌}
 use borrow.Author.Tests.{leb-true, le-leb, lt-leb, not-true, not-false}
-use lib.ListN.{length, get_or, drop, replicate, length-replicate}
+use lib.ListN.{length, get_or, drop, replicate}
 use lib.Dec.{eqb, leb}
 use Rattle.rules.specs.Sizes.{hash_bytes, acl_records, answer_bytes, run_records, prepared_records, groups_max, set_bits}
 use Rattle.rules.specs.Numbers.{bad_length, short_buffer, other_form}
 use Rattle.rules.specs.Basics.{Bytes, unless, or_next, first_fault, records, fits}
-use Rattle.rules.specs.Acl.{acl_of, acl_fault}
+use Rattle.rules.specs.Acl.{acl_of}
 use Rattle.rules.specs.Ledger.{Ledger}
 use Rattle.rules.specs.Runs.{requests_in, run_lengths_fit, RunOutcome, ran, run_end, asked_in_order}
 use Rattle.rules.specs.Prepared.{Form, form_of, same_form}
@@ -22,9 +22,11 @@ use Rattle.run_requests.proofs.Loop.{writing_is}
 use Rattle.rules.proofs.AclSizes.{acl_fits}
 use Rattle.rules.proofs.Forms.{same_form_lem}
 use Rattle.run_form.specs.Places.{Inside, Offsets}
-use Rattle.run_limits.specs.Rows.{Fits}
+use Rattle.run_form.specs.declared.Prepared.{Prepared}
+use Rattle.run_form.specs.Forms.{form_as}
 use Rattle.gate_decision.specs.Standings.{ledger_of_tables}
-use Rattle.run_decision.specs.Deciding.{Ready, ask_sets}
+use Rattle.run_decision.specs.Ready.{Ready}
+use Rattle.run_decision.specs.Deciding.{ask_sets}
 use Rattle.run_certificates.specs.declared.RowSummary.{RowSummary}
 use Rattle.runs.specs.Judged.{run_refused, seen_fault, Known, asked_by_sets, run_seen, prepared_seen}
 
@@ -58,9 +60,13 @@ module _ {F : Type 0} (f : F) (ts : List (Option F)) (x : Option F) where
   flag_later t h p = p ∙ rw (not-false t h)
 
 -- the last two of the faults
-pub last_two : {F : Type 0} (x o t a b : Option F) → x ≡ or_next a b → a ≡ o → b ≡ t → x ≡ first_fault (o ∷ t ∷ [])
+pub first_of_two : {F : Type 0} (x o t : Option F) (f : F) → x ≡ some f → some f ≡ o → x ≡ first_fault (o ∷ t ∷ [])
 unfolding first_fault
-last_two {F = F} x o t a b e p q = e ∙ rw (p, q) (sym (ap (or_next o) (last t)))
+first_of_two x o t f e p = e ∙ rw (← p)
+
+pub last_of_two : {F : Type 0} (x o t : Option F) → none ≡ o → x ≡ t → x ≡ first_fault (o ∷ t ∷ [])
+unfolding first_fault
+last_of_two {F = F} x o t p e = e ∙ rw (← p) (sym (last t))
   where
     last : (s : Option F) → or_next s none ≡ s
     last none = refl
@@ -90,65 +96,38 @@ module _ (most : ℕ) (km0 acl : Bytes) (count : ℕ) (named : Bool) (requests :
 
 -- ---- the requests, one after the other
 pub zero_inside : (acl : Bytes) (n : ℕ) → Inside acl (replicate n 0)
-unfolding Inside
-zero_inside acl zero = tt
-zero_inside acl (suc n) = (omega arith, zero_inside acl n)
-
-zero_there : (n i : ℕ) → ◌≡◌ {A = ℕ} (get_or (replicate n 0) i 0) 0
-zero_there zero i = refl
-zero_there (suc n) zero = refl
-zero_there (suc n) (suc i) = zero_there n i
-
-pub zero_fits : (n : ℕ) → n ≡ 512 → Fits (replicate n 0)
-zero_fits n e = record { sized = length-replicate n 0 ∙ e; few = λ k. let z = zero_there n (k * 8 + 2) in omega arith }
+zero_inside acl n = record { each = λ k. let z = zero_there n k in omega arith }
+  where
+    zero_there : (n i : ℕ) → ◌≡◌ {A = ℕ} (get_or (replicate n 0) i 0) 0
+    zero_there zero i = refl
+    zero_there (suc n) zero = refl
+    zero_there (suc n) (suc i) = zero_there n i
 
 module _ (acl : Bytes) (form : Form) (requests : Bytes) (room : ℕ) (known : Known acl form requests room) where
-  -- the same of a form that is copied
-  pub known_as : (uses : List ℕ) (working recovery : ℕ) → uses ≡ form.uses → working ≡ form.working → recovery ≡ form.recovery
-      → Known acl (record { uses = uses; working = working; recovery = recovery }) requests room
-  known_as uses working recovery x y z = rw (x, y, z) known
-
-  pub known_sound : acl_fault (records acl) ≡ none
-  known_sound = known.sound
-
   pub known_groups : (groups : ℕ) → groups ≡ length (acl_of acl) → groups ≤ groups_max
   known_groups groups e = let h = (acl_fits acl known.sound).groups in omega arith
 
   pub known_few : length (acl_of acl) ≤ groups_max
   known_few = (acl_fits acl known.sound).groups
 
-  pub known_short : length requests ≤ 64000
-  known_short = known.few
-
-  pub known_roomy : length requests / 64 * 8 ≤ room
-  known_roomy = known.roomy
-
-pub known_ready : (acl : Bytes) (uses : List ℕ) (working recovery : ℕ) (requests : Bytes) (room : ℕ) (bodies : List ℕ)
-    → Known acl (record { uses = uses; working = working; recovery = recovery }) requests room → Offsets acl bodies → Ready acl bodies uses working recovery
-known_ready acl uses working recovery requests room bodies known b =
-    record {
-      sound = known.sound;
-      places = b;
-      uses_is = ap (λ (f : Form). f.uses) known.same;
-      working_is = ap (λ (f : Form). f.working) known.same;
-      recovery_is = ap (λ (f : Form). f.recovery) known.same;
-    }
+pub known_ready : (acl : Bytes) (form : Prepared) (requests : Bytes) (room : ℕ) (bodies : List ℕ) → Known acl (form_as form) requests room → Offsets acl bodies → Ready acl bodies form
+known_ready acl form requests room bodies known b = record { sound = known.sound; places = b; form_is = known.same }
 
 -- what they come to
-pub ran_is : (km0 acl : Bytes) (form : Form) (requests buffer after : Bytes) (counts counters counts' counters' : List ℕ) (loaded before last c d n : ℕ)
-    → Known acl form requests (length buffer) → d ≡ c
-    → ◌≡◌ {A = Running} (record { ledger = ledger_of_tables counts' counters' loaded last; buffer = after }) (writing (ask_sets km0 (acl_of acl) d) (ledger_of_tables counts counters loaded before) buffer 0 (records requests))
+pub ran_is : (km0 acl : Bytes) (form : Form) (requests buffer after : Bytes) (counts counters counts' counters' : List ℕ) (loaded before last c n : ℕ)
+    → Known acl form requests (length buffer)
+    → ◌≡◌ {A = Running} (record { ledger = ledger_of_tables counts' counters' loaded last; buffer = after }) (writing (ask_sets km0 (acl_of acl) c) (ledger_of_tables counts counters loaded before) buffer 0 (records requests))
     → n ≡ length requests / 64
     → ◌≡◌ {A = RunOutcome} (record { reply = ran n; ledger = ledger_of_tables counts' counters' loaded last; buffer = after })
     (run_end (ledger_of_tables counts counters loaded before) requests buffer none (asked_in_order (ask_sets km0 (acl_of acl) c) (ledger_of_tables counts counters loaded before) (records requests)))
 unfolding over_at
-ran_is km0 acl form requests buffer after counts counters counts' counters' loaded before last c d n known same w e =
+ran_is km0 acl form requests buffer after counts counters counts' counters' loaded before last c n known w e =
     let ask = ask_sets km0 (acl_of acl) c in
     let l = ledger_of_tables counts counters loaded before in
     let o = asked_in_order ask l (records requests) in
     let i = requests_in_lem requests in
     let h = known.roomy in
-    let x : ◌≡◌ {A = Running} (record { ledger = ledger_of_tables counts' counters' loaded last; buffer = after }) (record { ledger = o.ledger; buffer = over_at 0 o.answers buffer }) = w ∙ ap (λ (m : ℕ). writing (ask_sets km0 (acl_of acl) m) l buffer 0 (records requests)) same ∙ writing_is ask l buffer 0 (records requests) (omega arith) in
+    let x : ◌≡◌ {A = Running} (record { ledger = ledger_of_tables counts' counters' loaded last; buffer = after }) (record { ledger = o.ledger; buffer = over_at 0 o.answers buffer }) = w ∙ writing_is ask l buffer 0 (records requests) (omega arith) in
     let y : ledger_of_tables counts' counters' loaded last ≡ o.ledger = ap (λ (z : Running). z.ledger) x in
     let z : after ≡ (o.answers ++ drop (0 + length o.answers) buffer) = ap (λ (z : Running). z.buffer) x in
     let u : after ≡ (o.answers ++ drop (length o.answers) buffer) = z ∙ rw zero-add in

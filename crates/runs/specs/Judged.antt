@@ -1,6 +1,6 @@
 -- What a run of the code comes to, as the definitions have it, and a run by what was read of its row: the number of certificates, whether all name a
 -- mechanism, and the groups that they certify.
-use Rattle.std.specs.Prelude.{ℕ, ◌*◌, ◌/◌, ◌≤◌, ◌≡◌, Bool, [], ◌∷◌, length, leb}
+use Rattle.std.specs.Prelude.{ℕ, ◌*◌, ◌/◌, ◌≤◌, ◌≡◌, Bool, [], ◌∷◌, Result, Ok, Err, length, leb}
 use Rattle.std.proofs.Math.Option.{Option, none}
 use Rattle.rules.specs.Sizes.{record_bytes, certificates_max, answer_bytes, run_records, prepared_records}
 use Rattle.rules.specs.Numbers.{bad_length, malformed, too_many, short_buffer, other_form}
@@ -9,18 +9,17 @@ use Rattle.rules.specs.Acl.{acl_of, acl_fault}
 use Rattle.rules.specs.Ledger.{Ledger}
 use Rattle.rules.specs.Runs as rules
 use Rattle.rules.specs.Prepared.{Form, form_of, same_form}
+use Rattle.refusals.specs.declared.Refusal.{Refusal}
 use Rattle.refusals.specs.Refusals.{refusal_number}
 use Rattle.gate.specs.Outcomes.{ledger_as}
 use Rattle.run_decision.specs.Deciding.{ask_sets}
 use Rattle.run_certificates.specs.declared.RowSummary.{RowSummary}
-use Rattle.runs.specs.declared.RunReply.{RunReply}
-use Rattle.runs.specs.declared.RunReply.TheVariants.{Ran, Refused}
 use Rattle.runs.specs.declared.RunOutcome.{RunOutcome}
 
 -- the reply
-abbrev pub run_reply_as : RunReply → rules.RunReply
-run_reply_as (Ran n) = rules.ran n
-run_reply_as (Refused r) = rules.refused_whole (refusal_number r)
+abbrev pub run_reply_as : Result ℕ Refusal → rules.RunReply
+run_reply_as (Ok n) = rules.ran n
+run_reply_as (Err r) = rules.refused_whole (refusal_number r)
 
 -- what a run comes to, with the buffer afterwards
 abbrev pub run_outcome_as : RunOutcome → Bytes → rules.RunOutcome

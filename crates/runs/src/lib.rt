@@ -1,10 +1,9 @@
-// Runs over a lent row of decoded certificates. Each of the entries, which take the row, reads it and leaves the rest to one function with plain
-// parameters.
+// Runs over a lent row of decoded certificates. Each of the entries reads the row and leaves the rest to one function that takes what was read.
 #![tactic(auto)]
 
 ghost use Rattle.std.specs.Prelude.{◌≡◌, ◌≤◌, ◌*◌, length, leb};
 ghost use Rattle.std.proofs.Math.Option.{none};
-ghost use Rattle.rules.specs.Sizes.{answer_bytes, run_records, prepared_records, groups_max, counters_max};
+ghost use Rattle.rules.specs.Sizes.{answer_bytes, run_records, prepared_records};
 ghost use Rattle.rules.specs.Numbers.{short_buffer};
 ghost use Rattle.rules.specs.Basics.{Bytes, unless, records};
 ghost use Rattle.rules.specs.Acl.{acl_of};
@@ -20,36 +19,27 @@ ghost use Rattle.run_requests.specs.Written.{writing, Wrote};
 ghost use Rattle.run_certificates.specs.Rows.{row_as};
 ghost use Rattle.runs.specs.Judged.{run_outcome_as, run_refused, seen_fault, Known, run_seen, prepared_seen};
 
-use files::Checked;
 use gate::Ledger;
 use refusals::Refusal;
 use run_certificates::{Certificate, RowSummary};
-use run_decision::Sets;
+use run_decision::Plan;
 use run_form::Prepared;
+use run_limits::Row;
 
-// What a run replies: the number of its requests, or a refusal of it as a whole.
-#[derive(Clone, Copy)]
-pub enum RunReply {
-    Ran(usize),
-    Refused(Refusal),
-}
-
-// The ledger handed back, with the reply.
+// The ledger handed back, with the reply: the number of the run's requests, or a refusal of it as a whole.
 #[derive(Clone, Copy)]
 pub struct RunOutcome {
     pub ledger: Ledger,
-    pub reply: RunReply,
+    pub reply: Result<usize, Refusal>,
 }
 
-// The sets of groups that a run goes by, beside those of the permissions.
-fn sets_of(form: Prepared, certified: u64) -> Sets
-    ensures { (result.working ≡ form.working) × (result.recovery ≡ form.recovery) × (result.certified ≡ certified) }
-{
-    Sets {
-        working: form.working,
-        recovery: form.recovery,
-        certified,
-    }
+// What a run is lent beside the ledger and the answer buffer: KM0, the ACL, what was read of the row, and the request records.
+#[derive(Clone, Copy)]
+pub struct Asked<'a> {
+    pub km0: &'a [u8],
+    pub acl: &'a [u8],
+    pub seen: RowSummary,
+    pub requests: &'a [u8],
 }
 
 // The requests of a run that is not refused whole, one after the other, on lent tables; the last time after them. What a run looks up again and again is made
@@ -59,45 +49,53 @@ fn ask_known(
     counters: &mut [u32; Ledger::COUNTERS],
     loaded: u64,
     before: u64,
-    km0: &[u8],
-    acl: &[u8],
-    uses: &[u64; record_sizes::PERMISSIONS],
-    sets: Sets,
-    requests: &[u8],
+    asked: &Asked,
+    form: &Prepared,
     answers: &mut [u8],
 ) -> u64
-    requires { Known acl.now (record { uses = uses.now; working = sets.working; recovery = sets.recovery }) requests.now (length answers.old) ×
-        (length counts.old ≡ groups_max) × (length counters.old ≡ counters_max) }
+    requires { Known asked.now.acl.now (form_as form.now) asked.now.requests.now (length answers.old) }
     ensures { Wrote counts.new counters.new loaded result answers.new
-        (writing (ask_sets km0.now (acl_of acl.now) sets.certified)
-        (ledger_of_tables counts.old counters.old loaded before) answers.old 0 (records requests.now)) }
+        (writing (ask_sets asked.now.km0.now (acl_of asked.now.acl.now) asked.now.seen.certified)
+        (ledger_of_tables counts.old counters.old loaded before) answers.old 0 (records asked.now.requests.now)) }
 {
     let mut bodies = [0usize; Ledger::GROUPS];
-    let groups = run_form::fill_offsets(&mut bodies, acl);
-    let mut rows = [0u64; run_limits::TABLE];
-    run_limits::fill_rows(&mut rows, acl, &bodies, groups);
+    let groups = run_form::fill_offsets(&mut bodies, asked.acl);
+    let blank = Row {
+        bound: 0,
+        last: 0,
+        named: 0,
+        words: [0; record_sizes::LIMITS],
+    };
+    let mut rows = [blank; Ledger::GROUPS];
+    run_limits::fill_rows(&mut rows, asked.acl, &bodies, groups);
+    let plan = Plan {
+        km0: asked.km0,
+        acl: asked.acl,
+        bodies: &bodies,
+        rows: &rows,
+        form,
+        certified: asked.seen.certified,
+    };
     run_requests::run_records(
-        counts, counters, loaded, before, km0, acl, &bodies, &rows, uses, sets, requests, answers,
+        counts,
+        counters,
+        loaded,
+        before,
+        &plan,
+        asked.requests,
+        answers,
     )
 }
 
 // The requests of a run that is not refused whole. The tables are copied once, and charged in place.
-fn run_known(
-    mut ledger: Ledger,
-    km0: &[u8],
-    acl: &[u8],
-    certified: u64,
-    form: Prepared,
-    requests: &[u8],
-    answers: &mut [u8],
-) -> RunOutcome
-    requires { Known acl.now (form_as form) requests.now (length answers.old) }
+fn run_known(mut ledger: Ledger, asked: &Asked, form: &Prepared, answers: &mut [u8]) -> RunOutcome
+    requires { Known asked.now.acl.now (form_as form.now) asked.now.requests.now (length answers.old) }
     ensures { run_outcome_as result answers.new ≡
-        run_end (ledger_as ledger) requests.now answers.old none
-        (asked_in_order (ask_sets km0.now (acl_of acl.now) certified) (ledger_as ledger) (records requests.now)) }
+        run_end (ledger_as ledger) asked.now.requests.now answers.old none
+        (asked_in_order (ask_sets asked.now.km0.now (acl_of asked.now.acl.now) asked.now.seen.certified) (ledger_as ledger)
+        (records asked.now.requests.now)) }
 {
     let mut counts = ledger.counts;
-    let uses = form.uses;
     let loaded = ledger.loaded;
     let before = ledger.last;
     ledger.last = ask_known(
@@ -105,17 +103,14 @@ fn run_known(
         &mut ledger.counters,
         loaded,
         before,
-        km0,
-        acl,
-        &uses,
-        sets_of(form, certified),
-        requests,
+        asked,
+        form,
         answers,
     );
     ledger.counts = counts;
     RunOutcome {
         ledger,
-        reply: RunReply::Ran(requests.len() / Ledger::RECORD),
+        reply: Ok(asked.requests.len() / Ledger::RECORD),
     }
 }
 
@@ -130,38 +125,32 @@ fn lengths_fit(most: usize, km0: &[u8], acl: &[u8], requests: &[u8]) -> bool
 }
 
 // Whether the answers have room.
-fn answers_fit(requests: &[u8], room: usize) -> Checked
+fn answers_fit(requests: &[u8], room: usize) -> Result<(), Refusal>
     ensures { fault_as result ≡ unless (leb (requests_in requests.now * answer_bytes) room) short_buffer }
 {
     if requests.len() / Ledger::RECORD * record_sizes::ANSWER <= room {
-        return Checked::Sound;
+        return Ok(());
     }
-    Checked::Refused(Refusal::ShortBuffer)
+    Err(Refusal::ShortBuffer)
 }
 
 // The first refusal of a run as a whole: 1, 3, 2, the ACL's number, 9.
-fn seen_fault(
-    most: usize,
-    km0: &[u8],
-    acl: &[u8],
-    count: usize,
-    named: bool,
-    requests: &[u8],
-    room: usize,
-) -> Checked
+fn seen_fault(most: usize, asked: &Asked, room: usize) -> Result<(), Refusal>
     requires { most ≤ prepared_records }
-    ensures { fault_as result ≡ seen_fault most km0.now acl.now count named requests.now room }
+    ensures { fault_as result ≡
+        seen_fault most asked.now.km0.now asked.now.acl.now asked.now.seen.count asked.now.seen.named asked.now.requests.now room }
 {
-    if !lengths_fit(most, km0, acl, requests) {
-        return Checked::Refused(Refusal::BadLength);
+    if !lengths_fit(most, asked.km0, asked.acl, asked.requests) {
+        return Err(Refusal::BadLength);
     }
-    if record_sizes::CERTIFICATES < count {
-        return Checked::Refused(Refusal::TooMany);
+    if record_sizes::CERTIFICATES < asked.seen.count {
+        return Err(Refusal::TooMany);
     }
-    if !named {
-        return Checked::Refused(Refusal::Malformed);
+    if !asked.seen.named {
+        return Err(Refusal::Malformed);
     }
-    files::first_fault(acl_reader::acl_records(acl), answers_fit(requests, room))
+    acl_reader::acl_records(asked.acl)?;
+    answers_fit(asked.requests, room)
 }
 
 // A refusal of a run as a whole: the ledger stands.
@@ -170,99 +159,58 @@ fn refused(ledger: Ledger, why: Refusal) -> RunOutcome
 {
     RunOutcome {
         ledger,
-        reply: RunReply::Refused(why),
+        reply: Err(why),
     }
 }
 
 // A run that is not refused whole: the form is made of its ACL.
-fn run_made(
-    ledger: Ledger,
-    km0: &[u8],
-    acl: &[u8],
-    seen: RowSummary,
-    requests: &[u8],
-    answers: &mut [u8],
-) -> RunOutcome
-    requires { seen_fault run_records km0.now acl.now seen.count seen.named requests.now (length answers.old) ≡ none }
+fn run_made(ledger: Ledger, asked: &Asked, answers: &mut [u8]) -> RunOutcome
+    requires { seen_fault run_records asked.now.km0.now asked.now.acl.now asked.now.seen.count asked.now.seen.named asked.now.requests.now
+        (length answers.old) ≡ none }
     ensures { run_outcome_as result answers.new ≡
-        run_seen (ledger_as ledger) km0.now acl.now seen requests.now answers.old }
+        run_seen (ledger_as ledger) asked.now.km0.now asked.now.acl.now asked.now.seen asked.now.requests.now answers.old }
 {
-    let form = run_form::form_of(acl);
-    run_known(ledger, km0, acl, seen.certified, form, requests, answers)
+    let form = run_form::form_of(asked.acl);
+    run_known(ledger, asked, &form, answers)
 }
 
 // A run on a prepared ACL whose form is still to be compared with the one made of the ACL.
-fn run_passed(
-    ledger: Ledger,
-    km0: &[u8],
-    acl: &[u8],
-    seen: RowSummary,
-    form: Prepared,
-    requests: &[u8],
-    answers: &mut [u8],
-) -> RunOutcome
-    requires { seen_fault prepared_records km0.now acl.now seen.count seen.named requests.now (length answers.old) ≡ none }
+fn run_passed(ledger: Ledger, asked: &Asked, form: Prepared, answers: &mut [u8]) -> RunOutcome
+    requires { seen_fault prepared_records asked.now.km0.now asked.now.acl.now asked.now.seen.count asked.now.seen.named asked.now.requests.now
+        (length answers.old) ≡ none }
     ensures { run_outcome_as result answers.new ≡
-        prepared_seen (ledger_as ledger) km0.now acl.now seen (form_as form) requests.now answers.old }
+        prepared_seen (ledger_as ledger) asked.now.km0.now asked.now.acl.now asked.now.seen (form_as form) asked.now.requests.now answers.old }
 {
-    if !run_form::same_form(form, run_form::form_of(acl)) {
+    if !run_form::same_form(form, run_form::form_of(asked.acl)) {
         return refused(ledger, Refusal::OtherForm);
     }
-    run_known(ledger, km0, acl, seen.certified, form, requests, answers)
+    run_known(ledger, asked, &form, answers)
 }
 
 // A run, by what was read of its row: the refusals of it as a whole, in document 02's order, then its requests one after the other.
-pub fn run_judged(
-    ledger: Ledger,
-    km0: &[u8],
-    acl: &[u8],
-    seen: RowSummary,
-    requests: &[u8],
-    answers: &mut [u8],
-) -> RunOutcome
+pub fn run_judged(ledger: Ledger, asked: &Asked, answers: &mut [u8]) -> RunOutcome
     ensures { run_outcome_as result answers.new ≡
-        run_seen (ledger_as ledger) km0.now acl.now seen requests.now answers.old }
+        run_seen (ledger_as ledger) asked.now.km0.now asked.now.acl.now asked.now.seen asked.now.requests.now answers.old }
 {
-    let fault = seen_fault(
-        record_sizes::RUN_RECORDS,
-        km0,
-        acl,
-        seen.count,
-        seen.named,
-        requests,
-        answers.len(),
-    );
-    match fault {
-        Checked::Refused(r) => refused(ledger, r),
-        Checked::Sound => run_made(ledger, km0, acl, seen, requests, answers),
+    match seen_fault(record_sizes::RUN_RECORDS, asked, answers.len()) {
+        Err(why) => refused(ledger, why),
+        Ok(()) => run_made(ledger, asked, answers),
     }
 }
 
 // The same on a prepared ACL.
 pub fn prepared_judged(
     ledger: Ledger,
-    km0: &[u8],
-    acl: &[u8],
-    seen: RowSummary,
+    asked: &Asked,
     form: Prepared,
-    requests: &[u8],
     answers: &mut [u8],
 ) -> RunOutcome
     ensures { run_outcome_as result answers.new ≡
-        prepared_seen (ledger_as ledger) km0.now acl.now seen (form_as form) requests.now answers.old }
+        prepared_seen (ledger_as ledger) asked.now.km0.now asked.now.acl.now asked.now.seen (form_as form) asked.now.requests.now answers.old }
 {
-    let fault = seen_fault(
-        record_sizes::PREPARED_RECORDS,
-        km0,
-        acl,
-        seen.count,
-        seen.named,
-        requests,
-        answers.len(),
-    );
-    match fault {
-        Checked::Refused(r) => refused(ledger, r),
-        Checked::Sound => run_passed(ledger, km0, acl, seen, form, requests, answers),
+    match seen_fault(record_sizes::PREPARED_RECORDS, asked, answers.len()) {
+        Err(why) => refused(ledger, why),
+        Ok(()) => run_passed(ledger, asked, form, answers),
     }
 }
 
@@ -279,14 +227,14 @@ pub fn run(
     ensures { run_outcome_as result answers.new ≡
         run (ledger_as ledger) km0.now acl.now (row_as row.now) requests.now answers.old }
 {
-    run_judged(
-        ledger,
+    let seen = run_certificates::read_row(acl, row);
+    let asked = Asked {
         km0,
         acl,
-        run_certificates::read_row(acl, row),
+        seen,
         requests,
-        answers,
-    )
+    };
+    run_judged(ledger, &asked, answers)
 }
 
 // A run on a prepared ACL: the form besides.
@@ -303,13 +251,12 @@ pub fn prepared_run(
         prepared_run (ledger_as ledger) km0.now acl.now (row_as row.now) (form_as form) requests.now
         answers.old }
 {
-    prepared_judged(
-        ledger,
+    let seen = run_certificates::read_row(acl, row);
+    let asked = Asked {
         km0,
         acl,
-        run_certificates::read_row(acl, row),
-        form,
+        seen,
         requests,
-        answers,
-    )
+    };
+    prepared_judged(ledger, &asked, form, answers)
 }

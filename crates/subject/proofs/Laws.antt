@@ -1,28 +1,23 @@
 -- Bytes written over the front of a buffer piece by piece, and the tests of the code in the definitions' terms.
-use Prim.Native.Nat.{ℕ, zero, suc, ◌≤◌, ◌<◌, ◌+◌, ◌-◌, ◌%◌}
-use Prim.Native.String.{String}
+use Prim.Native.Nat.{ℕ, ◌≤◌, ◌<◌, ◌+◌, ◌-◌}
 use native.Mathlib.Omega.{arith}
-use native.Mathlib.Nat.{add-sub_cancel_left, le_trans}
-use mathlib.Core.Path.{◌≡◌, refl, sym, ◌∙◌, ap, subst}
-use mathlib.Core.List.{[], ◌∷◌, ◌++◌, append_assoc, append-nil}
+use mathlib.Core.Path.{◌≡◌, refl, sym, ◌∙◌, ap}
+use mathlib.Core.List.{[], ◌++◌, append_assoc, append-nil}
 use mathlib.Core.Option.{none, some}
-use mathlib.Core.Bool.{Bool, true, false}
-use lib.ListN.{length, take, drop, get_or, length-append, length-drop, drop_of_length-le, take-append-drop}
-use lib.Seq.{drop-cons, length-take-le, take_all, take-take, take-append-le, drop-append-add, drop-drop, drop_at, take_at, take-add, sets, lt-length-sets, sets-eq}
-use lib.Dec.{eqb, leb}
+use mathlib.Core.Bool.{true, false}
+use lib.ListN.{length, take, drop, length-append, length-drop, drop_of_length-le}
+use lib.Seq.{take_all, drop-drop, drop_at, take_at}
+use lib.Dec.{leb}
 use borrow.Author.Tests.{eq-eqb, ne_eqb, le-leb, lt-leb, leb-true}
-use Rattle.rules.specs.Sizes.{hash_bytes}
 use Rattle.rules.specs.Numbers.{bad_length, short_buffer, out_of_range, unknown_suite}
-use Rattle.rules.specs.Basics.{Bytes, ascii, first_fault}
+use Rattle.rules.specs.Basics.{Bytes, first_fault}
 use Rattle.rules.specs.Layout.{between}
 use Rattle.rules.proofs.Laws.{and_left, and_right}
 use Rattle.rules.specs.Suites.{Suite, suite, header_under}
 use Rattle.rules.specs.Subject.{SubjectReply, written, unwritten, header_bytes, subject, hashes_bytes, subject_fault, subject_reply, subject_buffer}
-use Rattle.suites.specs.declared.Header.{Header}
-use Rattle.suites.specs.declared.Suite as declared
 use Rattle.suites.specs.Calls.{refuses, called_for}
 use Rattle.suites.proofs.Laws.{suite_found, suite_measured}
-use Rattle.subject.specs.Writing.{overwritten, header_of, headed_fault, headed_reply, headed_buffer}
+use Rattle.subject.specs.Writing.{overwritten, headed_fault, headed_reply, headed_buffer}
 
 pub over_length : (s d : Bytes) → length s ≤ length d → length (overwritten s d) ≡ length d
 unfolding overwritten
@@ -51,113 +46,9 @@ over_next s t d x e n p en h q =
     let f : e ≡ overwritten t (drop n (overwritten s d)) = q ∙ ap (overwritten t) (whole ∙ ap (drop n) p) in
     ap (λ (l : Bytes). take n l ++ (e ++ drop (length x - n) (drop n l))) p ∙ over_then s t d e n (length x - n) en h (omega arith) f
 
--- A piece over as many bytes is the piece.
-over_whole : (s d : Bytes) → length s ≡ length d → overwritten s d ≡ s
-unfolding overwritten
-over_whole s d e = rw (drop_of_length-le d {i = length s} (omega arith)) (append-nil s)
-
--- A second piece instead of as many bytes after the first.
-over_piece : (s t d : Bytes) (i n : ℕ) → length s ≡ i → length t ≡ n → take i (overwritten s d) ++ (t ++ drop n (drop i (overwritten s d))) ≡ overwritten (s ++ t) d
-unfolding overwritten
-over_piece s t d i n l m =
-    let a : take i (s ++ drop (length s) d) ≡ s = take_at s (drop (length s) d) i l in
-    let b : drop i (s ++ drop (length s) d) ≡ drop (length s) d = drop_at s (drop (length s) d) i l in
-    rw (a, b, ← m) (sym (append_assoc s t (drop (length (s ++ t)) d) ∙ ap (λ (l : Bytes). s ++ (t ++ l)) (drop_both s t d)))
-
--- The n bytes of s from i on, read one by one.
-abbrev pub reads : Bytes → ℕ → ℕ → Bytes
-reads s i zero = []
-reads s i (suc n) = get_or s i 0 ∷ reads s (suc i) n
-
-reads_part : (s : Bytes) (i n : ℕ) → i + n ≤ length s → reads s i n ≡ take n (drop i s)
-reads_part s i zero h = refl
-reads_part s i (suc n) h = sym (ap (take (suc n)) (drop-cons s i 0 (omega arith)) ∙ ap (λ (l : Bytes). get_or s i 0 ∷ l) (sym (reads_part s (suc i) n (omega arith))))
-
--- All the bytes of a word, read one by one and then written one by one: there is room for each, and they are over the word that was there.
-module _ (s d : Bytes) (k : length d ≡ 8) where
-  pub word_room : (i n : ℕ) → i < 8 → i < length (sets d 0 (reads s 0 n))
-  word_room i n h = lt-length-sets d 0 (reads s 0 n) (omega arith)
-
-  pub word_over : length s ≡ 8 → sets d 0 (reads s 0 8) ≡ overwritten s d
-  unfolding overwritten
-  word_over h =
-      let all : reads s 0 8 ≡ s = reads_part s 0 8 (omega arith) ∙ take_all 8 s (omega arith) in
-      sets-eq (reads s 0 8) d 0 (omega arith) ∙ ap (λ (l : Bytes). l ++ drop 8 d) all ∙ ap (λ (n : ℕ). s ++ drop n d) (sym h)
-
--- The first i bytes of s over the front of d: what the loops keep. Shut, so that a search reads s, d and i off it.
-unfoldable pub copied : Bytes → Bytes → ℕ → Bytes
-copied s d i = overwritten (take i s) d
-
-module _ (s d : Bytes) where
-  pub copied_zero : d ≡ copied s d 0
-  unfolding copied overwritten
-  copied_zero = refl
-
-  pub copied_done : (e : Bytes) (i : ℕ) → length s ≤ i → e ≡ copied s d i → e ≡ overwritten s d
-  unfolding copied
-  copied_done e i h q = q ∙ ap (λ (l : Bytes). overwritten l d) (take_all i s h)
-
-  -- n bytes more, `&s[i..i + n]`, into the part that is lent as `&mut x[i..i + n]`
-  pub copied_part : (x e : Bytes) (i n : ℕ) → i + n ≤ length s → length s ≤ length d → x ≡ copied s d i
-      → e ≡ overwritten (take (i + n - i) (drop i s)) (take (i + n - i) (drop i x))
-      → take i x ++ (e ++ drop (i + n - i) (drop i x)) ≡ copied s d (i + n)
-  unfolding copied
-  copied_part x e i n h k q f =
-      let l : length (take i s) ≡ i = length-take-le i s (omega arith) in
-      let c : i + n - i ≡ n = add-sub_cancel_left i n in
-      let m : length (take n (drop i s)) ≡ n = length-take-le n (drop i s) (omega (arith, length-drop i s)) in
-      let len : length x ≡ length d = ap length q ∙ over_length (take i s) d (omega arith) in
-      let u : length (take n (drop i x)) ≡ n = length-take-le n (drop i x) (omega (arith, length-drop i x)) in
-      let g : e ≡ take n (drop i s) = f ∙ ap (λ (j : ℕ). overwritten (take j (drop i s)) (take j (drop i x))) c ∙ over_whole (take n (drop i s)) (take n (drop i x)) (m ∙ sym u) in
-      ap (λ (z : Bytes). take i x ++ (z ++ drop (i + n - i) (drop i x))) g
-      ∙ ap (λ (j : ℕ). take i x ++ (take n (drop i s) ++ drop j (drop i x))) c
-      ∙ ap (λ (z : Bytes). take i z ++ (take n (drop i s) ++ drop n (drop i z))) q
-      ∙ over_piece (take i s) (take n (drop i s)) d i n l m
-      ∙ ap (λ (z : Bytes). overwritten z d) (sym (take-add i n s))
-
-  -- the last bytes, `&s[k..n]`, where the first i are written, some of the last among them
-  pub copied_last : (x e : Bytes) (i k n : ℕ) → k ≤ i → i ≤ n → n ≡ length s → length s ≤ length d → x ≡ copied s d i
-      → e ≡ overwritten (take (n - k) (drop k s)) (take (n - k) (drop k x))
-      → take k x ++ (e ++ drop (n - k) (drop k x)) ≡ overwritten s d
-  unfolding copied overwritten
-  copied_last x e i k n h j m w q f =
-      let l : length (take i s) ≡ i = length-take-le i s (omega arith) in
-      let len : length x ≡ length d = ap length q ∙ over_length (take i s) d (omega arith) in
-      let front : take k x ≡ take k s = ap (take k) q ∙ take-append-le k (take i s) (drop (length (take i s)) d) (omega arith) ∙ take-take k i s h in
-      let here : k + (n - k) ≡ length (take i s) + (length s - i) = omega arith in
-      let there : length (take i s) + (length s - i) ≡ length s = omega arith in
-      let back : drop (n - k) (drop k x) ≡ drop (length s) d =
-      drop-drop (n - k) k x
-      ∙ ap (λ (z : ℕ). drop z x) here
-      ∙ ap (drop (length (take i s) + (length s - i))) q
-      ∙ drop-append-add (take i s) (drop (length (take i s)) d) (length s - i)
-      ∙ drop-drop (length s - i) (length (take i s)) d
-      ∙ ap (λ (z : ℕ). drop z d) there
-      in
-      let piece : take (n - k) (drop k s) ≡ drop k s = take_all (n - k) (drop k s) (omega (arith, length-drop k s)) in
-      let u : length (take (n - k) (drop k x)) ≡ n - k = length-take-le (n - k) (drop k x) (omega (arith, length-drop k x)) in
-      let v : length (take (n - k) (drop k s)) ≡ n - k = length-take-le (n - k) (drop k s) (omega (arith, length-drop k s)) in
-      let g : e ≡ drop k s = f ∙ over_whole (take (n - k) (drop k s)) (take (n - k) (drop k x)) (v ∙ sym u) ∙ piece in
-      rw (front, back, g) (sym (append_assoc (take k s) (drop k s) (drop (length s) d)) ∙ ap (λ (z : Bytes). z ++ drop (length s) d) (take-append-drop k s))
-
--- There is room for a text that is no longer than the header text, by the choice of it.
-pub room_at : (f : Header → String) (n m : ℕ) (h k : Header) → m ≤ length (ascii (f k)) → length (ascii (f h)) ≤ n → h ≡ k → m ≤ n
-room_at f n m h k r e q = le_trans r (subst (λ (x : Header). length (ascii (f x)) ≤ n) q e)
-
--- the same for the header of a certificate
-pub room_under : (s : declared.Suite) (n c k : ℕ) → length (header_of c s) ≤ n → c ≡ k → length (header_of k s) ≤ n
-room_under s n c k e q = subst (λ (x : ℕ). length (header_of x s) ≤ n) q e
-
--- The certificates: only 5 is left past 3 and 4. The hashes of each are whole.
+-- The certificates: only 5 is left past 3 and 4.
 pub certificate_5 : (n : ℕ) → between 3 5 n ≡ true → (n ≡ 3 → ⊥) → (n ≡ 4 → ⊥) → n ≡ 5
 certificate_5 n h a b = let l = leb-true 3 n (and_left (leb 3 n) (leb n 5) h) in let m = leb-true n 5 (and_right (leb 3 n) (leb n 5) h) in omega arith
-
-pub hashes_whole : (n : ℕ) → hashes_bytes n % hash_bytes ≡ 0
-hashes_whole n = pick (eqb n 4) refl
-  where
-    pick : (b : Bool) → eqb n 4 ≡ b → hashes_bytes n % hash_bytes ≡ 0
-    pick true e = rw e
-    pick false e = rw e
 
 -- A header and hashes of a length: the ways out of the writer, by the tests that the code made.
 module _ (header : Bytes) (size : ℕ) (hashes buffer : Bytes) where

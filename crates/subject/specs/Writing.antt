@@ -1,20 +1,19 @@
 -- What the answers of this crate say, and bytes written over the front of a buffer.
-use Rattle.std.specs.Prelude.{ℕ, [], ◌∷◌, ◌++◌, length, drop, eqb, leb}
+use Rattle.std.specs.Prelude.{Result, Ok, Err, ℕ, [], ◌∷◌, ◌++◌, length, drop, eqb, leb}
 use Rattle.std.proofs.Math.Option.{Option, some}
 use Rattle.rules.specs.Numbers.{bad_length, short_buffer}
 use Rattle.rules.specs.Basics.{Bytes, unless, first_fault}
 use Rattle.rules.specs.Suites.{header_under}
 use Rattle.rules.specs.Subject.{SubjectReply, written, unwritten, header_bytes, written_length, written_over}
+use Rattle.refusals.specs.declared.Refusal.{Refusal}
 use Rattle.refusals.specs.Refusals.{refusal_number}
 use Rattle.suites.specs.declared.Suite.{Suite}
 use Rattle.suites.specs.Calls.{suite_as}
-use Rattle.subject.specs.declared.Written.{Written}
-use Rattle.subject.specs.declared.Written.TheVariants.{Length, Refused}
 
 -- a length, or the number of a refusal
-abbrev pub subject_reply_as : Written → SubjectReply
-subject_reply_as (Length n) = written n
-subject_reply_as (Refused r) = unwritten (refusal_number r)
+abbrev pub subject_reply_as : Result ℕ Refusal → SubjectReply
+subject_reply_as (Ok n) = written n
+subject_reply_as (Err r) = unwritten (refusal_number r)
 
 -- the header of a certificate under a suite
 abbrev pub header_of : ℕ → Suite → Bytes

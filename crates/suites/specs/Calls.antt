@@ -1,5 +1,5 @@
 -- What the match on a suite's number gives, by the definitions: the suite, and the lengths of its subjects.
-use Rattle.std.specs.Prelude.{ℕ, ◌+◌, ◌*◌, ◌≡◌, length}
+use Rattle.std.specs.Prelude.{Result, Ok, Err, ℕ, ◌+◌, ◌*◌, ◌≡◌, length}
 use Prim.Native.String.{String}
 use Rattle.std.proofs.Math.Option.{Option, none, some}
 use Rattle.rules.specs.Sizes.{hash_bytes}
@@ -10,8 +10,7 @@ use Rattle.refusals.specs.Refusals.{refusal_number}
 use Rattle.suites.specs.declared.Header.{Header}
 use Rattle.suites.specs.declared.Header.TheVariants.{Plain, TypeRijndael, Dlf3072Rijndael, Dlf3072Aes, Ecp521Aes}
 use Rattle.suites.specs.declared.Suite.{Suite}
-use Rattle.suites.specs.declared.Lookup.{Lookup}
-use Rattle.suites.specs.declared.Lookup.TheVariants.{Known, Refused}
+use Rattle.refusals.specs.declared.Refusal.{Refusal}
 
 -- "A match on the suite number gives the recovery mechanism, header text choice and length": the suite, and the total lengths of certificates 3 and 4
 pub record Calls : Type 0 where
@@ -45,9 +44,9 @@ abbrev pub suite_as : Suite → rules.Suite
 suite_as s = record { mechanism = s.mechanism; module_keys = keys_text s.header; module_setup = setup_text s.header }
 
 -- the code's answer
-abbrev pub lookup_as : Lookup → SuiteAnswer
-lookup_as (Known s) = calls (record { suite = suite_as s; module_keys_bytes = s.keys; module_setup_bytes = s.setup })
-lookup_as (Refused r) = refuses (refusal_number r)
+abbrev pub lookup_as : Result Suite Refusal → SuiteAnswer
+lookup_as (Ok s) = calls (record { suite = suite_as s; module_keys_bytes = s.keys; module_setup_bytes = s.setup })
+lookup_as (Err r) = refuses (refusal_number r)
 
 -- what a suite calls for: "each hash is written straight into its place after the header", three hashes for certificate 3 and four for certificate 4
 abbrev pub lookup_for : Option rules.Suite → SuiteAnswer

@@ -7,7 +7,7 @@ ghost use Rattle.suites.specs.Calls.{lookup_as, called_for};
 use refusals::Refusal;
 
 // Which header texts the subjects of certificates 3 and 4 have.
-#[derive(Clone, Copy)]
+#[derive(Clone, Copy, Debug, PartialEq, Eq)]
 pub enum Header {
     Plain,
     TypeRijndael,
@@ -17,7 +17,7 @@ pub enum Header {
 }
 
 // What a suite calls for: its recovery mechanism, the choice of the header texts, and the total lengths of the subjects of certificates 3 and 4.
-#[derive(Clone, Copy)]
+#[derive(Clone, Copy, Debug, PartialEq, Eq)]
 pub struct Suite {
     pub mechanism: u16,
     pub header: Header,
@@ -26,47 +26,40 @@ pub struct Suite {
 }
 
 // The suite of a number, or the refusal of a number that is no suite's.
-#[derive(Clone, Copy)]
-pub enum Lookup {
-    Known(Suite),
-    Refused(Refusal),
-}
-
-// The suite of a number.
-pub fn suite_of(n: u64) -> Lookup
+pub fn suite_of(n: u64) -> Result<Suite, Refusal>
     ensures { lookup_as result ≡ called_for n }
 {
     match n {
-        1 => Lookup::Known(Suite {
+        1 => Ok(Suite {
             mechanism: 1,
             header: Header::Plain,
             keys: 72,
             setup: 100,
         }),
-        2 => Lookup::Known(Suite {
+        2 => Ok(Suite {
             mechanism: 2,
             header: Header::TypeRijndael,
             keys: 90,
             setup: 118,
         }),
-        3 => Lookup::Known(Suite {
+        3 => Ok(Suite {
             mechanism: 2,
             header: Header::Dlf3072Rijndael,
             keys: 102,
             setup: 130,
         }),
-        4 => Lookup::Known(Suite {
+        4 => Ok(Suite {
             mechanism: 3,
             header: Header::Dlf3072Aes,
             keys: 109,
             setup: 137,
         }),
-        5 => Lookup::Known(Suite {
+        5 => Ok(Suite {
             mechanism: 4,
             header: Header::Ecp521Aes,
             keys: 92,
             setup: 120,
         }),
-        _ => Lookup::Refused(Refusal::UnknownSuite),
+        _ => Err(Refusal::UnknownSuite),
     }
 }

@@ -4,34 +4,34 @@ use native.Mathlib.Omega.{arith}
 use mathlib.Core.Path.{◌≡◌, refl, sym, ◌∙◌, ap}
 use mathlib.Core.List.{List, [], ◌∷◌, ◌++◌, map, flatten}
 use mathlib.Core.Option.{Option, none, some}
-use mathlib.Core.Bool.{Bool, true, false, not, false≢true}
+use mathlib.Core.Bool.{Bool, true, false}
 use lib.ListN.{length, take, drop, length-drop, drop_of_length-le}
 use lib.Seq.{take_all}
-use borrow.Author.Tests.{le-leb, lt-leb, not-true, not-false}
+use borrow.Author.Tests.{le-leb, lt-leb}
 use Rattle.rules.specs.Sizes.{record_bytes}
 use Rattle.rules.specs.Basics.{Bytes, Every, same, present, unless, or_next, scan, records}
 use Rattle.rules.specs.Acl.{AclState, after_record, acl_record_fault, acl_end}
 use Rattle.rules.proofs.Laws.{never}
 use Rattle.rules.proofs.Rows.{first, no_rows}
 use Rattle.refusals.specs.Refusals.{refusal_number}
-use Rattle.files.specs.declared.Checked.{Checked}
-use Rattle.files.specs.declared.Checked.TheVariants as code
-use Rattle.files.specs.Faults.{fault_as}
-use Rattle.acl_reader.specs.Places.{on, read_past, reading, checked_as}
+use Rattle.refusals.specs.declared.Refusal.{Refusal}
+use Rattle.acl_reader.specs.declared.state.State.{State}
+use Rattle.acl_reader.specs.Places.{stopped, on, read_past, reading, reading_as, acl_state_as}
+use Rattle.std.specs.Prelude.{Result, Ok, Err, if◌then◌else◌}
 use Rattle.refusals.specs.declared.Refusal.TheVariants.{ShortBuffer}
 use Rattle.text_rules.specs.Words.{line_of}
 use Rattle.text_rules.specs.Decoding.{decoded}
-use Rattle.text_rules.specs.Kinds.{FileKind}
-use Rattle.text_rules.specs.Listing.{lines_of, as_written, good_in, good_line, fault_at_line, past_line, text_end, text_fault, bytes_by, reading_of, read_text, produced, delivered_as, read_text_into, IsRecord}
+use Rattle.text_rules.specs.Kinds.{FileKind, acl_kind}
+use Rattle.text_rules.specs.Listing.{lines_of, as_written, good_in, fault_at_line, past_line, text_end, text_fault, bytes_by, reading_of, read_text, produced, delivered_as, read_text_into, IsRecord}
 use Rattle.text_rules.proofs.Records.{decoded_record}
 use Rattle.text_rules.proofs.Files.{flat_length}
 use Rattle.text_bytes.specs.Putting.{Put, Held}
 use Rattle.text_bytes.proofs.Laws.{put_front, Filled, filled_none, filled_room, filled_piece, filled_all}
-use Rattle.text_acl.specs.Answers.{IsListed, good_with, lines_for, lines_found}
-use Rattle.text_acl.specs.declared.Reply.TheVariants.{Produced, Refused, BadLine}
+use Rattle.text_acl.specs.Answers.{IsListed, after_line, lines_for, lines_found}
+use Rattle.text_acl.specs.declared.TextError.{TextError}
+use Rattle.text_acl.specs.declared.TextError.TheVariants.{Refused, BadLine}
 use Rattle.text_lexer.specs.Telling.{LineEnds}
 use Rattle.text_acl.proofs.Writing.{put_over}
-use Rattle.text_acl.specs.declared.Lines.TheVariants.{Count, Bad}
 
 -- a record has 64 bytes
 pub decoded_length : (line : Bytes) → length (decoded line) ≡ 64
@@ -48,11 +48,6 @@ decoded_whole line old new r l p =
 pub line_same : (w : ℕ) (t line old l : Bytes) (n : ℕ) (b : Bool) → Held w t 0 old line n → b ≡ same (take n line) l → b ≡ same t l
 line_same w t line old l n b p e = rw (put_front p.written) at e
 
--- a line whose record has no fault, by its written form
-pub good_written : (f : Checked) (line rec : Bytes) (w : Bool) → f ≡ code.Sound → rec ≡ decoded line → w ≡ same (line_of rec) line → w ≡ good_with (fault_as f) line
-unfolding as_written
-good_written f line rec w d er e = e ∙ ap (λ (x : Bytes). same (line_of x) line) er ∙ ap (λ (g : Checked). good_with (fault_as g) line) (sym d)
-
 -- A record by itself, as the reader of ACLs reads it from a place: its fault, and the place after it.
 module _ (s : AclState) (rec : Bytes) (h : length rec ≡ 64) where
   record_read : reading s (records rec) ≡ read_past (acl_record_fault s rec) (on (after_record s rec))
@@ -62,25 +57,46 @@ module _ (s : AclState) (rec : Bytes) (h : length rec ≡ 64) where
       let e : records rec ≡ rec ∷ [] = first rec (omega arith) ∙ rw (take_all 64 rec (omega arith), d) in
       ap (reading s) e
 
-found_fault : (q t : AclState) (f : Checked) (x : Option ℕ) → checked_as q f ≡ read_past x (on t) → fault_as f ≡ x
-found_fault q t code.Sound none e = refl
-found_fault q t code.Sound (some n) e = absurd (never (cc))
-found_fault q t (code.Refused r) none e = absurd (never (cc))
-found_fault q t (code.Refused r) (some n) e = let d : refusal_number r ≡ n = cc in ap some d
+-- a line by the fault of its record: of one, it is bad; without, it is good if it is the written form
+module _ {S : Type 0} (k : FileKind S) (s : S) (line rec : Bytes) (er : rec ≡ k.told line) where
+  pub line_faulty : (f : ℕ) → k.fault s rec ≡ some f → none ≡ after_line k s line
+  unfolding after_line good_in
+  line_faulty f e = rw (← er, e) refl
 
-found_place : (q t : AclState) (f : Checked) (x : Option ℕ) (line : Bytes) → checked_as q f ≡ read_past x (on t) → good_with (fault_as f) line ≡ true → q ≡ t
-found_place q t code.Sound none line e g = cc
-found_place q t code.Sound (some n) line e g = absurd (never (cc))
-found_place q t (code.Refused r) x line e g = absurd (false≢true g)
+  module _ (b : Bool) (eb : b ≡ same (k.line rec) line) (e : k.fault s rec ≡ none) where
+    pub line_good : (q : S) → q ≡ k.after s rec → b ≡ true → some q ≡ after_line k s line
+    unfolding after_line good_in as_written
+    line_good q eq y = rw (← er, e, ← eb, y) (ap some eq)
 
--- a good line, and the place after it, by what the code answered
-module _ (s q : AclState) (f : Checked) (line rec : Bytes) (b : Bool) (er : rec ≡ decoded line) (h : length rec ≡ 64) (e : checked_as q f ≡ reading s (records rec)) (eb : b ≡ good_with (fault_as f) line) where
-  pub good_is : b ≡ good_line s line
-  unfolding good_in
-  good_is = eb ∙ ap (λ (x : Option ℕ). good_with x line) (found_fault q (after_record s rec) f (acl_record_fault s rec) (e ∙ record_read s rec h) ∙ ap (acl_record_fault s) er)
+    pub line_other : b ≡ false → none ≡ after_line k s line
+    unfolding after_line good_in as_written
+    line_other n = rw (← er, e, ← eb, n) refl
 
-  pub good_place : not b ≡ false → q ≡ after_record s rec
-  good_place n = found_place q (after_record s rec) f (acl_record_fault s rec) line (e ∙ record_read s rec h) (sym eb ∙ not-false b n)
+-- what the reader of ACLs answers of one record
+read_fault : (q : Result State Refusal) (t : AclState) (x : Option ℕ) (r : Refusal) → q ≡ Err r → reading_as q ≡ read_past x (on t) → x ≡ some (refusal_number r)
+read_fault q t x r d e = pick x (sym (ap reading_as d) ∙ e)
+  where
+    pick : (o : Option ℕ) → stopped (refusal_number r) ≡ read_past o (on t) → o ≡ some (refusal_number r)
+    pick none c = absurd (never (cc))
+    pick (some n) c = let i : n ≡ refusal_number r = cc in ap some i
+
+read_place : (q : Result State Refusal) (t : AclState) (x : Option ℕ) (p : State) → q ≡ Ok p → reading_as q ≡ read_past x (on t) → (x ≡ none) × (acl_state_as p ≡ t)
+read_place q t x p d e = pick x (sym (ap reading_as d) ∙ e)
+  where
+    pick : (o : Option ℕ) → on (acl_state_as p) ≡ read_past o (on t) → (o ≡ none) × (acl_state_as p ≡ t)
+    pick none c = let i : acl_state_as p ≡ t = cc in (refl, i)
+    pick (some n) c = absurd (never (cc))
+
+module _ (s : AclState) (line rec : Bytes) (q : Result State Refusal) (er : rec ≡ decoded line) (h : length rec ≡ 64) (e : reading_as q ≡ reading s (records rec)) where
+  pub acl_faulty : (r : Refusal) → q ≡ Err r → none ≡ after_line acl_kind s line
+  acl_faulty r d = line_faulty acl_kind s line rec er (refusal_number r) (read_fault q (after_record s rec) (acl_record_fault s rec) r d (e ∙ record_read s rec h))
+
+  module _ (p : State) (d : q ≡ Ok p) (b : Bool) (eb : b ≡ same (line_of rec) line) where
+    pub acl_good : b ≡ true → some (acl_state_as p) ≡ after_line acl_kind s line
+    acl_good y = let f = read_place q (after_record s rec) (acl_record_fault s rec) p d (e ∙ record_read s rec h) in line_good acl_kind s line rec er b eb f.0 (acl_state_as p) f.1 y
+
+    pub acl_other : b ≡ false → none ≡ after_line acl_kind s line
+    acl_other n = let f = read_place q (after_record s rec) (acl_record_fault s rec) p d (e ∙ record_read s rec h) in line_other acl_kind s line rec er b eb f.0 n
 
 -- the lines from a place on
 unfoldable pub lines_left : Bytes → ℕ → List Bytes
@@ -107,28 +123,36 @@ module _ {S : Type 0} (k : FileKind S) where
   unfolding text_fault lines_left
   judged_none text s e = record { fault = ap (λ (x : S). judging text x 0 1) e; count = omega arith }
 
-  module _ (text : Bytes) (s : S) (at line n : ℕ) (b : Bool) (en : LineEnds text at n) (eb : b ≡ good_in k s (lent_line text at n)) (p : LinesJudged text s at line) where
+  module _ (text : Bytes) (s : S) (at line n : ℕ) (en : LineEnds text at n) (p : LinesJudged text s at line) where
     step : or_next (unless (good_in k s (lent_line text at n)) line) (judging text (k.after s (k.told (lent_line text at n))) n (line + 1)) ≡ text_fault k text
     unfolding scan fault_at_line past_line lines_left
     step = sym (ap (scan (fault_at_line k) (past_line k) (text_end k) (record { place = s; line = line })) en.lines) ∙ p.fault
 
-    pub judged_bad : not b ≡ true → Bad line ≡ lines_found k text
+    pub judged_false : good_in k s (lent_line text at n) ≡ false → Err (BadLine line) ≡ lines_found k text
     unfolding lines_found
-    judged_bad y =
-        let g : good_in k s (lent_line text at n) ≡ false = sym eb ∙ not-true b y in
+    judged_false g =
         let f : some line ≡ text_fault k text = rw g at step in
         rw (← f)
 
-    pub judged_line : (t : S) (rec : Bytes) → not b ≡ false → rec ≡ k.told (lent_line text at n) → t ≡ k.after s rec → LinesJudged text t n (line + 1)
-    unfolding lines_left
-    judged_line t rec y er et =
-        let g : good_in k s (lent_line text at n) ≡ true = sym eb ∙ not-false b y in
-        let c = p.count in
-        let l = ap length en.lines in
-        record {
-          fault = ap (λ (x : S). judging text x n (line + 1)) (et ∙ ap (k.after s) er) ∙ rw g at step;
-          count = omega arith;
-        }
+    pub judged_bad : none ≡ after_line k s (lent_line text at n) → Err (BadLine line) ≡ lines_found k text
+    unfolding after_line
+    judged_bad e = pick (good_in k s (lent_line text at n)) refl e
+      where
+        pick : (b : Bool) → good_in k s (lent_line text at n) ≡ b → none ≡ (if b then some (k.after s (k.told (lent_line text at n))) else none) → Err (BadLine line) ≡ lines_found k text
+        pick true g d = absurd (never (cc))
+        pick false g d = judged_false g
+
+    pub judged_line : (t : S) → some t ≡ after_line k s (lent_line text at n) → LinesJudged text t n (line + 1)
+    unfolding after_line lines_left
+    judged_line t e = pick (good_in k s (lent_line text at n)) refl e
+      where
+        pick : (b : Bool) → good_in k s (lent_line text at n) ≡ b → some t ≡ (if b then some (k.after s (k.told (lent_line text at n))) else none) → LinesJudged text t n (line + 1)
+        pick false g d = absurd (never (cc))
+        pick true g d =
+            let i : t ≡ k.after s (k.told (lent_line text at n)) = cc in
+            let c = p.count in
+            let l = ap length en.lines in
+            record { fault = ap (λ (x : S). judging text x n (line + 1)) i ∙ rw g at step; count = omega arith }
 
   -- the end: a record is missing there or not
   module _ (text : Bytes) (s : S) (at line : ℕ) (h : length text ≤ at) (p : LinesJudged text s at line) where
@@ -136,20 +160,20 @@ module _ {S : Type 0} (k : FileKind S) where
     unfolding scan
     last = sym (ap (scan (fault_at_line k) (past_line k) (text_end k) (record { place = s; line = line })) (no_lines text at h)) ∙ p.fault
 
-    pub judged_missing : present (k.end s) ≡ true → Bad line ≡ lines_found k text
+    pub judged_missing : present (k.end s) ≡ true → Err (BadLine line) ≡ lines_found k text
     unfolding lines_found text_end
     judged_missing d =
         let f : some line ≡ text_fault k text = rw d at last in
         rw (← f)
 
-    pub judged_all : (n : ℕ) → present (k.end s) ≡ false → n ≡ line - 1 → Count n ≡ lines_found k text
+    pub judged_all : (n : ℕ) → present (k.end s) ≡ false → n ≡ line - 1 → Ok n ≡ lines_found k text
     unfolding lines_found text_end
     judged_all n d ek =
         let f : none ≡ text_fault k text = rw d at last in
         let l = ap length (no_lines text at h) in
         let c = p.count in
         let e : n ≡ length (lines_of text) = omega arith in
-        rw (← f) (ap Count e)
+        rw (← f) (rw e refl)
 
 -- the end of an ACL: kind 15 is due there or not
 pub end_due : (s : AclState) → s.file_due ≡ true → present (acl_end s) ≡ true
@@ -208,7 +232,7 @@ module _ {S : Type 0} (k : FileKind S) (whole : (line : Bytes) → IsRecord (k.t
       flat_length (map k.told (lines_of text)) (every_told (lines_of text)) ∙ ap (λ (n : ℕ). n * record_bytes) m
 
   module _ (text buffer : Bytes) (count : ℕ) (e : text_fault k text ≡ none) (l : count ≡ length (lines_of text)) where
-    pub read_short : length buffer / 64 < count → IsListed (read_text_into k text buffer) (Refused ShortBuffer) buffer
+    pub read_short : length buffer / 64 < count → IsListed (read_text_into k text buffer) (Err (Refused ShortBuffer)) buffer
     unfolding read_text_into read_text
     read_short h =
         let j = told_length text in
@@ -217,31 +241,25 @@ module _ {S : Type 0} (k : FileKind S) (whole : (line : Bytes) → IsRecord (k.t
     pub read_room : count ≤ length buffer / 64 → length (bytes_by k.told text) ≤ length buffer
     read_room h = let j = told_length text in omega arith
 
-    pub read_whole : (r : ℕ) (after : Bytes) → count ≤ length buffer / 64 → Put (bytes_by k.told text) 0 buffer after r → IsListed (read_text_into k text buffer) (Produced r) after
+    pub read_whole : (r : ℕ) (after : Bytes) → count ≤ length buffer / 64 → Put (bytes_by k.told text) 0 buffer after r → IsListed (read_text_into k text buffer) (Ok r) after
     unfolding read_text_into read_text
     read_whole r after h p =
         let j : r ≡ length (bytes_by k.told text) = p.end ∙ omega arith in
         rw (e, le-leb (length (bytes_by k.told text)) (length buffer) (read_room h)) record { reply = ap produced j; buffer = put_over p }
 
 module _ {S : Type 0} (k : FileKind S) (text : Bytes) where
-  pub read_bad : (buffer : Bytes) (n : ℕ) → Bad n ≡ lines_found k text → IsListed (read_text_into k text buffer) (BadLine n) buffer
+  pub read_bad : (buffer : Bytes) (x : TextError) → Err x ≡ lines_found k text → IsListed (read_text_into k text buffer) (Err x) buffer
   unfolding lines_found read_text_into read_text
-  read_bad buffer n e = pick (text_fault k text) e
+  read_bad buffer x e = pick (text_fault k text) e
     where
-      pick : (o : Option ℕ) → Bad n ≡ lines_for (length (lines_of text)) o → IsListed (delivered_as buffer (reading_of (bytes_by k.told text) o)) (BadLine n) buffer
-      pick none d = absurd (never d)
-        where
-          never : Bad n ≡ Count (length (lines_of text)) → ⊥
-          never z = let y : ◌≡◌ {A = ℕ} 0 1 = cc in omega arith
-      pick (some m) d = let i : n ≡ m = cc in rw i record { reply = refl; buffer = refl }
+      pick : (o : Option ℕ) → Err x ≡ lines_for (length (lines_of text)) o → IsListed (delivered_as buffer (reading_of (bytes_by k.told text) o)) (Err x) buffer
+      pick none d = cc
+      pick (some m) d = let i : x ≡ BadLine m = cc in rw i record { reply = refl; buffer = refl }
 
-  pub found_none : (n : ℕ) → Count n ≡ lines_found k text → (text_fault k text ≡ none) × (n ≡ length (lines_of text))
+  pub found_none : (n : ℕ) → Ok n ≡ lines_found k text → (text_fault k text ≡ none) × (n ≡ length (lines_of text))
   unfolding lines_found
   found_none n e = pick (text_fault k text) e
     where
-      pick : (o : Option ℕ) → Count n ≡ lines_for (length (lines_of text)) o → (o ≡ none) × (n ≡ length (lines_of text))
+      pick : (o : Option ℕ) → Ok n ≡ lines_for (length (lines_of text)) o → (o ≡ none) × (n ≡ length (lines_of text))
       pick none d = let i : n ≡ length (lines_of text) = cc in (refl, i)
-      pick (some m) d = absurd (never d)
-        where
-          never : Count n ≡ Bad m → ⊥
-          never z = let y : ◌≡◌ {A = ℕ} 0 1 = cc in omega arith
+      pick (some m) d = cc

@@ -20,8 +20,9 @@ use Rattle.text_bytes.proofs.Laws.{left}
 use Rattle.text_lexer.specs.Telling.{LineEnds, LineWithin}
 use Rattle.text_lexer.proofs.Laws.{line_ends}
 use Rattle.text_acl.specs.Answers.{lines_found}
-use Rattle.text_acl.specs.declared.Lines.TheVariants.{Bad}
-use Rattle.text_acl.proofs.Reading.{LinesJudged, lent_line, judged_bad}
+use Rattle.std.specs.Prelude.{Err}
+use Rattle.text_acl.specs.declared.TextError.TheVariants.{BadLine}
+use Rattle.text_acl.proofs.Reading.{LinesJudged, lent_line, judged_false}
 
 -- the length of a text's first line
 line_length_some : (c : ℕ) (t : Bytes) → 0 < line_length (c ∷ t)
@@ -152,13 +153,13 @@ module _ (w : ℕ) (text : Bytes) (at n : ℕ) (p : LineWithin w text at n) wher
         let c : get_or (take (line_length (drop at text)) (drop at text)) (line_length (drop at text) - 1) 0 ≡ 10 = ap (λ (b : Bytes). get_or b (line_length (drop at text) - 1) 0) (sym y) ∙ ap (λ (i : ℕ). get_or whole (i - 1) 0) (sym l) ∙ one_last whole q.1 in
         no (ap (λ (i : ℕ). get_or text (i - 1) 0) (sym e) ∙ sym (byte_left (line_length (drop at text)) (omega arith)) ∙ sym (get_or-take (line_length (drop at text)) (drop at text) (line_length (drop at text) - 1) 0 (omega arith)) ∙ c)
 
-    pub within_bad : Bad line ≡ lines_found k text
+    pub within_bad : Err (BadLine line) ≡ lines_found k text
     within_bad = pick (good_in k s whole) refl
       where
-        pick : (b : Bool) → good_in k s whole ≡ b → Bad line ≡ lines_found k text
+        pick : (b : Bool) → good_in k s whole ≡ b → Err (BadLine line) ≡ lines_found k text
         pick true g = absurd (never_good g)
-        pick false g = judged_bad k text s at line end false ends (sym g) j refl
+        pick false g = judged_false k text s at line end ends j g
 
 -- a line of an ACL
-pub acl_unended : (text : Bytes) (at n : ℕ) → LineWithin line_max text at n → (s : AclState) (line : ℕ) → LinesJudged acl_kind text s at line → (get_or text (n - 1) 0 ≡ 10 → ⊥) → Bad line ≡ lines_found acl_kind text
+pub acl_unended : (text : Bytes) (at n : ℕ) → LineWithin line_max text at n → (s : AclState) (line : ℕ) → LinesJudged acl_kind text s at line → (get_or text (n - 1) 0 ≡ 10 → ⊥) → Err (BadLine line) ≡ lines_found acl_kind text
 acl_unended text at n p = within_bad line_max text at n p acl_kind (good_short acl_kind line_max acl_lawful acl_longest)

@@ -8,7 +8,7 @@ use mathlib.Core.Path.{◌≡◌, refl, sym, ◌∙◌, ap}
 use mathlib.Core.List.{List, [], ◌∷◌, ◌++◌, append_assoc, map}
 use mathlib.Core.Bool.{Bool, true, false, not}
 use lib.Dec.{eqb}
-use borrow.Author.Tests.{eq-eqb, ne_eqb}
+use borrow.Author.Tests.{ne_eqb}
 use Rattle.rules.specs.Sizes.{hash_bytes}
 use Rattle.rules.specs.Basics.{Bytes, ascii, byte, number, part, kind, bit, flag}
 use Rattle.rules.specs.Day.{decimal}
@@ -101,31 +101,27 @@ archive_text : (r : Bytes) (last : Bool) → last ≡ flag 6 r → keyed_line (a
 unfolding keyed_line ascii text_if word_text words_text
 archive_text r last e = rw e
 
-module _ (r : Bytes) (old new : Bytes) (n : ℕ) where
+module _ (r old new : Bytes) (n : ℕ) where
   pub line_1 : (named : Bool) → kind r ≡ 1 → named ≡ flag 1 r → Held 256 (keyed_line (ascii "group") (ascii " certifier ") named false r) 0 old new n → Held 256 (line_of r) 0 old new n
   unfolding line_of
-  line_1 named e f p = rw (eq-eqb (kind r) 1 e) (rw (group_text r named f) at p)
+  line_1 named e f p = rw e (rw (group_text r named f) at p)
 
-  module _ (n1 : kind r ≡ 1 → ⊥) where
-    pub line_2 : kind r ≡ 2 → Held 256 (ascii "limit" ++ words_text (limit_words r)) 0 old new n → Held 256 (line_of r) 0 old new n
-    unfolding line_of
-    line_2 e p = rw (ne_eqb (kind r) 1 n1, eq-eqb (kind r) 2 e) p
+  pub line_2 : kind r ≡ 2 → Held 256 (ascii "limit" ++ words_text (limit_words r)) 0 old new n → Held 256 (line_of r) 0 old new n
+  unfolding line_of
+  line_2 e p = rw e p
 
-    module _ (n2 : kind r ≡ 2 → ⊥) where
-      pub line_3 : kind r ≡ 3 → Held 256 (ascii "OpPermissions" ++ words_text (permission_words 0 permission_names (number 4 2 r))) 0 old new n → Held 256 (line_of r) 0 old new n
-      unfolding line_of
-      line_3 e p = rw (ne_eqb (kind r) 1 n1, ne_eqb (kind r) 2 n2, eq-eqb (kind r) 3 e) p
+  pub line_3 : kind r ≡ 3 → Held 256 (ascii "OpPermissions" ++ words_text (permission_words 0 permission_names (number 4 2 r))) 0 old new n → Held 256 (line_of r) 0 old new n
+  unfolding line_of
+  line_3 e p = rw e p
 
-      module _ (n3 : kind r ≡ 3 → ⊥) where
-        pub line_4 : kind r ≡ 4 → Held 256 (ascii "MakeBlob" ++ words_text (blob_words r)) 0 old new n → Held 256 (line_of r) 0 old new n
-        unfolding line_of
-        line_4 e p = rw (ne_eqb (kind r) 1 n1, ne_eqb (kind r) 2 n2, ne_eqb (kind r) 3 n3, eq-eqb (kind r) 4 e) p
+  pub line_4 : kind r ≡ 4 → Held 256 (ascii "MakeBlob" ++ words_text (blob_words r)) 0 old new n → Held 256 (line_of r) 0 old new n
+  unfolding line_of
+  line_4 e p = rw e p
 
-        module _ (n4 : kind r ≡ 4 → ⊥) where
-          pub line_5 : (last : Bool) → kind r ≡ 5 → last ≡ flag 6 r → Held 256 (keyed_line (ascii "MakeArchiveBlob") (ascii " kahash ") true last r) 0 old new n → Held 256 (line_of r) 0 old new n
-          unfolding line_of
-          line_5 last e f p = rw (ne_eqb (kind r) 1 n1, ne_eqb (kind r) 2 n2, ne_eqb (kind r) 3 n3, ne_eqb (kind r) 4 n4, eq-eqb (kind r) 5 e) (rw (archive_text r last f) at p)
+  pub line_5 : (last : Bool) → kind r ≡ 5 → last ≡ flag 6 r → Held 256 (keyed_line (ascii "MakeArchiveBlob") (ascii " kahash ") true last r) 0 old new n → Held 256 (line_of r) 0 old new n
+  unfolding line_of
+  line_5 last e f p = rw e (rw (archive_text r last f) at p)
 
-          pub line_15 : (kind r ≡ 5 → ⊥) → Held 256 (ascii "blobfile" ++ words_text (blobfile_words r)) 0 old new n → Held 256 (line_of r) 0 old new n
-          unfolding line_of
-          line_15 n5 p = rw (ne_eqb (kind r) 1 n1, ne_eqb (kind r) 2 n2, ne_eqb (kind r) 3 n3, ne_eqb (kind r) 4 n4, ne_eqb (kind r) 5 n5) p
+  pub line_other : (kind r ≡ 1 → ⊥) → (kind r ≡ 2 → ⊥) → (kind r ≡ 3 → ⊥) → (kind r ≡ 4 → ⊥) → (kind r ≡ 5 → ⊥) → Held 256 (ascii "blobfile" ++ words_text (blobfile_words r)) 0 old new n → Held 256 (line_of r) 0 old new n
+  unfolding line_of
+  line_other n1 n2 n3 n4 n5 p = rw (ne_eqb (kind r) 1 n1, ne_eqb (kind r) 2 n2, ne_eqb (kind r) 3 n3, ne_eqb (kind r) 4 n4, ne_eqb (kind r) 5 n5) p

@@ -1,12 +1,13 @@
 // The line of a record, at the front of a lent buffer.
 #![tactic(auto)]
 
-ghost use Rattle.std.specs.Prelude.{◌≡◌, [], ◌++◌, ◌+◌, ◌≤◌, length};
-ghost use Rattle.rules.specs.Sizes.{record_bytes};
+ghost use Rattle.std.specs.Prelude.{[], ◌++◌, ◌+◌, ◌≤◌, length};
 ghost use Rattle.rules.specs.Basics.{ascii, number};
 ghost use Rattle.text_rules.specs.Words.{words_text, limit_words, permission_names, permission_words, blob_words, blobfile_words, line_of};
 ghost use Rattle.text_bytes.specs.Putting.{Held, text_if};
 ghost use Rattle.text_acl_lines.specs.Parts.{keyed_line, key_text, token_text};
+
+use record_sizes::Record;
 
 // No record's line is longer, whether the record is well formed or not.
 pub const ROOM: usize = 256;
@@ -26,26 +27,27 @@ fn keyed_line(
     word: &[u8],
     named: bool,
     last: bool,
-    rec: &[u8],
+    rec: &Record,
     line: &mut [u8],
 ) -> usize
-    requires { (length first.now ≤ 20) × (length word.now ≤ 20) × (length rec.now ≡ record_bytes) × (256 ≤ length line.old) }
+    requires { (length first.now ≤ 20) × (length word.now ≤ 20) × (256 ≤ length line.old) }
     ensures { Held 256 (keyed_line first.now word.now named last rec.now) 0 line.old line.new result }
 {
     let mechanism = record_fields::be16(rec, 24) as u32;
     let begun = text_bytes::append(first, 0, line);
-    let keyed = text_bytes::hash_if(record_fields::flag_of(0, rec), word, rec, 4, begun, line);
+    let hash = &rec[4..24];
+    let keyed = text_bytes::hash_if(record_fields::flag_of(0, rec), word, hash, begun, line);
     let told = text_bytes::number_if(named, b" mechanism ", mechanism, keyed, line);
     end_line(last, told, line)
 }
 
 // The line of a limit record: its counter, where it names one, and its maximum, of seconds or of uses.
-fn limit_line(rec: &[u8], line: &mut [u8]) -> usize
-    requires { (length rec.now ≡ record_bytes) × (256 ≤ length line.old) }
+fn limit_line(rec: &Record, line: &mut [u8]) -> usize
+    requires { 256 ≤ length line.old }
     ensures { Held 256 (ascii "limit" ++ words_text (limit_words rec.now)) 0 line.old line.new result }
 {
     let sort = rec[4];
-    let counter = text_bytes::byte_at(rec, 5) as u32;
+    let counter = rec[5] as u32;
     let maximum = record_fields::be32(rec, 8);
     let begun = text_bytes::append(b"limit", 0, line);
     let counted = text_bytes::number_if(sort == 2, b" counter ", counter, begun, line);
@@ -55,8 +57,8 @@ fn limit_line(rec: &[u8], line: &mut [u8]) -> usize
 }
 
 // The line of an OpPermissions record: the names of the bits set.
-fn permissions_line(rec: &[u8], line: &mut [u8]) -> usize
-    requires { (length rec.now ≡ record_bytes) × (256 ≤ length line.old) }
+fn permissions_line(rec: &Record, line: &mut [u8]) -> usize
+    requires { 256 ≤ length line.old }
     ensures { Held 256 (ascii "OpPermissions" ++ words_text (permission_words 0 permission_names (number 4 2 rec.now))) 0 line.old line.new result }
 {
     let bits = record_fields::be16(rec, 4);
@@ -71,8 +73,8 @@ fn permissions_line(rec: &[u8], line: &mut [u8]) -> usize
 }
 
 // A MakeBlob line's flags and key hashes.
-fn blob_keys(rec: &[u8], at: usize, line: &mut [u8]) -> usize
-    requires { (length rec.now ≡ record_bytes) × (at + 120 ≤ length line.old) }
+fn blob_keys(rec: &Record, at: usize, line: &mut [u8]) -> usize
+    requires { at + 120 ≤ length line.old }
     ensures { Held 120 (key_text rec.now) at line.old line.new result }
 {
     let only = text_bytes::word_if(record_fields::flag_of(0, rec), b" AllowKmOnly", at, line);
@@ -80,30 +82,28 @@ fn blob_keys(rec: &[u8], at: usize, line: &mut [u8]) -> usize
     let key = text_bytes::hash_if(
         record_fields::flag_of(2, rec),
         b" kmhash ",
-        rec,
-        4,
+        &rec[4..24],
         other,
         line,
     );
     text_bytes::hash_if(
         record_fields::flag_of(3, rec),
         b" kthash ",
-        rec,
-        24,
+        &rec[24..44],
         key,
         line,
     )
 }
 
 // Appends the token parameters of a MakeBlob action.
-fn blob_token(rec: &[u8], at: usize, line: &mut [u8]) -> usize
-    requires { (length rec.now ≡ record_bytes) × (at + 78 ≤ length line.old) }
+fn blob_token(rec: &Record, at: usize, line: &mut [u8]) -> usize
+    requires { at + 78 ≤ length line.old }
     ensures { Held 78 (token_text rec.now) at line.old line.new result }
 {
     let given = record_fields::flag_of(4, rec);
     let flags = record_fields::be16(rec, 44);
-    let shares = text_bytes::byte_at(rec, 46) as u32;
-    let of = text_bytes::byte_at(rec, 47) as u32;
+    let shares = rec[46] as u32;
+    let of = rec[47] as u32;
     let seconds = record_fields::be32(rec, 48);
     let begun = text_bytes::word_if(given, b" ktparams", at, line);
     let soft = text_bytes::word_if(
@@ -118,8 +118,8 @@ fn blob_token(rec: &[u8], at: usize, line: &mut [u8]) -> usize
 }
 
 // The line of a MakeBlob record.
-fn blob_line(rec: &[u8], line: &mut [u8]) -> usize
-    requires { (length rec.now ≡ record_bytes) × (256 ≤ length line.old) }
+fn blob_line(rec: &Record, line: &mut [u8]) -> usize
+    requires { 256 ≤ length line.old }
     ensures { Held 256 (ascii "MakeBlob" ++ words_text (blob_words rec.now)) 0 line.old line.new result }
 {
     let begun = text_bytes::append(b"MakeBlob", 0, line);
@@ -135,8 +135,8 @@ fn blob_line(rec: &[u8], line: &mut [u8]) -> usize
 }
 
 // The line of a blob file record: its devices and its template, each by its flag.
-fn file_line(rec: &[u8], line: &mut [u8]) -> usize
-    requires { (length rec.now ≡ record_bytes) × (256 ≤ length line.old) }
+fn file_line(rec: &Record, line: &mut [u8]) -> usize
+    requires { 256 ≤ length line.old }
     ensures { Held 256 (ascii "blobfile" ++ words_text (blobfile_words rec.now)) 0 line.old line.new result }
 {
     let devices = record_fields::be32(rec, 4);
@@ -151,8 +151,7 @@ fn file_line(rec: &[u8], line: &mut [u8]) -> usize
     let told = text_bytes::hash_if(
         record_fields::flag_of(1, rec),
         b" template ",
-        rec,
-        8,
+        &rec[8..28],
         masked,
         line,
     );
@@ -160,27 +159,22 @@ fn file_line(rec: &[u8], line: &mut [u8]) -> usize
 }
 
 // The line of a record, and its length.
-pub fn line_of(rec: &[u8], line: &mut [u8]) -> usize
-    requires { (length rec.now ≡ record_bytes) × (256 ≤ length line.old) }
+pub fn line_of(rec: &Record, line: &mut [u8]) -> usize
+    requires { 256 ≤ length line.old }
     ensures { Held 256 (line_of rec.now) 0 line.old line.new result }
 {
-    let kind = rec[0];
-    if kind == 1 {
-        let named = record_fields::flag_of(1, rec);
-        return keyed_line(b"group", b" certifier ", named, false, rec, line);
+    match rec[0] {
+        record_kinds::GROUP => {
+            let named = record_fields::flag_of(1, rec);
+            keyed_line(b"group", b" certifier ", named, false, rec, line)
+        }
+        record_kinds::LIMIT => limit_line(rec, line),
+        record_kinds::OP_PERMISSIONS => permissions_line(rec, line),
+        record_kinds::MAKE_BLOB => blob_line(rec, line),
+        record_kinds::MAKE_ARCHIVE_BLOB => {
+            let last = record_fields::flag_of(6, rec);
+            keyed_line(b"MakeArchiveBlob", b" kahash ", true, last, rec, line)
+        }
+        _ => file_line(rec, line),
     }
-    if kind == 2 {
-        return limit_line(rec, line);
-    }
-    if kind == 3 {
-        return permissions_line(rec, line);
-    }
-    if kind == 4 {
-        return blob_line(rec, line);
-    }
-    if kind == 5 {
-        let last = record_fields::flag_of(6, rec);
-        return keyed_line(b"MakeArchiveBlob", b" kahash ", true, last, rec, line);
-    }
-    file_line(rec, line)
 }

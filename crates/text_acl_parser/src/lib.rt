@@ -42,10 +42,8 @@ fn keyed_from(
     let keyed = text_lexer::take_hash(word, 1, line, start, rec);
     let named = text_lexer::take_number(b" mechanism", weight, 2, line, keyed, rec);
     let last = text_lexer::take_word(b" blobfile", filed, line, named);
-    let end = last.end;
-    let flags = last.flags;
-    let done = text_bytes::append(&[0u8; 38], end, rec);
-    put_header(kind, flags, at, rec);
+    let done = text_bytes::append(&[0u8; 38], last.end, rec);
+    put_header(kind, last.flags, at, rec);
     done
 }
 
@@ -66,8 +64,7 @@ fn limit_maximum(line: &[u8], c: Cursor, rec: &mut [u8]) -> Cursor
     ensures { (result.flags ≡ c.flags + 2 * one (has_word "seconds" (drop c.at line.now))) × (result.flags ≤ c.flags + 2)
         × Field 4 (bytes_of 4 (if has_word "seconds" (drop c.at line.now) then number_after "seconds" (drop c.at line.now) else number_after "uses" (drop c.at line.now))) c.end rec.old rec.new result.end }
 {
-    let at = c.at;
-    if text_lexer::word_stands(b" seconds", text_lexer::past(line, at)) {
+    if text_lexer::word_stands(b" seconds", text_lexer::past(line, c.at)) {
         return text_lexer::take_number(b" seconds", 2, 4, line, c, rec);
     }
     text_lexer::take_number(b" uses", 0, 4, line, c, rec)
@@ -84,18 +81,14 @@ fn limit_from(line: &[u8], from: usize, at: usize, rec: &mut [u8]) -> usize
         flags: 0,
     };
     let counter = text_lexer::take_number(b" counter", 1, 1, line, start, rec);
-    let end = counter.end;
-    let gap = text_bytes::append(&[0u8; 2], end, rec);
+    let gap = text_bytes::append(&[0u8; 2], counter.end, rec);
     let next = Cursor {
-        at: counter.at,
         end: gap,
-        flags: counter.flags,
+        ..counter
     };
     let maximum = limit_maximum(line, next, rec);
-    let last = maximum.end;
-    let flags = maximum.flags;
-    let done = text_bytes::append(&[0u8; 52], last, rec);
-    let head = [2, 0, 0, 0, limit_sort(flags)];
+    let done = text_bytes::append(&[0u8; 52], maximum.end, rec);
+    let head = [2, 0, 0, 0, limit_sort(maximum.flags)];
     text_bytes::append(&head, at, rec);
     done
 }
@@ -131,7 +124,7 @@ fn permissions_from(line: &[u8], from: usize, at: usize, rec: &mut [u8]) -> usiz
         line,
         from,
     );
-    let headed = put_header(3, 0, at, rec);
+    let headed = put_header(record_kinds::OP_PERMISSIONS, 0, at, rec);
     let named = text_lexer::put_number(bits as u64, 2, headed, rec);
     text_bytes::append(&[0u8; 58], named, rec)
 }
@@ -182,8 +175,7 @@ fn blob_token(line: &[u8], c: Cursor, rec: &mut [u8]) -> Cursor
     };
     let soft = text_lexer::take_word(b" AllowSoftSlots", 1, line, own);
     let bits = soft.flags as u64;
-    let first = soft.end;
-    let end = text_lexer::put_number(bits, 2, first, rec);
+    let end = text_lexer::put_number(bits, 2, soft.end, rec);
     let next = Cursor {
         at: soft.at,
         end,
@@ -205,10 +197,8 @@ fn blob_from(line: &[u8], from: usize, at: usize, rec: &mut [u8]) -> usize
     };
     let keys = blob_keys(line, start, rec);
     let token = blob_token(line, keys, rec);
-    let end = token.end;
-    let flags = token.flags;
-    let done = text_bytes::append(&[0u8; 12], end, rec);
-    put_header(4, flags, at, rec);
+    let done = text_bytes::append(&[0u8; 12], token.end, rec);
+    put_header(record_kinds::MAKE_BLOB, token.flags, at, rec);
     done
 }
 
@@ -224,10 +214,8 @@ fn file_from(line: &[u8], from: usize, at: usize, rec: &mut [u8]) -> usize
     };
     let devices = text_lexer::take_number(b" devices", 1, 4, line, start, rec);
     let template = text_lexer::take_hash(b" template", 2, line, devices, rec);
-    let end = template.end;
-    let flags = template.flags;
-    let done = text_bytes::append(&[0u8; 36], end, rec);
-    put_header(15, flags, at, rec);
+    let done = text_bytes::append(&[0u8; 36], template.end, rec);
+    put_header(record_kinds::BLOBFILE, template.flags, at, rec);
     done
 }
 
@@ -238,7 +226,7 @@ pub fn decode(line: &[u8], at: usize, rec: &mut [u8]) -> usize
     ensures { Put (decoded line.now) at rec.old rec.new result }
 {
     if text_lexer::word_stands(b"group", line) {
-        return keyed_from(1, b" certifier", 2, 0, line, 5, at, rec);
+        return keyed_from(record_kinds::GROUP, b" certifier", 2, 0, line, 5, at, rec);
     }
     if text_lexer::word_stands(b"limit", line) {
         return limit_from(line, 5, at, rec);
@@ -250,7 +238,16 @@ pub fn decode(line: &[u8], at: usize, rec: &mut [u8]) -> usize
         return blob_from(line, 8, at, rec);
     }
     if text_lexer::word_stands(b"MakeArchiveBlob", line) {
-        return keyed_from(5, b" kahash", 0, 64, line, 15, at, rec);
+        return keyed_from(
+            record_kinds::MAKE_ARCHIVE_BLOB,
+            b" kahash",
+            0,
+            64,
+            line,
+            15,
+            at,
+            rec,
+        );
     }
     file_from(line, 8, at, rec)
 }

@@ -1,11 +1,13 @@
 -- Bytes put into a buffer: none, one, one text after the other, a whole piece by piece; the steps of a number's digits and of a hash's.
-use Prim.Native.Nat.{ℕ, suc, ◌+◌, ◌-◌, ◌*◌, ◌/◌, ◌%◌, ◌^◌, ◌≤◌, ◌<◌}
+use Prim.Native.Nat.{ℕ, ◌+◌, ◌-◌, ◌*◌, ◌/◌, ◌%◌, ◌^◌, ◌≤◌, ◌<◌}
 use native.Mathlib.Omega.{arith}
 use native.Mathlib.Numerals.{add-one}
+use native.Mathlib.Nat.{add-sub_cancel_left}
 use mathlib.Core.Path.{◌≡◌, refl, sym, ◌∙◌, ap}
 use mathlib.Core.List.{List, [], ◌∷◌, ◌++◌, append_assoc, append-nil}
-use lib.ListN.{length, take, drop, get_or, set, length-append, length-set, take-append-drop, drop_of_length-le}
-use lib.Seq.{length-take-le, take_at, drop_at, drop-drop, drop-cons, set_split, append_snoc}
+use lib.ListN.{length, take, drop, get_or, length-append, length-drop, take-append-drop, drop_of_length-le}
+use lib.Seq.{length-take-le, take_at, drop_at, drop-drop, drop-cons}
+use borrow.Rule.Slice.PartMut.{put_mid, same_len_mid}
 use Rattle.rules.specs.Basics.{Bytes}
 use borrow.Author.Tests.{lt-ltb, le-ltb}
 use Rattle.rules.specs.Day.{decimal}
@@ -25,15 +27,18 @@ put_none old at h =
       inside = h;
     }
 
--- one byte
-pub put_byte : (old : Bytes) (at b : ℕ) → at < length old → Put (b ∷ []) at old (set old at b) (at + 1)
+-- a text copied into its place
+pub put_copied : (t u old : Bytes) (at : ℕ) → at + length t ≤ length old → u ≡ t → Put t at old (put_mid at (at + length t - at) old u) (at + length t)
 unfolding put
-put_byte old at b h = record {
-  bytes = set_split old at b h ∙ ap (λ (n : ℕ). take at old ++ b ∷ drop n old) (sym (add-one at)) ∙ sym (append_snoc (take at old) b (drop (at + 1) old));
-  end = refl;
-  same_length = length-set old at b;
-  inside = omega (arith, length-set old at b);
-}
+put_copied t u old at h e =
+    let same : length (put_mid at (at + length t - at) old u) ≡ length old =
+    same_len_mid at (at + length t - at) old u (rw (add-sub_cancel_left at (length t), e) (sym (length-take-le (length t) (drop at old) (omega (arith, length-drop at old))))) in
+    record {
+      bytes = rw (add-sub_cancel_left at (length t), e) (ap (λ (x : Bytes). take at old ++ (t ++ x)) (drop-drop (length t) at old) ∙ sym (append_assoc (take at old) t (drop (at + length t) old)));
+      end = refl;
+      same_length = same;
+      inside = rw same h;
+    }
 
 -- one text after the other
 put_more : (old t u : Bytes) (at : ℕ) → at + length t + length u ≤ length old → put u (at + length t) (put t at old) ≡ put (t ++ u) at old
@@ -122,16 +127,7 @@ pub left_none : (t : Bytes) (i : ℕ) → length t ≤ i → left t i ≡ []
 unfolding left
 left_none t i h = drop_of_length-le t h
 
--- A text in pieces (names, or lines), by the size of its first one: from `at` to i the piece goes on.
-pub record GoesOn (size : Bytes → ℕ) (t : Bytes) (at i : ℕ) : Type 0 where
-  pub rest : i + size (left t i) ≡ at + size (left t at)
-
-pub goes_start : (size : Bytes → ℕ) (t : Bytes) (at : ℕ) → GoesOn size t at at
-goes_start size t at = record { rest = refl }
-
-pub goes_next : (size : Bytes → ℕ) (t : Bytes) (at i : ℕ) → GoesOn size t at i → size (left t i) ≡ suc (size (left t (i + 1))) → GoesOn size t at (i + 1)
-goes_next size t at i p e = let q = p.rest in record { rest = omega arith }
-
+-- A text in pieces (names, or lines), by the size of its first one.
 -- a piece, and those after it
 pub piece_ends : (pieces : Bytes → List Bytes) (size : Bytes → ℕ) (t : Bytes) (at end : ℕ)
     → pieces (left t at) ≡ take (size (left t at)) (left t at) ∷ pieces (drop (size (left t at)) (left t at)) → end ≡ at + size (left t at)
@@ -142,20 +138,6 @@ piece_ends pieces size t at end next e =
     let m : at + (end - at) ≡ end = omega arith in
     next ∙ ap (λ (k : ℕ). take k (drop at t) ∷ pieces (drop k (drop at t))) n
     ∙ ap (λ (x : Bytes). take (end - at) (drop at t) ∷ pieces x) (drop-drop (end - at) at t ∙ ap (λ (k : ℕ). drop k t) m)
-
--- a text byte by byte
-module _ (text old : Bytes) (at : ℕ) where
-  pub text_none : at + length text ≤ length old → Filled text (left text 0) at old old at
-  unfolding left
-  text_none h = filled_none text old at (omega arith)
-
-  pub text_byte : (now : Bytes) (i end : ℕ) → i < length text → at + length text ≤ length old → Filled text (left text i) at old now end → Filled text (left text (i + 1)) at old (set now end (get_or text i 0)) (end + 1)
-  text_byte now i end h k p =
-      let q = rw (left_next text i h) at p in
-      filled_piece (get_or text i 0 ∷ []) (left text (i + 1)) q (put_byte now end (get_or text i 0) (omega (arith, filled_room (get_or text i 0 ∷ []) (left text (i + 1)) q k)))
-
-  pub text_all : (now : Bytes) (i end : ℕ) → length text ≤ i → Filled text (left text i) at old now end → Put text at old now end
-  text_all now i end h p = filled_all (rw (left_none text i h) at p)
 
 -- a hash, two digits for each byte
 unfoldable pub hex_left : Bytes → ℕ → Bytes

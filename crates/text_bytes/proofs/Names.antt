@@ -1,27 +1,21 @@
 -- The names of a row one after the other.
-use Prim.Native.Nat.{ℕ, suc, ◌+◌, ◌≤◌, ◌<◌}
+use Prim.Native.Nat.{ℕ, suc, ◌+◌, ◌-◌, ◌≤◌, ◌<◌}
 use native.Mathlib.Omega.{arith}
-use native.Mathlib.Nat.{add-zero}
-use mathlib.Core.Path.{◌≡◌, refl, sym, ◌∙◌, ap}
+use mathlib.Core.Path.{◌≡◌, refl, ap}
 use mathlib.Core.List.{[], ◌∷◌}
 use mathlib.Core.Bool.{Bool, true, false}
-use lib.ListN.{length, take, drop, get_or, get_or-eq_default}
-use lib.Seq.{get_or-drop}
-use lib.Dec.{leb}
-use borrow.Author.Tests.{le-leb, lt-leb}
+use lib.ListN.{length, take, drop, get_or, length-drop}
+use lib.Seq.{take-length}
+use lib.Dec.{leb, ltb}
+use borrow.Author.Tests.{ltb-false}
+use Rattle.std.proofs.Common.{Option, Some, None, cond}
+use Rattle.std.specs.List.{position_or_len}
 use Rattle.std.specs.Prelude.{if◌then◌else◌}
 use Rattle.rules.specs.Basics.{Bytes}
 use Rattle.text_rules.specs.Words.{space}
 use Rattle.text_rules.specs.Listing.{onto_first}
 use Rattle.text_bytes.specs.Names.{words_of, NameEnds}
-use Rattle.text_bytes.proofs.Laws.{left, left_next, left_none, GoesOn, goes_next, piece_ends}
-
-pub byte_past : (t : Bytes) (i : ℕ) → length t ≤ i → 0 ≡ get_or t i 0
-byte_past t i h = sym (get_or-eq_default t 0 h)
-
-left_head : (t : Bytes) (i : ℕ) → get_or (left t i) 0 0 ≡ get_or t i 0
-unfolding left
-left_head t i = get_or-drop i t 0 0 ∙ ap (λ (k : ℕ). get_or t k 0) (add-zero i)
+use Rattle.text_bytes.proofs.Laws.{left, left_next, piece_ends}
 
 -- the length of a row's first name
 unfoldable pub word_length : Bytes → ℕ
@@ -47,26 +41,61 @@ name_ends t at end h p l e = record { past = p; inside = l; words = piece_ends w
     next : Next (left t at)
     next = rw (left_next t at h) (next_word (get_or t at 0) (left t (at + 1)))
 
--- A name's end: from `at` to i the name goes on.
-module _ (t : Bytes) (at i : ℕ) (l : at ≤ i) (p : GoesOn word_length t at i) where
-  module _ (b : ℕ) (h : i < length t) (e : b ≡ get_or t (i + 1) 0) where
-    pub name_next : space < b → GoesOn word_length t at (i + 1)
-    unfolding word_length
-    name_next n =
-        let a : leb (get_or (left t (i + 1)) 0 0) space ≡ false = ap (λ (x : ℕ). leb x space) (left_head t (i + 1) ∙ sym e) ∙ lt-leb b space n in
-        goes_next word_length t at i p (ap word_length (left_next t i h) ∙ rw a)
+-- A name's end by the first space past its first byte, or by the row's length where there is none.
+abbrev ends : ℕ → Bool
+ends c = leb c 32
 
-    pub name_end : b ≤ space → NameEnds t at (i + 1)
-    unfolding word_length
-    name_end n =
-        let a : leb (get_or (left t (i + 1)) 0 0) space ≡ true = ap (λ (x : ℕ). leb x space) (left_head t (i + 1) ∙ sym e) ∙ le-leb b space n in
-        let w : word_length (left t i) ≡ 1 = ap word_length (left_next t i h) ∙ rw a in
-        let q = p.rest in
-        name_ends t at (i + 1) (omega arith) (omega arith) (omega arith) (omega arith)
+-- how far that space is
+abbrev next_space : Bytes → ℕ
+next_space t = position_or_len ends t
 
-  pub name_all : at < length t → i ≤ length t → length t ≤ i → NameEnds t at i
-  unfolding word_length
-  name_all h k g =
-      let e : word_length (left t i) ≡ 0 = ap word_length (left_none t i g) in
-      let q = p.rest in
-      name_ends t at i h (omega arith) k (omega arith)
+space_within : (t : Bytes) → next_space t ≤ length t
+space_within [] = omega arith
+space_within (d ∷ t) = pick (ends d) refl (space_within t)
+  where
+    pick : (b : Bool) → ends d ≡ b → next_space t ≤ length t → next_space (d ∷ t) ≤ length (d ∷ t)
+    pick true e i = rw e (omega arith)
+    pick false e i = rw e (omega arith)
+
+word_space : (c : ℕ) (t : Bytes) → word_length (c ∷ t) ≡ next_space t + 1
+unfolding word_length
+word_space c [] = refl
+word_space c (d ∷ t) = pick (ends d) refl (word_space d t)
+  where
+    pick : (b : Bool) → ends d ≡ b → word_length (d ∷ t) ≡ next_space t + 1 → word_length (c ∷ d ∷ t) ≡ next_space (d ∷ t) + 1
+    pick true e i = rw e refl
+    pick false e i = rw e (omega arith)
+
+module _ (t : Bytes) (at : ℕ) (h : at < length t) where
+  space_ends : (end : ℕ) → end ≡ at + 1 + next_space (drop (at + 1) t) → NameEnds t at end
+  unfolding left
+  space_ends end e =
+      let l : word_length (left t at) ≡ next_space (drop (at + 1) t) + 1 = rw (left_next t at h) (word_space (get_or t at 0) (drop (at + 1) t)) in
+      let w = space_within (drop (at + 1) t) in
+      let d = length-drop (at + 1) t in
+      name_ends t at end h (omega arith) (omega arith) (omega arith)
+
+  -- what the search for the space goes over, and what it says
+  pub rest_whole : take (length t - (at + 1)) (drop (at + 1) t) ≡ drop (at + 1) t
+  rest_whole = rw (← length-drop (at + 1) t) (take-length (drop (at + 1) t))
+
+  abbrev pub Searched : Option ℕ → Type 0
+  Searched r = r ≡ cond (ltb (next_space (drop (at + 1) t)) (length (drop (at + 1) t))) (Some (next_space (drop (at + 1) t))) None
+
+  pub space_found : (n : ℕ) → Searched (Some n) → NameEnds t at (at + 1 + n)
+  space_found n s = pick (ltb (next_space (drop (at + 1) t)) (length (drop (at + 1) t))) s
+    where
+      pick : (b : Bool) → Some n ≡ cond b (Some (next_space (drop (at + 1) t))) None → NameEnds t at (at + 1 + n)
+      pick true e = let m : n ≡ next_space (drop (at + 1) t) = cc in space_ends (at + 1 + n) (omega arith)
+      pick false e = cc
+
+  pub space_none : Searched None → NameEnds t at (length t)
+  space_none s = pick (ltb (next_space (drop (at + 1) t)) (length (drop (at + 1) t))) refl s
+    where
+      pick : (b : Bool) → ltb (next_space (drop (at + 1) t)) (length (drop (at + 1) t)) ≡ b → None ≡ cond b (Some (next_space (drop (at + 1) t))) None → NameEnds t at (length t)
+      pick true e f = cc
+      pick false e f =
+          let w = space_within (drop (at + 1) t) in
+          let d = length-drop (at + 1) t in
+          let g = ltb-false (next_space (drop (at + 1) t)) (length (drop (at + 1) t)) e in
+          space_ends (length t) (omega arith)

@@ -1,16 +1,16 @@
 -- A word and its value, where they are there: the room they take, and what was put. Names by their bits.
 use Prim.Native.Nat.{ℕ, ◌+◌, ◌-◌, ◌*◌, ◌/◌, ◌%◌, ◌^◌, ◌≤◌, ◌<◌}
 use native.Mathlib.Omega.{arith}
-use native.Mathlib.Nat.{add-zero, add-sub_cancel_left}
+use native.Mathlib.Nat.{add-zero}
 use mathlib.Core.Path.{◌≡◌, refl, sym, ◌∙◌, ap}
 use mathlib.Core.Logic.{◌⊎◌, inl, inr}
-use mathlib.Core.List.{List, [], ◌∷◌, append-nil}
+use mathlib.Core.List.{List, [], ◌∷◌, ◌++◌, append-nil}
 use mathlib.Core.Bool.{Bool, true, false}
 use lib.ListN.{length, take, drop, get_or, length-drop, drop_of_length-le}
-use lib.Seq.{length-take-le, drop-drop, get_or-drop}
+use lib.Seq.{drop-drop, get_or-drop}
 use lib.Dec.{eqb}
 use Rattle.rules.specs.Sizes.{hash_bytes}
-use Rattle.rules.specs.Basics.{Bytes, part}
+use Rattle.rules.specs.Basics.{Bytes}
 use Rattle.rules.specs.Day.{decimal}
 use Rattle.text_rules.specs.Words.{hex}
 use Rattle.text_rules.proofs.Digits.{below_or_not, decimal_length, hex_length}
@@ -31,12 +31,15 @@ held_word given word at old new r e p =
     rw (e, append-nil) record { written = p; bound = omega arith }
 
 -- the word and its value
-held_both : (given : Bool) (word value : Bytes) (k at : ℕ) (old mid new : Bytes) (end r : ℕ) → given ≡ true → length value ≤ k → Put word at old mid end → Put value end mid new r → Held (length word + k) (text_if given word value) at old new r
-unfolding text_if
-held_both given word value k at old mid new end r e l p q =
+held_both : (word value : Bytes) (k at : ℕ) (old mid new : Bytes) (end r : ℕ) → length value ≤ k → Put word at old mid end → Put value end mid new r → Held (length word + k) (word ++ value) at old new r
+held_both word value k at old mid new end r l p q =
     let f = p.end in
     let g = q.end in
-    rw e record { written = put_on p q; bound = omega arith }
+    record { written = put_on p q; bound = omega arith }
+
+pub held_given : (given : Bool) (word value : Bytes) (most at : ℕ) (old new : Bytes) (r : ℕ) → given ≡ true → Held most (word ++ value) at old new r → Held most (text_if given word value) at old new r
+unfolding text_if
+held_given given word value most at old new r e p = rw e p
 
 -- a number takes at most ten bytes
 ten_digits : (n : ℕ) → n < 2 ^ 32 → length (decimal n) ≤ 10
@@ -49,28 +52,21 @@ number_inside word n at old mid end b h p =
     let s = p.same_length in
     omega arith
 
-pub held_number : (given : Bool) (word : Bytes) (n at : ℕ) (old mid new : Bytes) (end r : ℕ) → given ≡ true → n < 2 ^ 32 → Put word at old mid end → Put (decimal n) end mid new r
-    → Held (length word + 10) (text_if given word (decimal n)) at old new r
-held_number given word n at old mid new end r e b p q = held_both given word (decimal n) 10 at old mid new end r e (ten_digits n b) p q
+pub held_number : (word : Bytes) (n at : ℕ) (old mid new : Bytes) (end r : ℕ) → n < 2 ^ 32 → Put word at old mid end → Put (decimal n) end mid new r → Held (length word + 10) (word ++ decimal n) at old new r
+held_number word n at old mid new end r b p q = held_both word (decimal n) 10 at old mid new end r (ten_digits n b) p q
 
--- a hash forty; it is lent from its record
-module _ (word rec : Bytes) (from at : ℕ) (old mid : Bytes) (end : ℕ) (h : from + hash_bytes ≤ length rec) (p : Put word at old mid end) where
-  lent_length : length (take (from + 20 - from) (drop from rec)) ≡ 20
-  lent_length = rw (add-sub_cancel_left from 20) (length-take-le 20 (drop from rec) (omega (arith, length-drop from rec)))
-
-  pub hash_inside : at + (length word + 40) ≤ length old → end + 2 * length (take (from + 20 - from) (drop from rec)) ≤ length mid
+-- a hash forty
+module _ (word hash : Bytes) (at : ℕ) (old mid : Bytes) (end : ℕ) (h : length hash ≡ hash_bytes) (p : Put word at old mid end) where
+  pub hash_inside : at + (length word + 40) ≤ length old → end + 2 * length hash ≤ length mid
   hash_inside k =
-      let l = lent_length in
       let e = p.end in
       let s = p.same_length in
       omega arith
 
-  pub held_hash : (given : Bool) (new : Bytes) (r : ℕ) → given ≡ true → Put (hex (take (from + 20 - from) (drop from rec))) end mid new r
-      → Held (length word + 40) (text_if given word (hex (part from hash_bytes rec))) at old new r
-  held_hash given new r e q =
-      let l = hex_length (take (from + 20 - from) (drop from rec)) in
-      let m = lent_length in
-      rw (add-sub_cancel_left from 20) at (held_both given word (hex (take (from + 20 - from) (drop from rec))) 40 at old mid new end r e (omega arith) p q)
+  pub held_hash : (new : Bytes) (r : ℕ) → Put (hex hash) end mid new r → Held (length word + 40) (word ++ hex hash) at old new r
+  held_hash new r q =
+      let l = hex_length hash in
+      held_both word (hex hash) 40 at old mid new end r (omega arith) p q
 
 -- Names by their bits: those from a place of the row on.
 unfoldable pub names_left : Bytes → ℕ → ℕ → Bytes

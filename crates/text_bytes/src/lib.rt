@@ -1,9 +1,8 @@
 // Texts, decimal numbers and hashes put into a lent buffer, and words from a row of names.
 #![tactic(auto)]
 
-ghost use Rattle.std.specs.Prelude.{◌≡◌, [], ◌∷◌, ◌+◌, ◌*◌, ◌%◌, ◌≤◌, ◌<◌, length, get_or};
+ghost use Rattle.std.specs.Prelude.{◌≡◌, [], ◌∷◌, ◌++◌, ◌+◌, ◌*◌, ◌%◌, ◌≤◌, ◌<◌, length, get_or};
 ghost use Rattle.rules.specs.Sizes.{hash_bytes};
-ghost use Rattle.rules.specs.Basics.{part};
 ghost use Rattle.rules.specs.Day.{decimal};
 ghost use Rattle.text_rules.specs.Words.{hex_digit, hex};
 ghost use Rattle.text_bytes.specs.Putting.{Put, Held, text_if};
@@ -14,13 +13,8 @@ pub fn append(text: &[u8], at: usize, buffer: &mut [u8]) -> usize
     requires { at + length text.now ≤ length buffer.old }
     ensures { Put text.now at buffer.old buffer.new result }
 {
-    let mut i = 0;
-    let mut end = at;
-    while i < text.len() {
-        buffer[end] = text[i];
-        end += 1;
-        i += 1;
-    }
+    let end = at + text.len();
+    buffer[at..end].copy_from_slice(text);
     end
 }
 
@@ -70,11 +64,9 @@ pub fn append_hash(hash: &[u8], at: usize, buffer: &mut [u8]) -> usize
     requires { at + 2 * length hash.now ≤ length buffer.old }
     ensures { Put (hex hash.now) at buffer.old buffer.new result }
 {
-    let mut i = 0;
     let mut end = at;
-    while i < hash.len() {
-        end = append_byte(hash[i], end, buffer);
-        i += 1;
+    for b in hash {
+        end = append_byte(*b, end, buffer);
     }
     end
 }
@@ -91,44 +83,52 @@ pub fn word_if(given: bool, word: &[u8], at: usize, buffer: &mut [u8]) -> usize
 }
 
 // A word and a number of at most ten digits.
+pub fn word_and_number(word: &[u8], n: u32, at: usize, buffer: &mut [u8]) -> usize
+    requires { at + (length word.now + 10) ≤ length buffer.old }
+    ensures { Held (length word.now + 10) (word.now ++ decimal n) at buffer.old buffer.new result }
+{
+    let end = append(word, at, buffer);
+    append_decimal(n as u64, end, buffer)
+}
+
+// The same, where it is there. Whether it is there is a bool beside the value: a caller has both from one record, and an Option would be made to be taken apart.
 pub fn number_if(given: bool, word: &[u8], n: u32, at: usize, buffer: &mut [u8]) -> usize
     requires { at + (length word.now + 10) ≤ length buffer.old }
     ensures { Held (length word.now + 10) (text_if given word.now (decimal n)) at buffer.old buffer.new result }
 {
     if given {
-        let end = append(word, at, buffer);
-        return append_decimal(n as u64, end, buffer);
+        word_and_number(word, n, at, buffer)
+    } else {
+        at
     }
-    at
 }
 
-// A word and the hash that stands at `from` in a record.
-pub fn hash_if(
-    given: bool,
-    word: &[u8],
-    rec: &[u8],
-    from: usize,
-    at: usize,
-    buffer: &mut [u8],
-) -> usize
-    requires { (from + hash_bytes ≤ length rec.now) × (at + (length word.now + 40) ≤ length buffer.old) }
-    ensures { Held (length word.now + 40) (text_if given word.now (hex (part from hash_bytes rec.now))) at buffer.old buffer.new result }
+// A word and a hash.
+pub fn word_and_hash(word: &[u8], hash: &[u8], at: usize, buffer: &mut [u8]) -> usize
+    requires { (length hash.now ≡ hash_bytes) × (at + (length word.now + 40) ≤ length buffer.old) }
+    ensures { Held (length word.now + 40) (word.now ++ hex hash.now) at buffer.old buffer.new result }
+{
+    let end = append(word, at, buffer);
+    append_hash(hash, end, buffer)
+}
+
+// The same, where it is there.
+pub fn hash_if(given: bool, word: &[u8], hash: &[u8], at: usize, buffer: &mut [u8]) -> usize
+    requires { (length hash.now ≡ hash_bytes) × (at + (length word.now + 40) ≤ length buffer.old) }
+    ensures { Held (length word.now + 40) (text_if given word.now (hex hash.now)) at buffer.old buffer.new result }
 {
     if given {
-        let end = append(word, at, buffer);
-        return append_hash(&rec[from..from + record_sizes::HASH], end, buffer);
+        word_and_hash(word, hash, at, buffer)
+    } else {
+        at
     }
-    at
 }
 
 // A byte of a text; past its end, zero.
 pub fn byte_at(text: &[u8], i: usize) -> u8
     ensures { result ≡ get_or text.now i 0 }
 {
-    if i < text.len() {
-        return text[i];
-    }
-    0
+    text.get(i).copied().unwrap_or(0)
 }
 
 // Where the name that begins at a place of a row ends: before the next space, or with the row.
@@ -136,14 +136,10 @@ pub fn word_end(names: &[u8], at: usize) -> usize
     requires { at < length names.now }
     ensures { NameEnds names.now at result }
 {
-    let mut i = at;
-    while i < names.len() {
-        i += 1;
-        if byte_at(names, i) <= 32 {
-            return i;
-        }
+    match names[at + 1..].iter().position(|c| *c <= 32) {
+        Some(n) => at + 1 + n,
+        None => names.len(),
     }
-    i
 }
 
 // Of a row of names those whose bits are set in n, from bit 0 on.
@@ -169,10 +165,8 @@ pub fn append_name(names: &[u8], i: usize, at: usize, buffer: &mut [u8]) -> usiz
     ensures { Put (name_at names.now i) at buffer.old buffer.new result }
 {
     let mut from = 0;
-    let mut k = 0;
-    while k < i {
+    for _ in 0..i {
         from = word_end(names, from);
-        k += 1;
     }
     let end = word_end(names, from);
     append(&names[from..end], at, buffer)

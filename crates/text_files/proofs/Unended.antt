@@ -13,7 +13,8 @@ use Rattle.text_rules.proofs.Texts.{request_lawful, requests_lawful, bundle_lawf
 use Rattle.text_rules.proofs.Longest.{good_short, request_longest, requests_longest, bundle_longest, hints_longest}
 use Rattle.text_lexer.specs.Telling.{LineWithin}
 use Rattle.text_acl.specs.Answers.{lines_found}
-use Rattle.text_acl.specs.declared.Lines.TheVariants.{Bad}
+use Rattle.std.specs.Prelude.{Err}
+use Rattle.text_acl.specs.declared.TextError.TheVariants.{BadLine}
 use Rattle.text_acl.proofs.Reading.{LinesJudged}
 use Rattle.text_acl.proofs.Within.{within_bad}
 use Rattle.text_states.specs.States.{AnyState, of_request, of_requests, of_bundle, of_hints, kind_from}
@@ -28,5 +29,5 @@ any_short start (of_requests n) line e = weaker alone_line_max line (omega arith
 any_short start (of_bundle t) line e = weaker policy_line_max line (omega arith) (good_short bundle_kind policy_line_max bundle_lawful bundle_longest t line e)
 any_short start (of_hints n) line e = weaker hint_line_max line (omega arith) (good_short hints_kind hint_line_max hints_lawful hints_longest n line e)
 
-pub any_unended : (start : AnyState) (text : Bytes) (at n : ℕ) → LineWithin delegation_line_max text at n → (s : AnyState) (line : ℕ) → LinesJudged (kind_from start) text s at line → (get_or text (n - 1) 0 ≡ 10 → ⊥) → Bad line ≡ lines_found (kind_from start) text
+pub any_unended : (start : AnyState) (text : Bytes) (at n : ℕ) → LineWithin delegation_line_max text at n → (s : AnyState) (line : ℕ) → LinesJudged (kind_from start) text s at line → (get_or text (n - 1) 0 ≡ 10 → ⊥) → Err (BadLine line) ≡ lines_found (kind_from start) text
 any_unended start text at n p = within_bad delegation_line_max text at n p (kind_from start) (any_short start)

@@ -1,11 +1,12 @@
 -- What the entry points answer for each kind of file, as the definitions have it.
-use Rattle.std.specs.Prelude.{ℕ, Bool, not, ◌&&◌}
-use Rattle.std.proofs.Math.Option.{Option}
-use Rattle.rules.specs.Basics.{Bytes, same, present}
-use Rattle.text_rules.specs.OtherWords.{record_line}
-use Rattle.text_rules.specs.OtherDecoding.{record_of}
+use Rattle.std.specs.Prelude as std
+use Rattle.std.proofs.Math.Option.{Option, none, some}
+use Rattle.rules.specs.Basics.{Bytes}
 use Rattle.text_rules.specs.Kinds.{acl_kind, request_kind, requests_kind, bundle_kind, hints_kind}
 use Rattle.text_rules.specs.Listing.{Listed, write_text, read_text_into}
+use Rattle.text_acl.specs.Answers.{after_line}
+use Rattle.text_states.specs.declared.State.{State}
+use Rattle.text_states.specs.States.{AnyState, state_as, kind_from}
 use Rattle.text_files.specs.declared.Kind.{Kind}
 use Rattle.text_files.specs.declared.Kind.TheVariants.{Acl, Request, Requests, Bundle, Hints}
 
@@ -25,6 +26,11 @@ read_as Requests text buffer = read_text_into requests_kind text buffer
 read_as Bundle text buffer = read_text_into bundle_kind text buffer
 read_as Hints text buffer = read_text_into hints_kind text buffer
 
--- a good line, by the fault of its record where it would stand
-abbrev pub good_with : Option ℕ → Bytes → Bool
-good_with fault line = not (present fault) && same (record_line (record_of line)) line
+-- the state after a line, if the line is good
+abbrev pub line_after : AnyState → Bytes → Option AnyState
+line_after s line = after_line (kind_from s) s line
+
+-- what the code answers
+abbrev pub state_or : std.Option State → Option AnyState
+state_or std.None = none
+state_or (std.Some s) = some (state_as s)

@@ -1,14 +1,14 @@
 -- The kinds of file by their numbers in the header and in replay scripts, and what the entry points for texts answer for a number.
-use Rattle.std.specs.Prelude.{ℕ, eqb, if◌then◌else◌}
+use Rattle.std.specs.Prelude.{ℕ, eqb, if◌then◌else◌, Result, Ok, Err}
 use Rattle.std.proofs.Math.Option.{Option, none, some}
 use Rattle.rules.specs.Numbers.{out_of_range}
 use Rattle.rules.specs.Basics.{Bytes}
+use Rattle.refusals.specs.declared.Refusal.{Refusal}
+use Rattle.refusals.specs.declared.Refusal.TheVariants.{OutOfRange}
 use Rattle.text_rules.specs.Listing.{Listed, refused_with}
 use Rattle.text_files.specs.Entries.{written_as, read_as}
 use Rattle.text_files.specs.declared.Kind.{Kind}
 use Rattle.text_files.specs.declared.Kind.TheVariants.{Acl, Request, Requests, Bundle, Hints}
-use Rattle.text_kinds.specs.declared.KindOf.{KindOf}
-use Rattle.text_kinds.specs.declared.KindOf.TheVariants.{Known, Unknown}
 
 -- AKUBOLINFE_TEXT_ACL to AKUBOLINFE_TEXT_HINTS; no other number is a kind's
 unfoldable pub text_kind : ℕ → Option Kind
@@ -21,9 +21,9 @@ text_kind n =
     else none
 
 -- the code's answer
-abbrev pub kind_as : KindOf → Option Kind
-kind_as (Known k) = some k
-kind_as Unknown = none
+abbrev pub known_kind : Option Kind → Result Kind Refusal
+known_kind (some k) = Ok k
+known_kind none = Err OutOfRange
 
 -- an unknown kind is refused before anything else is checked
 abbrev pub unknown_kind : Bytes → Listed

@@ -1,13 +1,17 @@
 -- The turns of the loops over a text: a line's end, a word, a number's digits and a hash's, the bytes of a number.
-use Rattle.std.proofs.Common.{◌≡◌, ℕ, zero, suc, ◌+◌, ◌-◌, ◌*◌, ◌/◌, ◌%◌, ◌^◌, ◌<◌, ◌≤◌, Bool, true, false, not, ◌&&◌, ◌||◌, eqb, leb, [], ◌∷◌, ◌++◌, length, get_or, take, drop, set, sym, refl, ap, ◌∙◌, add-zero, pow-suc, arith, length-drop, drop_of_length-le, length-take, length-take-le, get_or-drop, take_all, get_or-take, drop-drop, pow-add, eq-eqb, ne_eqb, le-leb}
-use native.Mathlib.Nat.{div-add-mod, add-mod, mod-add-mod, mod-mod, add-mul-mod_self_left}
-use mathlib.Core.Bool.{false≢true}
-use borrow.Author.Tests.{eqb-false, lt-leb, not-true, not-false}
-use Rattle.rules.specs.Sizes.{hash_bytes}
+use Rattle.std.proofs.lemmas.List.{ext_get_or, get_or_append_left, get_or-replicate}
+use Rattle.std.proofs.Math.Seq.{get_or-append_right}
+use lib.ListN.{get_or-eq_default}
+use Rattle.std.specs.List.{position_or_len}
+use Rattle.std.specs.Simd.{first_chunks}
+use Rattle.std.specs.Int.{w64, to_be_bytes, bytes_high_first}
+use Rattle.std.specs.Option.{unwrap_or}
+use Rattle.text_rules.proofs.Digits.{below_or_not}
+use Rattle.std.proofs.Common.{◌⊎◌, inl, inr, min, cond, ltb, Option, Some, None, List, replicate, ◌≡◌, ℕ, zero, suc, ◌+◌, ◌-◌, ◌*◌, ◌/◌, ◌%◌, ◌^◌, ◌<◌, ◌≤◌, Bool, true, false, not, ◌&&◌, ◌||◌, eqb, leb, [], ◌∷◌, ◌++◌, length, get_or, take, drop, sym, refl, ap, ◌∙◌, add-zero, add-one, drop-cons, arith, length-drop, drop_of_length-le, length-take, length-take-le, get_or-drop, take_all, get_or-take, drop-drop, le-leb}
+use native.Mathlib.Nat.{div-add-mod, mod-mod, add-mul-mod_self_left}
+use borrow.Author.Tests.{lt-leb, not-true, not-false, ltb-true, ltb-false}
 use Rattle.rules.specs.Basics.{Bytes, same}
 use Rattle.rules.specs.Layout.{between}
-use Rattle.rules.proofs.Rows.{lent_rest_lem}
-use Rattle.text_rules.specs.Words.{newline}
 use Rattle.text_rules.specs.Decoding.{stands, hex_value, unhex, digits_of, decimal_from, bytes_of}
 use Rattle.text_rules.specs.OtherDecoding.{bytes_here}
 use Rattle.text_rules.specs.Listing.{lines_of, line_length}
@@ -15,16 +19,10 @@ use Rattle.text_rules.proofs.Digits.{unhex_length}
 use Rattle.text_rules.proofs.Lines.{lines_next}
 use Rattle.text_bytes.specs.Putting.{Put}
 use Rattle.text_bytes.specs.Names.{words_of, NameEnds}
-use Rattle.text_bytes.proofs.Laws.{put_byte, Filled, filled_none, filled_room, filled_piece, filled_all, left, left_next, left_none, GoesOn, goes_next, piece_ends}
+use Rattle.text_bytes.proofs.Laws.{put_as, Filled, filled_none, filled_piece, filled_all, left, piece_ends}
 use Rattle.text_lexer.specs.declared.Cursor.{Cursor}
-use Rattle.text_lexer.specs.Telling.{newline_in4, newline_in16, Skipped, LineEnds, LineWithin, NumberAt, NameFound, one_here, past_one, place_in, past_name}
+use Rattle.text_lexer.specs.Telling.{has_newline, Skipped, LineEnds, LineWithin, NumberAt, NameFound, one_here, past_one, place_in, past_name}
 use Rattle.text_lexer.specs.Taking.{Advanced, Field}
-
-pub rest_inside : (t : Bytes) (n : ℕ) → take (length t - n) (drop n t) ≡ drop n t
-rest_inside t n = lent_rest_lem t n
-
-pub rest_past : (t : Bytes) (n : ℕ) → length t < n → take (length t - length t) (drop (length t) t) ≡ drop n t
-rest_past t n h = lent_rest_lem t (length t) ∙ drop_of_length-le t {i = length t} (omega arith) ∙ sym (drop_of_length-le t {i = n} (omega arith))
 
 -- A line's end: from `at` to i no byte is the newline.
 pub line_ends : (t : Bytes) (at end : ℕ) → at < length t → at < end → end ≤ length t → end ≡ at + line_length (left t at) → LineEnds t at end
@@ -32,77 +30,165 @@ unfolding left
 line_ends t at end h p l e =
     record { past = p; inside = l; first = e; lines = piece_ends lines_of line_length t at end (lines_next (drop at t) (omega (arith, length-drop at t))) e }
 
-module _ (t : Bytes) (at i : ℕ) (l : at ≤ i) (p : GoesOn line_length t at i) where
-  pub line_next : i < length t → (get_or t i 0 ≡ 10 → ⊥) → GoesOn line_length t at (i + 1)
-  unfolding line_length
-  line_next h n = goes_next line_length t at i p (ap line_length (left_next t i h) ∙ rw (ne_eqb (get_or t i 0) newline n))
+-- how far the next newline is
+abbrev next_newline : Bytes → ℕ
+next_newline t = position_or_len (λ c. eqb c 10) t
 
-  pub line_end : i < length t → get_or t i 0 ≡ 10 → LineEnds t at (i + 1)
-  unfolding line_length
-  line_end h n =
-      let e : line_length (left t i) ≡ 1 = ap line_length (left_next t i h) ∙ rw (eq-eqb (get_or t i 0) newline n) in
-      let q = p.rest in
-      line_ends t at (i + 1) (omega arith) (omega arith) (omega arith) (omega arith)
+line_found : (t : Bytes) → next_newline t < length t → line_length t ≡ next_newline t + 1
+unfolding line_length
+line_found [] h = absurd (omega arith)
+line_found (c ∷ t) h = pick (eqb c 10) refl (λ k. line_found t k) h
+  where
+    pick : (b : Bool) → eqb c 10 ≡ b → (next_newline t < length t → line_length t ≡ next_newline t + 1) → next_newline (c ∷ t) < length (c ∷ t) → line_length (c ∷ t) ≡ next_newline (c ∷ t) + 1
+    pick true e f k = rw e refl
+    pick false e f k =
+        let m : 1 + next_newline t < length (c ∷ t) = rw e at k in
+        let g = f (omega arith) in
+        rw e (omega arith)
 
-  pub line_all : at < length t → i ≤ length t → length t ≤ i → LineEnds t at i
-  unfolding line_length
-  line_all h k g =
-      let e : line_length (left t i) ≡ 0 = ap line_length (left_none t i g) in
-      let q = p.rest in
-      line_ends t at i h (omega arith) k (omega arith)
+line_none : (t : Bytes) → length t ≤ next_newline t → line_length t ≡ length t
+unfolding line_length
+line_none [] h = refl
+line_none (c ∷ t) h = pick (eqb c 10) refl (λ k. line_none t k) h
+  where
+    pick : (b : Bool) → eqb c 10 ≡ b → (length t ≤ next_newline t → line_length t ≡ length t) → length (c ∷ t) ≤ next_newline (c ∷ t) → line_length (c ∷ t) ≡ length (c ∷ t)
+    pick true e f k =
+        let m : length (c ∷ t) ≤ 0 = rw e at k in
+        absurd (omega arith)
+    pick false e f k =
+        let m : length (c ∷ t) ≤ 1 + next_newline t = rw e at k in
+        let g = f (omega arith) in
+        rw e (omega arith)
+
+-- what the search for the newline says, from a place on
+abbrev pub Newline : Bytes → Option ℕ → Type 0
+Newline t r = r ≡ cond (ltb (next_newline t) (length t)) (Some (next_newline t)) None
+
+module _ (t : Bytes) (at i : ℕ) (h : at < length t) (p : Skipped t at i) where
+  pub newline_found : (n : ℕ) → Newline (drop i t) (Some n) → LineEnds t at (i + n + 1)
+  unfolding left
+  newline_found n s = pick (ltb (next_newline (drop i t)) (length (drop i t))) refl s
+    where
+      pick : (b : Bool) → ltb (next_newline (drop i t)) (length (drop i t)) ≡ b → Some n ≡ cond b (Some (next_newline (drop i t))) None → LineEnds t at (i + n + 1)
+      pick true e f =
+          let m : n ≡ next_newline (drop i t) = cc in
+          let k = line_found (drop i t) (ltb-true (next_newline (drop i t)) (length (drop i t)) e) in
+          let q = p.rest in
+          let u = p.past in
+          let v = p.inside in
+          let w = ltb-true (next_newline (drop i t)) (length (drop i t)) e in
+          let d = length-drop i t in
+          line_ends t at (i + n + 1) h (omega arith) (omega arith) (omega arith)
+      pick false e f = cc
+
+  pub newline_none : Newline (drop i t) None → LineEnds t at (length t)
+  unfolding left
+  newline_none s = pick (ltb (next_newline (drop i t)) (length (drop i t))) refl s
+    where
+      pick : (b : Bool) → ltb (next_newline (drop i t)) (length (drop i t)) ≡ b → None ≡ cond b (Some (next_newline (drop i t))) None → LineEnds t at (length t)
+      pick true e f = cc
+      pick false e f =
+          let k = line_none (drop i t) (ltb-false (next_newline (drop i t)) (length (drop i t)) e) in
+          let q = p.rest in
+          let u = p.inside in
+          let d = length-drop i t in
+          line_ends t at (length t) h h (omega arith) (omega arith)
 
 -- blocks without a newline
-or_false : (a b : Bool) → (a || b) ≡ false → (a ≡ false) × (b ≡ false)
-or_false true b e = absurd (false≢true (sym e))
-or_false false b e = (refl, e)
+run_passed : (n : ℕ) (t : Bytes) → n ≤ length t → has_newline (take n t) ≡ false → line_length t ≡ n + line_length (drop n t)
+unfolding line_length
+run_passed zero t h e = omega arith
+run_passed (suc n) [] h e = absurd (omega arith)
+run_passed (suc n) (c ∷ t) h e = pick (eqb c 10) refl (λ k d. run_passed n t k d) e
+  where
+    pick : (b : Bool) → eqb c 10 ≡ b → (n ≤ length t → has_newline (take n t) ≡ false → line_length t ≡ n + line_length (drop n t)) → has_newline (take (suc n) (c ∷ t)) ≡ false → line_length (c ∷ t) ≡ suc n + line_length (drop n t)
+    pick true a f d =
+        let k : true ≡ false = rw a at d in
+        cc
+    pick false a f d =
+        let g = f (omega arith) (rw a at d) in
+        rw a (omega arith)
 
-pub sixteen_are : (t : Bytes) (i : ℕ) (a b c d : Bool) → a ≡ newline_in4 t i → b ≡ newline_in4 t (i + 4) → c ≡ newline_in4 t (i + 8) → d ≡ newline_in4 t (i + 12) → (((a || b) || c) || d) ≡ newline_in16 t i
-unfolding newline_in16
-sixteen_are t i a b c d ea eb ec ed = rw (ea, eb, ec, ed)
+-- a newline among those bytes that are left
+newline_at : (t : Bytes) (i : ℕ) → i < length t → has_newline (drop i t) ≡ (eqb (get_or t i 0) 10 || has_newline (drop (i + 1) t))
+newline_at t i h = rw (add-one, drop-cons t i 0 h) refl
 
-module _ (t : Bytes) (at : ℕ) where
-  byte_passed : (i j : ℕ) → at ≤ i → j < length t → j ≡ i → eqb (get_or t j 0) newline ≡ false → GoesOn line_length t at i → GoesOn line_length t at (j + 1)
-  byte_passed i j l h e d p = rw e (line_next t at i l p (omega arith) (eqb-false (get_or t i 0) newline (rw e at d)))
+pub newline_more : (t : Bytes) (i : ℕ) (b : Bool) → i < length t → (b || has_newline (drop i t)) ≡ has_newline t → ((b || eqb (get_or t i 0) 10) || has_newline (drop (i + 1) t)) ≡ has_newline t
+newline_more t i true h e = e
+newline_more t i false h e = sym (newline_at t i h) ∙ e
 
-  four_passed : (i j : ℕ) → at ≤ i → j + 4 ≤ length t → j ≡ i → newline_in4 t j ≡ false → GoesOn line_length t at i → GoesOn line_length t at (j + 4)
-  unfolding newline_in4
-  four_passed i j l h e d p =
-      let x = or_false _ _ d in
-      let y = or_false _ _ x.0 in
-      let z = or_false _ _ y.0 in
-      let a = byte_passed i j l (omega arith) e z.0 p in
-      let b = byte_passed (j + 1) (j + 1) (omega arith) (omega arith) refl z.1 a in
-      let c = byte_passed (j + 1 + 1) (j + 2) (omega arith) (omega arith) (omega arith) y.1 b in
-      let f = byte_passed (j + 2 + 1) (j + 3) (omega arith) (omega arith) (omega arith) x.1 c in
-      let g : j + 3 + 1 ≡ j + 4 = omega arith in
-      rw g at f
+pub newline_all : (t : Bytes) (i : ℕ) (b : Bool) → length t ≤ i → (b || has_newline (drop i t)) ≡ has_newline t → b ≡ has_newline t
+newline_all t i true h e = e
+newline_all t i false h e = rw (drop_of_length-le t {i = i} h) at e
 
-  block_passed : (i : ℕ) → at ≤ i → i + 16 ≤ length t → newline_in16 t i ≡ false → GoesOn line_length t at i → GoesOn line_length t at (i + 16)
-  unfolding newline_in16
-  block_passed i l h d p =
-      let x = or_false _ _ d in
-      let y = or_false _ _ x.0 in
-      let z = or_false _ _ y.0 in
-      let a = four_passed i i l (omega arith) refl z.0 p in
-      let b = four_passed (i + 4) (i + 4) (omega arith) (omega arith) refl z.1 a in
-      let c = four_passed (i + 4 + 4) (i + 8) (omega arith) (omega arith) (omega arith) y.1 b in
-      let f = four_passed (i + 8 + 4) (i + 12) (omega arith) (omega arith) (omega arith) x.1 c in
-      let g : i + 12 + 4 ≡ i + 16 = omega arith in
-      rw g at f
+-- of n blocks, those before the first with a newline
+abbrev clear_blocks : ℕ → Bytes → ℕ
+clear_blocks n t = position_or_len has_newline (first_chunks 16 n t)
 
-  pub skipped_none : at ≤ length t → Skipped t at at
-  skipped_none h = record { past = omega arith; inside = h; rest = refl }
+blocks_passed : (n : ℕ) (t : Bytes) → 16 * n ≤ length t → (16 * clear_blocks n t ≤ length t) × (line_length t ≡ 16 * clear_blocks n t + line_length (drop (16 * clear_blocks n t) t))
+blocks_passed zero t h = (omega arith, omega arith)
+blocks_passed (suc n) t h = pick (has_newline (take 16 t)) refl (blocks_passed n (drop 16 t) (omega (arith, length-drop 16 t)))
+  where
+    k : ℕ
+    k = clear_blocks n (drop 16 t)
 
-  pub skipped_goes : (i : ℕ) → Skipped t at i → GoesOn line_length t at i
-  unfolding left
-  skipped_goes i p = record { rest = p.rest }
+    pick : (b : Bool) → has_newline (take 16 t) ≡ b → (16 * k ≤ length (drop 16 t)) × (line_length (drop 16 t) ≡ 16 * k + line_length (drop (16 * k) (drop 16 t)))
+        → (16 * clear_blocks (suc n) t ≤ length t) × (line_length t ≡ 16 * clear_blocks (suc n) t + line_length (drop (16 * clear_blocks (suc n) t) t))
+    pick true e f = rw e (omega arith, omega arith)
+    pick false e f =
+        let r = run_passed 16 t (omega arith) e in
+        let d : drop (16 * k) (drop 16 t) ≡ drop (16 * (1 + k)) t = drop-drop (16 * k) 16 t ∙ ap (λ (m : ℕ). drop m t) (omega arith) in
+        let g = f.0 in
+        let q : line_length (drop 16 t) ≡ 16 * k + line_length (drop (16 * (1 + k)) t) = f.1 ∙ ap (λ (u : Bytes). 16 * k + line_length u) d in
+        let l = length-drop 16 t in
+        rw e (omega arith, omega arith)
 
-  pub skipped_block : (i : ℕ) (b : Bool) → 16 ≤ length t - i → b ≡ newline_in16 t i → b ≡ false → Skipped t at i → Skipped t at (i + 16)
-  unfolding left
-  skipped_block i b h e n p =
-      let l = p.past in
-      let g = block_passed i l (omega arith) (sym e ∙ n) (skipped_goes i p) in
-      record { past = omega arith; inside = omega arith; rest = g.rest }
+clear_most : (n : ℕ) (t : Bytes) → clear_blocks n t ≤ n
+clear_most zero t = omega arith
+clear_most (suc n) t = pick (has_newline (take 16 t)) refl (clear_most n (drop 16 t))
+  where
+    pick : (b : Bool) → has_newline (take 16 t) ≡ b → clear_blocks n (drop 16 t) ≤ n → clear_blocks (suc n) t ≤ suc n
+    pick true e f = rw e (omega arith)
+    pick false e f = rw e (omega arith)
+
+blocks_count : (n : ℕ) (t : Bytes) → length (first_chunks 16 n t) ≡ n
+blocks_count zero t = refl
+blocks_count (suc n) t = ap suc (blocks_count n (drop 16 t))
+
+skipped_blocks : (t : Bytes) (at n : ℕ) (o : Option ℕ) → at ≤ length t → n ≡ (length t - at) / 16 → o ≡ cond (ltb (clear_blocks n (drop at t)) n) (Some (clear_blocks n (drop at t))) None → Skipped t at (at + 16 * unwrap_or o n)
+skipped_blocks t at n o h e s = pick (ltb (clear_blocks n (drop at t)) n) refl
+  where
+    k : ℕ
+    k = clear_blocks n (drop at t)
+
+    skipped : (m : ℕ) → m ≡ k → Skipped t at (at + 16 * m)
+    skipped m d =
+        let l = length-drop at t in
+        let b = blocks_passed n (drop at t) (omega arith) in
+        let b0 = b.0 in
+        let g : drop (16 * k) (drop at t) ≡ drop (at + 16 * k) t = drop-drop (16 * k) at t in
+        let q : line_length (drop at t) ≡ 16 * k + line_length (drop (at + 16 * k) t) = b.1 ∙ ap (λ (u : Bytes). 16 * k + line_length u) g in
+        rw d record { past = omega arith; inside = omega arith; rest = omega arith }
+
+    pick : (b : Bool) → ltb k n ≡ b → Skipped t at (at + 16 * unwrap_or o n)
+    pick true d =
+        let u : o ≡ Some k = s ∙ rw d refl in
+        skipped (unwrap_or o n) (ap (λ (x : Option ℕ). unwrap_or x n) u)
+    pick false d =
+        let a = ltb-false k n d in
+        let b = clear_most n (drop at t) in
+        let u : o ≡ None = s ∙ rw d refl in
+        let v : n ≡ k = omega arith in
+        skipped (unwrap_or o n) (ap (λ (x : Option ℕ). unwrap_or x n) u ∙ v)
+
+pub skipped_chunks : (t : Bytes) (at : ℕ) (cs : List Bytes) (u : Bytes) (o : Option ℕ) (r : ℕ) → at ≤ length t → u ≡ drop at t → cs ≡ first_chunks 16 (length u / 16) u
+    → o ≡ cond (ltb (position_or_len has_newline cs) (length cs)) (Some (position_or_len has_newline cs)) None → r ≡ unwrap_or o (length cs) → Skipped t at (at + 16 * r)
+skipped_chunks t at cs u o r h eu ec eo er =
+    let n : ℕ = length (drop at t) / 16 in
+    let e : cs ≡ first_chunks 16 n (drop at t) = ec ∙ ap (λ (x : Bytes). first_chunks 16 (length x / 16) x) eu in
+    let l : length cs ≡ n = ap length e ∙ blocks_count n (drop at t) in
+    let s = rw (e, blocks_count n (drop at t)) at eo in
+    rw (er, l) (skipped_blocks t at n o h (ap (λ (m : ℕ). m / 16) (length-drop at t)) s)
 
 -- a line, as far as its first bytes show
 pub within_whole : (most : ℕ) (t : Bytes) (at end : ℕ) → length t - at ≤ most → LineEnds t at end → LineWithin most t at end
@@ -140,17 +226,12 @@ stands_is (x ∷ w) (y ∷ t) h = pick (eqb x y) (stands_is w t (omega arith))
     pick true e = e
     pick false e = refl
 
-module _ (w t : Bytes) (b : Bool) (h : length w ≤ length t) (e : b ≡ same w (take (length w - 0) (drop 0 t))) where
-  word_same : b ≡ same w (take (length w) t)
-  word_same =
-      let z : length w - 0 ≡ length w = omega arith in
-      rw z at e
+module _ (w t : Bytes) (b : Bool) (h : length w ≤ length t) (word_same : b ≡ same w (take (length w) t)) where
+  pub stands_differs : b ≡ false → false ≡ stands w t
+  stands_differs n = sym (stands_is w t h ∙ rw (← word_same, n))
 
-  pub stands_differs : not b ≡ true → false ≡ stands w t
-  stands_differs n = sym (stands_is w t h ∙ rw (← word_same, not-true b n))
-
-  pub stands_ends : (c : ℕ) → not b ≡ false → c ≡ get_or t (length w) 0 → leb c 32 ≡ stands w t
-  stands_ends c n d = sym (stands_is w t h ∙ rw (← word_same, not-false b n, ← d))
+  pub stands_ends : (c : ℕ) → b ≡ true → c ≡ get_or t (length w) 0 → leb c 32 ≡ stands w t
+  stands_ends c n d = sym (stands_is w t h ∙ rw (← word_same, n, ← d))
 
 -- Digits: none, or one and those after it.
 digits_none : (l : Bytes) → between 48 57 (get_or l 0 0) ≡ false → digits_of l ≡ []
@@ -176,18 +257,6 @@ wrap_more a k =
     let d : 2 ^ 64 * (a / 2 ^ 64) + a % 2 ^ 64 ≡ a = div-add-mod a (2 ^ 64) in
     let e : a * 10 + k ≡ a % 2 ^ 64 * 10 + k + 2 ^ 64 * (a / 2 ^ 64 * 10) = omega arith in
     ap (λ (x : ℕ). x % 2 ^ 64) e ∙ add-mul-mod_self_left (a % 2 ^ 64 * 10 + k) (2 ^ 64) (a / 2 ^ 64 * 10)
-
-wrap_sum : (a b x y r : ℕ) → a ≡ x % 2 ^ 64 → b ≡ y % 2 ^ 64 → r ≡ (a + b) % 2 ^ 64 → r ≡ (x + y) % 2 ^ 64
-wrap_sum a b x y r ea eb er = er ∙ rw (ea, eb) (sym (add-mod x y (2 ^ 64)))
-
--- ten times a number, by sums
-pub ten_times : (n d two four eight ten r : ℕ) → two ≡ (n + n) % 2 ^ 64 → four ≡ (two + two) % 2 ^ 64 → eight ≡ (four + four) % 2 ^ 64 → ten ≡ (eight + two) % 2 ^ 64 → r ≡ (ten + d) % 2 ^ 64 → r ≡ (n * 10 + d) % 2 ^ 64
-ten_times n d two four eight ten r e2 e4 e8 e10 er =
-    let f4 = wrap_sum two two (n + n) (n + n) four e2 e2 e4 in
-    let f8 = wrap_sum four four (n + n + (n + n)) (n + n + (n + n)) eight f4 f4 e8 in
-    let f10 = wrap_sum eight two (n + n + (n + n) + (n + n + (n + n))) (n + n) ten f8 e2 e10 in
-    let e : n + n + (n + n) + (n + n + (n + n)) + (n + n) + d ≡ n * 10 + d = omega arith in
-    er ∙ ap (λ (x : ℕ). (x + d) % 2 ^ 64) f10 ∙ mod-add-mod (n + n + (n + n) + (n + n + (n + n)) + (n + n)) (2 ^ 64) d ∙ ap (λ (x : ℕ). x % 2 ^ 64) e
 
 -- digits after numbers that are one modulo 2^64
 digits_wrap : (ds : Bytes) (a b : ℕ) → a % 2 ^ 64 ≡ b % 2 ^ 64 → decimal_from a ds % 2 ^ 64 ≡ decimal_from b ds % 2 ^ 64
@@ -225,26 +294,24 @@ module _ (most : ℕ) (t : Bytes) (n i c : ℕ) (h : i < most) (ec : c ≡ get_o
   unfolding digits_from
   stop_is e = counted_stop most t n i (omega arith) (digits_none (drop i (take most t)) (ap (between 48 57) head_is ∙ e)) p
 
-  pub counted_low : c < 48 → NumberAt most t n i
-  counted_low l = stop_is (rw (lt-leb 48 c l))
+  module _ (b : Bool) (eb : b ≡ between 48 57 c) where
+    pub counted_stops : not b ≡ true → NumberAt most t n i
+    counted_stops e = stop_is (sym eb ∙ not-true b e)
 
-  pub counted_high : 57 < c → NumberAt most t n i
-  counted_high l = stop_is (rw (le-leb 48 c (omega arith), lt-leb c 57 l))
-
-  pub counted_more : (m : ℕ) → 48 ≤ c → c ≤ 57 → m ≡ (n * 10 + (c - 48)) % 2 ^ 64 → Counted most t m (i + 1)
-  unfolding digits_from decimal_from
-  counted_more m l k em =
-      let b : between 48 57 c ≡ true = rw (le-leb 48 c l, le-leb c 57 k) in
-      let d : digits_from most t i ≡ c ∷ digits_from most t (i + 1) =
-      digits_one (drop i (take most t)) (ap (between 48 57) head_is ∙ b) ∙ ap (λ (x : ℕ). x ∷ digits_of (drop 1 (drop i (take most t)))) head_is ∙ ap (λ (x : Bytes). c ∷ digits_of x) (drop-drop 1 i (take most t)) in
-      let g = p.digits in
-      let a = ap length d in
-      let z : m % 2 ^ 64 ≡ (n * 10 + (c - 48)) % 2 ^ 64 = ap (λ (x : ℕ). x % 2 ^ 64) em ∙ mod-mod (n * 10 + (c - 48)) (2 ^ 64) in
-      record {
-        value = digits_wrap (digits_from most t (i + 1)) m (n * 10 + (c - 48)) z ∙ sym (ap (λ (ds : Bytes). decimal_from n ds % 2 ^ 64) d) ∙ p.value;
-        digits = omega arith;
-        small = omega arith;
-      }
+    pub counted_more : (m : ℕ) → not b ≡ false → m ≡ (n * 10 + (c - 48)) % 2 ^ 64 → Counted most t m (i + 1)
+    unfolding digits_from decimal_from
+    counted_more m e em =
+        let d : digits_from most t i ≡ c ∷ digits_from most t (i + 1) =
+        digits_one (drop i (take most t)) (ap (between 48 57) head_is ∙ sym eb ∙ not-false b e) ∙ ap (λ (x : ℕ). x ∷ digits_of (drop 1 (drop i (take most t)))) head_is
+        ∙ ap (λ (x : Bytes). c ∷ digits_of x) (drop-drop 1 i (take most t)) in
+        let g = p.digits in
+        let a = ap length d in
+        let z : m % 2 ^ 64 ≡ (n * 10 + (c - 48)) % 2 ^ 64 = ap (λ (x : ℕ). x % 2 ^ 64) em ∙ mod-mod (n * 10 + (c - 48)) (2 ^ 64) in
+        record {
+          value = digits_wrap (digits_from most t (i + 1)) m (n * 10 + (c - 48)) z ∙ sym (ap (λ (ds : Bytes). decimal_from n ds % 2 ^ 64) d) ∙ p.value;
+          digits = omega arith;
+          small = omega arith;
+        }
 
 pub counted_all : (most : ℕ) (t : Bytes) (n i : ℕ) → most ≤ i → i ≤ most → Counted most t n i → NumberAt most t n i
 unfolding digits_from digits_of
@@ -274,27 +341,7 @@ module _ (c : ℕ) where
   unfolding hex_value
   value_above h = (sym (rw (le-leb 48 c (omega arith), lt-leb c 57 (omega arith), le-leb 97 c (omega arith), lt-leb c 102 h)), omega arith)
 
--- two digits, by what was read
-pub pair_is : (a b x y u v : ℕ) → u ≡ hex_value a → v ≡ hex_value b → a ≡ x → b ≡ y → u * 16 + v ≡ hex_value x * 16 + hex_value y
-pair_is a b x y u v eu ev ea eb = rw (eu, ev, ea, eb)
-
 -- The bytes of a number, from the greatest place on.
-bytes_power : (k : ℕ) → 2 ^ (8 * k) ≡ 256 ^ k
-bytes_power zero = refl
-bytes_power (suc k) =
-    let e : 8 * suc k ≡ 8 * k + 8 = omega arith in
-    ap (λ (n : ℕ). 2 ^ n) e ∙ pow-add 2 (8 * k) 8 ∙ ap (λ (n : ℕ). n * 256) (bytes_power k) ∙ sym (pow-suc 256 k)
-
-unfoldable pub number_left : ℕ → ℕ → Bytes
-number_left n k = bytes_of k n
-
-number_next : (n k : ℕ) → 0 < k → number_left n k ≡ (n / 2 ^ (8 * (k - 1)) % 256) ∷ number_left n (k - 1)
-unfolding number_left bytes_of
-number_next n zero h = absurd (omega arith)
-number_next n (suc k) h =
-    let e : suc k - 1 ≡ k = omega arith in
-    rw (e, bytes_power k)
-
 bytes_length : (n k : ℕ) → length (bytes_of k n) ≡ k
 unfolding bytes_of
 bytes_length n zero = refl
@@ -321,58 +368,66 @@ bytes_wrap n zero h = refl
 bytes_wrap n (suc k) h =
     ap (λ (b : ℕ). b ∷ bytes_of k (n % 2 ^ 64)) (byte_wrap n k (omega arith)) ∙ ap (λ (bs : Bytes). n / 256 ^ k % 256 ∷ bs) (bytes_wrap n k (omega arith))
 
-module _ (n width at : ℕ) (old : Bytes) where
-  pub number_none : at + width ≤ length old → Filled (bytes_of width n) (number_left n width) at old old at
-  unfolding number_left
-  number_none h = filled_none (bytes_of width n) old at (omega arith)
+high_first : (k n : ℕ) → bytes_high_first k n ≡ bytes_of k n
+unfolding bytes_of
+high_first zero n = refl
+high_first (suc zero) n =
+    let e : n % 256 ≡ n / 1 % 256 = omega arith in
+    ap (λ (b : ℕ). b ∷ []) e
+high_first (suc (suc k)) n = ap (λ (bs : Bytes). n / 256 ^ suc k % 256 ∷ bs) (high_first (suc k) n)
 
-  pub number_byte : (now : Bytes) (k end : ℕ) → 0 < k → at + width ≤ length old → Filled (bytes_of width n) (number_left n k) at old now end → Filled (bytes_of width n) (number_left n (k - 1)) at old (set now end (n / 2 ^ (8 * (k - 1)) % 256)) (end + 1)
-  number_byte now k end h l p =
-      let q = rw (number_next n k h) at p in
-      let b : ℕ = n / 2 ^ (8 * (k - 1)) % 256 in
-      let w = bytes_length n width in
-      filled_piece (b ∷ []) (number_left n (k - 1)) q (put_byte now end b (omega (arith, filled_room (b ∷ []) (number_left n (k - 1)) q (omega arith))))
+low_bytes : (n width : ℕ) → width ≤ 8 → take (8 - (8 - width)) (drop (8 - width) (to_be_bytes w64 n)) ≡ bytes_high_first width n
+low_bytes n width h = go width refl
+  where
+    go : (j : ℕ) → width ≡ j → take (8 - (8 - width)) (drop (8 - width) (to_be_bytes w64 n)) ≡ bytes_high_first width n
+    go zero e = rw e refl
+    go (suc zero) e = rw e refl
+    go (suc (suc zero)) e = rw e refl
+    go (suc (suc (suc zero))) e = rw e refl
+    go (suc (suc (suc (suc zero)))) e = rw e refl
+    go (suc (suc (suc (suc (suc zero))))) e = rw e refl
+    go (suc (suc (suc (suc (suc (suc zero)))))) e = rw e refl
+    go (suc (suc (suc (suc (suc (suc (suc zero))))))) e = rw e refl
+    go (suc (suc (suc (suc (suc (suc (suc (suc zero)))))))) e = rw e refl
+    go (suc (suc (suc (suc (suc (suc (suc (suc (suc j))))))))) e = absurd (omega arith)
 
-  pub number_all : (now : Bytes) (k end : ℕ) → k ≤ 0 → Filled (bytes_of width n) (number_left n k) at old now end → Field width (bytes_of width n) at old now end
-  unfolding number_left bytes_of
-  number_all now k end h p =
-      let z : k ≡ 0 = omega arith in
-      let q = filled_all (rw z at p) in
-      let l = bytes_length n width in
-      let e = q.end in
-      record { written = q; ends = omega arith }
+pub number_put : (n width at : ℕ) (bs old new : Bytes) (r : ℕ) → width ≤ 8 → bs ≡ to_be_bytes w64 n → Put (take (8 - (8 - width)) (drop (8 - width) bs)) at old new r → Field width (bytes_of width n) at old new r
+number_put n width at bs old new r h e p =
+    let q = put_as (ap (λ (x : Bytes). take (8 - (8 - width)) (drop (8 - width) x)) e ∙ low_bytes n width h ∙ high_first width n) p in
+    let l = bytes_length n width in
+    let f = q.end in
+    record { written = q; ends = omega arith }
 
--- The bytes of a hash.
-unfoldable pub hash_left : Bytes → ℕ → Bytes
-hash_left t k = unhex (20 - k) (drop (2 * k) t)
+-- The bytes of a hash: as many of its digits as the text has, and zeros.
+abbrev pub pair : Bytes → ℕ → ℕ
+pair t j = hex_value (get_or t (2 * j) 0) * 16 + hex_value (get_or t (2 * j + 1) 0)
 
-hash_next : (t : Bytes) (k : ℕ) → k < 20 → hash_left t k ≡ (hex_value (get_or t (2 * k) 0) * 16 + hex_value (get_or t (2 * k + 1) 0)) ∷ hash_left t (k + 1)
-unfolding hash_left unhex
-hash_next t k h =
-    let e : 20 - k ≡ suc (20 - (k + 1)) = omega arith in
-    let a : get_or (drop (2 * k) t) 0 0 ≡ get_or t (2 * k) 0 = get_or-drop (2 * k) t 0 0 ∙ ap (λ (n : ℕ). get_or t n 0) (add-zero (2 * k)) in
-    let b : get_or (drop (2 * k) t) 1 0 ≡ get_or t (2 * k + 1) 0 = get_or-drop (2 * k) t 1 0 in
-    let m : 2 * k + 2 ≡ 2 * (k + 1) = omega arith in
-    let d : drop 2 (drop (2 * k) t) ≡ drop (2 * (k + 1)) t = drop-drop 2 (2 * k) t ∙ ap (λ (n : ℕ). drop n t) m in
-    ap (λ (n : ℕ). unhex n (drop (2 * k) t)) e ∙ rw (a, b, d)
+unhex_at : (k : ℕ) (t : Bytes) (j : ℕ) → j < k → get_or (unhex k t) j 0 ≡ pair t j
+unfolding unhex
+unhex_at zero t j h = absurd (omega arith)
+unhex_at (suc k) t zero h = refl
+unhex_at (suc k) t (suc j) h =
+    let e : 2 * suc j ≡ 2 + 2 * j = omega arith in
+    let d : 2 + 2 * j + 1 ≡ 2 + (2 * j + 1) = omega arith in
+    unhex_at k (drop 2 t) j (omega arith) ∙ rw (get_or-drop 2 t (2 * j) 0, get_or-drop 2 t (2 * j + 1) 0, e, d) refl
 
-module _ (t old : Bytes) (at : ℕ) where
-  pub hash_none : at + 20 ≤ length old → Filled (unhex 20 t) (hash_left t 0) at old old at
-  unfolding hash_left
-  hash_none h = filled_none (unhex 20 t) old at (omega arith)
+module _ (text copy hash : Bytes) (n : ℕ) (en : n ≡ min (length text) 40) (ec : copy ≡ take n text) where
+  digit_at : (i : ℕ) → i < 40 → get_or (copy ++ drop n (replicate 40 0)) i 0 ≡ get_or text i 0
+  digit_at i h = pick (below_or_not i n)
+    where
+      l : length copy ≡ n
+      l = ap length ec ∙ length-take-le n text (omega arith)
 
-  pub hash_byte : (now : Bytes) (k end b : ℕ) → k < 20 → at + 20 ≤ length old → b ≡ hex_value (get_or t (2 * k) 0) * 16 + hex_value (get_or t (2 * k + 1) 0)
-      → Filled (unhex 20 t) (hash_left t k) at old now end → Filled (unhex 20 t) (hash_left t (k + 1)) at old (set now end b) (end + 1)
-  hash_byte now k end b h l e p =
-      let q = rw (hash_next t k h, ← e) at p in
-      let w = unhex_length 20 t in
-      filled_piece (b ∷ []) (hash_left t (k + 1)) q (put_byte now end b (omega (arith, filled_room (b ∷ []) (hash_left t (k + 1)) q (omega arith))))
+      pick : (i < n) ⊎ (n ≤ i) → get_or (copy ++ drop n (replicate 40 0)) i 0 ≡ get_or text i 0
+      pick (inl a) = get_or_append_left copy (drop n (replicate 40 0)) 0 i (omega (arith, l)) ∙ ap (λ (x : Bytes). get_or x i 0) ec ∙ get_or-take n text i 0 a
+      pick (inr a) =
+          get_or-append_right copy (drop n (replicate 40 0)) i 0 (omega (arith, l)) ∙ get_or-drop n (replicate 40 0) (i - length copy) 0
+          ∙ get_or-replicate 40 (n + (i - length copy)) 0 0 (omega (arith, l)) ∙ sym (get_or-eq_default text 0 {n = i} (omega arith))
 
-  pub hash_all : (now : Bytes) (k end : ℕ) → 20 ≤ k → k ≤ 20 → Filled (unhex 20 t) (hash_left t k) at old now end → Put (unhex hash_bytes t) at old now end
-  unfolding hash_left unhex
-  hash_all now k end h l p =
-      let z : k ≡ 20 = omega arith in
-      filled_all (rw z at p)
+  pub hash_read : length hash ≡ 20 → ((j : ℕ) → j < 20 → get_or hash j 0 ≡ pair (copy ++ drop n (replicate 40 0)) j) → hash ≡ unhex 20 text
+  hash_read eh told =
+      ext_get_or 0 hash (unhex 20 text) (eh ∙ sym (unhex_length 20 text))
+      (λ j h. told j (omega arith) ∙ rw (digit_at (2 * j) (omega arith), digit_at (2 * j + 1) (omega arith)) refl ∙ sym (unhex_at 20 text j (omega arith)))
 
 -- Names: none of those before a place of the row stands.
 pub record Searched (names t : Bytes) (i index : ℕ) : Type 0 where
@@ -412,12 +467,9 @@ module _ (names t : Bytes) (i index : ℕ) (p : Searched names t i index) where
 unfoldable pub bytes_left : Bytes → ℕ → ℕ → Bytes
 bytes_left text at k = bytes_here k (drop at text)
 
-left_here : (text : Bytes) (at next k : ℕ) → 0 < k → drop next text ≡ past_one (drop at text) → bytes_left text at k ≡ bytes_of 1 (one_here (drop at text)) ++ bytes_left text next (k - 1)
+left_here : (text : Bytes) (at next k : ℕ) → drop next text ≡ past_one (drop at text) → bytes_left text at (suc k) ≡ bytes_of 1 (one_here (drop at text)) ++ bytes_left text next k
 unfolding bytes_left bytes_here one_here past_one
-left_here text at next zero h e = absurd (omega arith)
-left_here text at next (suc k) h e =
-    let m : suc k - 1 ≡ k = omega arith in
-    rw (m, e)
+left_here text at next k e = rw e refl
 
 here_length : (k : ℕ) (t : Bytes) → length (bytes_here k t) ≡ k
 unfolding bytes_here bytes_of
@@ -429,17 +481,18 @@ module _ (text old : Bytes) (c : Cursor) (count : ℕ) where
   unfolding bytes_left
   here_none h = filled_none (bytes_here count (drop c.at text)) old c.end (omega arith)
 
-  pub here_byte : (mid now : Bytes) (d e : Cursor) (k : ℕ) → 0 < k → Filled (bytes_here count (drop c.at text)) (bytes_left text d.at k) c.end old mid d.end
+  pub here_byte : (mid now : Bytes) (d e : Cursor) (i : ℕ) → i < count → Filled (bytes_here count (drop c.at text)) (bytes_left text d.at (count - i)) c.end old mid d.end
       → Advanced text (past_one (drop d.at text)) 0 0 11 d e → Field 1 (bytes_of 1 (one_here (drop d.at text))) d.end mid now e.end
-      → Filled (bytes_here count (drop c.at text)) (bytes_left text e.at (k - 1)) c.end old now e.end
-  here_byte mid now d e k h p a f =
-      filled_piece (bytes_of 1 (one_here (drop d.at text))) (bytes_left text e.at (k - 1)) (rw (left_here text d.at e.at k h a.place) at p) f.written
+      → Filled (bytes_here count (drop c.at text)) (bytes_left text e.at (count - (i + 1))) c.end old now e.end
+  here_byte mid now d e i h p a f =
+      let m : count - i ≡ suc (count - (i + 1)) = omega arith in
+      filled_piece (bytes_of 1 (one_here (drop d.at text))) (bytes_left text e.at (count - (i + 1))) (rw (m, left_here text d.at e.at (count - (i + 1)) a.place) at p) f.written
 
-  pub here_all : (now : Bytes) (d : Cursor) (k : ℕ) → k ≤ 0 → Filled (bytes_here count (drop c.at text)) (bytes_left text d.at k) c.end old now d.end
+  pub here_all : (now : Bytes) (d : Cursor) (i : ℕ) → count ≤ i → Filled (bytes_here count (drop c.at text)) (bytes_left text d.at (count - i)) c.end old now d.end
       → Field count (bytes_here count (drop c.at text)) c.end old now d.end
   unfolding bytes_left bytes_here
-  here_all now d k h p =
-      let z : k ≡ 0 = omega arith in
+  here_all now d i h p =
+      let z : count - i ≡ 0 = omega arith in
       let q = filled_all (rw z at p) in
       let l = here_length count (drop c.at text) in
       let f = q.end in

@@ -1,19 +1,15 @@
 -- What stands in a text, by places and bytes. With the bytes of a name after a space these are the definitions of the crate listings.
-use Rattle.std.specs.Prelude.{◌≡◌, ℕ, suc, ◌+◌, ◌*◌, ◌%◌, ◌^◌, ◌<◌, ◌≤◌, Bool, ◌||◌, List, [], ◌∷◌, length, take, drop, replicate, ◌==◌, slice_index, slice_range, if◌then◌else◌}
+use Rattle.std.specs.Prelude.{◌≡◌, ℕ, suc, ◌+◌, ◌*◌, ◌%◌, ◌^◌, ◌<◌, ◌≤◌, Bool, List, [], ◌∷◌, length, take, drop, replicate, eqb, slice_range, if◌then◌else◌}
+use Rattle.std.specs.List.{list_any}
 use Rattle.rules.specs.Sizes.{hash_bytes}
 use Rattle.rules.specs.Basics.{Bytes}
 use Rattle.text_rules.specs.Decoding.{stands, unhex, digits_max, digits_of, decimal_from}
 use Rattle.text_rules.specs.Words.{newline}
 use Rattle.text_rules.specs.Listing.{lines_of, line_length}
 
--- a byte 10 among the four bytes from an offset on
-unfoldable pub newline_in4 : Bytes → ℕ → Bool
-newline_in4 t i =
-    ((slice_index t i == newline || slice_index t (i + 1) == newline) || slice_index t (i + 2) == newline) || slice_index t (i + 3) == newline
-
--- a byte 10 among sixteen
-unfoldable pub newline_in16 : Bytes → ℕ → Bool
-newline_in16 t i = ((newline_in4 t i || newline_in4 t (i + 4)) || newline_in4 t (i + 8)) || newline_in4 t (i + 12)
+-- a newline among these bytes
+abbrev pub has_newline : Bytes → Bool
+has_newline t = list_any (λ c. eqb c newline) t
 
 -- from an offset to another no byte is 10: the line goes on there
 pub record Skipped (text : Bytes) (at i : ℕ) : Type 0 where

@@ -1,54 +1,46 @@
 // What stands in a text: its lines, the words of a line and what they tell. A word's bytes have the space before it.
 #![tactic(auto)]
 
-ghost use Rattle.std.specs.Prelude.{◌≡◌, ◌+◌, ◌-◌, ◌*◌, ◌%◌, ◌^◌, ◌<◌, ◌≤◌, length, drop, slice_index};
+ghost use Rattle.std.specs.Prelude.{◌≡◌, ◌+◌, ◌-◌, ◌*◌, ◌%◌, ◌^◌, ◌<◌, ◌≤◌, length, drop};
 ghost use Rattle.rules.specs.Sizes.{hash_bytes};
 ghost use Rattle.text_rules.specs.Decoding.{stands, hex_value, unhex, bytes_of};
 ghost use Rattle.text_rules.specs.OtherDecoding.{hash_here, past_here, bytes_here, time_after};
 ghost use Rattle.text_bytes.specs.Putting.{Put};
 ghost use Rattle.text_bytes.specs.Names.{words_of};
-ghost use Rattle.text_lexer.specs.Telling.{newline_in4, newline_in16, Skipped, LineEnds, LineWithin, NumberAt, NameFound, past_word, past_hash, past_digits, digits_in, past_number, hash_in, number_in, past_one, one_here, place_in, past_name};
+ghost use Rattle.text_lexer.specs.Telling.{has_newline, Skipped, LineEnds, LineWithin, NumberAt, NameFound, past_word, past_hash, past_digits, digits_in, past_number, hash_in, number_in, past_one, one_here, place_in, past_name};
 ghost use Rattle.text_lexer.specs.Taking.{one, Advanced, Field};
 
 // A number's value modulo 2^64, and how many digits it has.
-#[derive(Clone, Copy)]
+#[derive(Clone, Copy, Debug, PartialEq, Eq)]
 pub struct Number {
     pub value: u64,
     pub digits: usize,
 }
 
 // The index of a name in its row, and how many bytes the name has; none where no name of the row stands.
-#[derive(Clone, Copy)]
+#[derive(Clone, Copy, Debug, PartialEq, Eq)]
 pub struct Name {
     pub index: u64,
     pub bytes: usize,
 }
 
 // Where the reading of a line stands: the place in the text, the place in the record, and the flags that the words so far have set.
-#[derive(Clone, Copy)]
+#[derive(Clone, Copy, Debug, PartialEq, Eq)]
 pub struct Cursor {
     pub at: usize,
     pub end: usize,
     pub flags: u32,
 }
 
-// Whether one of four bytes is a newline. These tests and the next are joined without a jump, so that sixteen bytes cost a few instructions.
-fn newline_in_4(text: &[u8], i: usize) -> bool
-    requires { i + 4 ≤ length text.now }
-    ensures { result ≡ newline_in4 text.now i }
+// Whether one of sixteen bytes is a newline. No turn depends on a test, so that the compiler joins them.
+fn has_newline(block: &[u8; 16]) -> bool
+    ensures { result ≡ has_newline block.now }
 {
-    (text[i] == 10) | (text[i + 1] == 10) | (text[i + 2] == 10) | (text[i + 3] == 10)
-}
-
-// The same of sixteen.
-fn newline_in_16(text: &[u8], i: usize) -> bool
-    requires { i + 16 ≤ length text.now }
-    ensures { result ≡ newline_in16 text.now i }
-{
-    newline_in_4(text, i)
-        | newline_in_4(text, i + 4)
-        | newline_in_4(text, i + 8)
-        | newline_in_4(text, i + 12)
+    let mut found = false;
+    for c in block {
+        found |= *c == b'\n';
+    }
+    found
 }
 
 // Skips blocks of sixteen bytes without a newline.
@@ -56,29 +48,21 @@ fn skip_blocks(text: &[u8], at: usize) -> usize
     requires { at ≤ length text.now }
     ensures { Skipped text.now at result }
 {
-    let mut i = at;
-    while 16 <= text.len() - i {
-        if newline_in_16(text, i) {
-            return i;
-        }
-        i += 16;
-    }
-    i
+    let blocks = text[at..].as_chunks::<16>().0;
+    let clear = blocks.iter().position(|block| has_newline(block));
+    at + 16 * clear.unwrap_or(blocks.len())
 }
 
-// Where the line that begins at an offset ends: after its byte 10, or with the text.
+// Where the line that begins at an offset ends: after its newline, or with the text.
 pub fn line_end(text: &[u8], at: usize) -> usize
     requires { at < length text.now }
     ensures { LineEnds text.now at result }
 {
-    let mut i = skip_blocks(text, at);
-    while i < text.len() {
-        if text[i] == 10 {
-            return i + 1;
-        }
-        i += 1;
+    let from = skip_blocks(text, at);
+    match text[from..].iter().position(|c| *c == b'\n') {
+        Some(n) => from + n + 1,
+        None => text.len(),
     }
-    i
 }
 
 // The same, as far as the first `most` bytes of the line show: those past them are not read.
@@ -96,11 +80,7 @@ pub fn line_within(most: usize, text: &[u8], at: usize) -> usize
 pub fn past(text: &[u8], n: usize) -> &[u8]
     ensures { result.now ≡ drop n text.now }
 {
-    if n <= text.len() {
-        return &text[n..];
-    }
-    let end = text.len();
-    &text[end..]
+    &text[n.min(text.len())..]
 }
 
 // Whether a word stands at the beginning of a text, and ends there.
@@ -108,25 +88,17 @@ pub fn word_stands(word: &[u8], text: &[u8]) -> bool
     ensures { result ≡ stands word.now text.now }
 {
     let n = word.len();
-    if text.len() < n {
-        return false;
-    }
-    if !record_fields::same_bytes(word, &text[0..n]) {
-        return false;
-    }
-    text_bytes::byte_at(text, n) <= 32
+    n <= text.len()
+        && record_fields::same_bytes(word, &text[..n])
+        && text_bytes::byte_at(text, n) <= 32
 }
 
-// A number with one digit more, modulo 2^64: ten times the number is eight times and twice.
+// A number with one digit more, modulo 2^64.
 fn with_digit(n: u64, c: u8) -> u64
     requires { (48 ≤ c) × (c ≤ 57) }
     ensures { result ≡ (n * 10 + (c - 48)) % 2 ^ 64 }
 {
-    let two = std::num::wrapping_add_u64(n, n);
-    let four = std::num::wrapping_add_u64(two, two);
-    let eight = std::num::wrapping_add_u64(four, four);
-    let ten = std::num::wrapping_add_u64(eight, two);
-    std::num::wrapping_add_u64(ten, (c - 48) as u64)
+    n.wrapping_mul(10).wrapping_add((c - b'0') as u64)
 }
 
 // The number that a text begins with, at most so many digits of it.
@@ -134,28 +106,17 @@ fn number_at(most: usize, text: &[u8]) -> Number
     requires { most ≤ 20 }
     ensures { NumberAt most text.now result.value result.digits }
 {
-    let mut n = 0u64;
-    let mut i = 0;
-    while i < most {
+    let mut value = 0u64;
+    for i in 0..most {
         let c = text_bytes::byte_at(text, i);
-        if c < 48 {
-            return Number {
-                value: n,
-                digits: i,
-            };
+        if !c.is_ascii_digit() {
+            return Number { value, digits: i };
         }
-        if 57 < c {
-            return Number {
-                value: n,
-                digits: i,
-            };
-        }
-        n = with_digit(n, c);
-        i += 1;
+        value = with_digit(value, c);
     }
     Number {
-        value: n,
-        digits: i,
+        value,
+        digits: most,
     }
 }
 
@@ -180,83 +141,38 @@ fn name_at(names: &[u8], text: &[u8]) -> Name
 }
 
 // The lowest bytes of a number, the greatest place first, into a record from a place on; answers where they end. All else stays.
-pub fn put_number(n: u64, width: u64, at: usize, rec: &mut [u8]) -> usize
+pub fn put_number(n: u64, width: usize, at: usize, rec: &mut [u8]) -> usize
     requires { (width ≤ 8) × (at + width ≤ length rec.old) }
     ensures { Field width (bytes_of width n) at rec.old rec.new result }
 {
-    let mut k = width;
-    let mut end = at;
-    while 0 < k {
-        k -= 1;
-        rec[end] = ((n >> (8 * k)) % 256) as u8;
-        end += 1;
-    }
-    end
+    let bytes = n.to_be_bytes();
+    text_bytes::append(&bytes[8 - width..], at, rec)
 }
 
 // The value of a hexadecimal digit; another byte counts as zero.
 fn hex_value(c: u8) -> u8
     ensures { (result ≡ hex_value c) × (result < 16) }
 {
-    if c < 48 {
-        return 0;
+    match c {
+        b'0'..=b'9' => c - 48,
+        b'a'..=b'f' => c - 87,
+        _ => 0,
     }
-    if c <= 57 {
-        return c - 48;
-    }
-    if c < 97 {
-        return 0;
-    }
-    if c <= 102 {
-        return c - 87;
-    }
-    0
 }
 
-// The byte that two digits write; a digit past the end of the text counts as zero.
-fn hex_pair(text: &[u8], i: usize) -> u8
-    requires { i < 1000 }
-    ensures { result ≡ hex_value (slice_index text.now i) * 16 + hex_value (slice_index text.now (i + 1)) }
+// The bytes of a hash from its digits; a digit past the end of the text counts as zero. No turn depends on a test, so that the compiler joins sixteen
+// turns.
+fn hash_of(text: &[u8]) -> [u8; record_sizes::HASH]
+    ensures { result ≡ unhex hash_bytes text.now }
 {
-    hex_value(text_bytes::byte_at(text, i)) * 16 + hex_value(text_bytes::byte_at(text, i + 1))
-}
-
-// The same of two digits inside the text.
-fn hex_inside(text: &[u8], i: usize) -> u8
-    requires { i + 2 ≤ length text.now }
-    ensures { result ≡ hex_value (slice_index text.now i) * 16 + hex_value (slice_index text.now (i + 1)) }
-{
-    hex_value(text[i]) * 16 + hex_value(text[i + 1])
-}
-
-// The bytes of a hash whose forty digits are inside the text, into a record. No turn depends on a test, so that the compiler joins sixteen turns.
-fn put_inside(text: &[u8], at: usize, rec: &mut [u8]) -> usize
-    requires { (2 * hash_bytes ≤ length text.now) × (at + hash_bytes ≤ length rec.old) }
-    ensures { Put (unhex hash_bytes text.now) at rec.old rec.new result }
-{
-    let mut k = 0;
-    let mut end = at;
-    while k < record_sizes::HASH {
-        rec[end] = hex_inside(text, 2 * k);
-        end += 1;
-        k += 1;
+    let mut digits = [0u8; 2 * record_sizes::HASH];
+    let given = text.len().min(2 * record_sizes::HASH);
+    digits[..given].copy_from_slice(&text[..given]);
+    let mut hash = [0u8; record_sizes::HASH];
+    for k in 0..record_sizes::HASH {
+        hash[k] = hex_value(digits[2 * k]) * 16 + hex_value(digits[2 * k + 1]);
     }
-    end
-}
-
-// The same of a text that may end before the fortieth digit.
-fn put_short(text: &[u8], at: usize, rec: &mut [u8]) -> usize
-    requires { at + hash_bytes ≤ length rec.old }
-    ensures { Put (unhex hash_bytes text.now) at rec.old rec.new result }
-{
-    let mut k = 0;
-    let mut end = at;
-    while k < record_sizes::HASH {
-        rec[end] = hex_pair(text, 2 * k);
-        end += 1;
-        k += 1;
-    }
-    end
+    hash
 }
 
 // The bytes of a hash from its digits, into a record from an offset on; answers where they end. The rest is unchanged.
@@ -264,10 +180,7 @@ fn put_hash(text: &[u8], at: usize, rec: &mut [u8]) -> usize
     requires { at + hash_bytes ≤ length rec.old }
     ensures { Put (unhex hash_bytes text.now) at rec.old rec.new result }
 {
-    if 2 * record_sizes::HASH <= text.len() {
-        return put_inside(text, at, rec);
-    }
-    put_short(text, at, rec)
+    text_bytes::append(&hash_of(text), at, rec)
 }
 
 // A word: where it stands, reading goes on past it, and its flag is set.
@@ -305,11 +218,7 @@ pub fn take_hash(word: &[u8], weight: u32, text: &[u8], c: Cursor, rec: &mut [u8
         };
     }
     let done = text_bytes::append(&[0u8; record_sizes::HASH], end, rec);
-    Cursor {
-        at,
-        end: done,
-        flags,
-    }
+    Cursor { end: done, ..c }
 }
 
 // A word and its number of at most so many digits, of which the lowest bytes go into the record; zeros where the word does not stand.
@@ -317,7 +226,7 @@ fn take_digits(
     most: usize,
     word: &[u8],
     weight: u32,
-    width: u64,
+    width: usize,
     text: &[u8],
     c: Cursor,
     rec: &mut [u8],
@@ -342,18 +251,14 @@ fn take_digits(
         };
     }
     let done = put_number(0, width, end, rec);
-    Cursor {
-        at,
-        end: done,
-        flags,
-    }
+    Cursor { end: done, ..c }
 }
 
 // A word and its number of at most ten digits.
 pub fn take_number(
     word: &[u8],
     weight: u32,
-    width: u64,
+    width: usize,
     text: &[u8],
     c: Cursor,
     rec: &mut [u8],
@@ -380,17 +285,12 @@ pub fn take_name(names: &[u8], first: u64, text: &[u8], c: Cursor, rec: &mut [u8
     ensures { Advanced text.now (past_name (words_of names.now) (drop c.at text.now)) 0 0 (length names.now) c result
         × Field 1 (bytes_of 1 (place_in (words_of names.now) (drop c.at text.now) + first)) c.end rec.old rec.new result.end }
 {
-    let at = c.at;
-    let end = c.end;
-    let flags = c.flags;
-    let name = name_at(names, past(text, at));
-    let index = name.index;
-    let bytes = name.bytes;
-    let done = put_number(index + first, 1, end, rec);
+    let name = name_at(names, past(text, c.at));
+    let done = put_number(name.index + first, 1, c.end, rec);
     Cursor {
-        at: at + bytes,
+        at: c.at + name.bytes,
         end: done,
-        flags,
+        ..c
     }
 }
 
@@ -400,14 +300,11 @@ pub fn hash_here(text: &[u8], c: Cursor, rec: &mut [u8]) -> Cursor
     ensures { Advanced text.now (past_here (drop c.at text.now)) 0 0 41 c result
         × Field hash_bytes (hash_here (drop c.at text.now)) c.end rec.old rec.new result.end }
 {
-    let at = c.at;
-    let end = c.end;
-    let flags = c.flags;
-    let done = put_hash(past(text, at + 1), end, rec);
+    let done = put_hash(past(text, c.at + 1), c.end, rec);
     Cursor {
-        at: at + 41,
+        at: c.at + 41,
         end: done,
-        flags,
+        ..c
     }
 }
 
@@ -417,17 +314,12 @@ fn byte_here(text: &[u8], c: Cursor, rec: &mut [u8]) -> Cursor
     ensures { Advanced text.now (past_one (drop c.at text.now)) 0 0 11 c result
         × Field 1 (bytes_of 1 (one_here (drop c.at text.now))) c.end rec.old rec.new result.end }
 {
-    let at = c.at;
-    let end = c.end;
-    let flags = c.flags;
-    let n = number_at(10, past(text, at + 1));
-    let value = n.value;
-    let digits = n.digits;
-    let done = put_number(value, 1, end, rec);
+    let n = number_at(10, past(text, c.at + 1));
+    let done = put_number(n.value, 1, c.end, rec);
     Cursor {
-        at: at + 1 + digits,
+        at: c.at + 1 + n.digits,
         end: done,
-        flags,
+        ..c
     }
 }
 
@@ -437,10 +329,8 @@ pub fn bytes_here(count: usize, text: &[u8], c: Cursor, rec: &mut [u8]) -> usize
     ensures { Field count (bytes_here count (drop c.at text.now)) c.end rec.old rec.new result }
 {
     let mut d = c;
-    let mut k = count;
-    while 0 < k {
+    for _ in 0..count {
         d = byte_here(text, d, rec);
-        k -= 1;
     }
     d.end
 }

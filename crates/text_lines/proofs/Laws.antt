@@ -1,13 +1,13 @@
 -- A line from its parts.
-use Prim.Native.Nat.{ℕ, zero, suc, ◌+◌, ◌-◌, ◌^◌, ◌≤◌, ◌<◌}
+use Prim.Native.Nat.{ℕ, zero, suc, ◌+◌, ◌-◌, ◌*◌, ◌^◌, ◌≤◌, ◌<◌}
 use Prim.Native.String.{String}
 use native.Mathlib.Omega.{arith}
 use mathlib.Core.Path.{◌≡◌, refl, sym, ◌∙◌, ap}
 use mathlib.Core.Logic.{◌⊎◌, inl, inr}
-use mathlib.Core.List.{List, [], ◌∷◌, ◌++◌, append_assoc, append-nil, map}
+use mathlib.Core.List.{List, [], ◌∷◌, ◌++◌, append_assoc, map}
 use mathlib.Core.Bool.{Bool, true, false}
-use lib.ListN.{length, get_or, take, drop, length-drop, take-append-drop}
-use lib.Seq.{length-take-le, drop-drop, drop-cons}
+use lib.ListN.{length, get_or, drop, length-drop}
+use lib.Seq.{length-take-le}
 use lib.Dec.{eqb, leb}
 use borrow.Author.Tests.{lt-ltb, le-ltb, ne_eqb}
 use Rattle.rules.specs.Sizes.{hash_bytes}
@@ -20,7 +20,7 @@ use Rattle.text_rules.proofs.Digits.{below_or_not, decimal_length}
 use Rattle.text_rules.proofs.Words.{text_with}
 use Rattle.text_bytes.specs.Putting.{Put, Held, text_if}
 use Rattle.text_bytes.specs.Names.{words_of, name_at, names_text}
-use Rattle.text_bytes.proofs.Laws.{put_on, put_as}
+use Rattle.text_bytes.proofs.Laws.{put_on, put_as, Filled, filled_none, filled_piece, filled_all, left, left_next, left_none}
 use Rattle.text_bytes.proofs.Permissions.{permission_row, row_names, field_row, field_names_lem, signature_row, signature_names_lem}
 use Rattle.text_acl_lines.proofs.Laws.{names_line}
 use Rattle.text_lines.specs.Parts.{name_of, shares_text, token_text, bits_text, protection_text}
@@ -56,7 +56,7 @@ time_put n at rec old mid now new r s t l e p q o =
     time_text : (n : ℕ) (rec : Bytes) → n ≡ number 56 8 rec → ascii " time " ++ (decimal n ++ ascii "\n") ≡ words_text (time_word rec ∷ [])
     time_text n rec e = rw e
 
-pub certificate_held : (r old a b new : Bytes) (m i j n : ℕ) → m ≡ number 24 2 r → Held 52 (text_if true (ascii "certificate ") (hex (part 4 hash_bytes r))) 0 old a i → Held 21 (text_if true (ascii " mechanism ") (decimal m)) i a b j → Put (ascii "\n") j b new n → Held 320 (ascii "certificate" ++ words_text (certificate_words r)) 0 old new n
+pub certificate_held : (r old a b new : Bytes) (m i j n : ℕ) → m ≡ number 24 2 r → Held 52 ((ascii "certificate " ++ hex (part 4 hash_bytes r))) 0 old a i → Held 21 ((ascii " mechanism " ++ decimal m)) i a b j → Put (ascii "\n") j b new n → Held 320 (ascii "certificate" ++ words_text (certificate_words r)) 0 old new n
 unfolding ascii words_text word_text text_if
 certificate_held r old a b new m i j n e p q o =
     let x = p.bound in
@@ -64,12 +64,12 @@ certificate_held r old a b new m i j n e p q o =
     let z = o.end in
     record { written = put_as (text m e) (put_on p.written (put_on q.written o)); bound = omega arith }
   where
-    text : (m : ℕ) → m ≡ number 24 2 r → text_if true (ascii "certificate ") (hex (part 4 hash_bytes r)) ++ (text_if true (ascii " mechanism ") (decimal m) ++ ascii "\n") ≡ ascii "certificate" ++ words_text (certificate_words r)
+    text : (m : ℕ) → m ≡ number 24 2 r → (ascii "certificate " ++ hex (part 4 hash_bytes r)) ++ ((ascii " mechanism " ++ decimal m) ++ ascii "\n") ≡ ascii "certificate" ++ words_text (certificate_words r)
     text m e = rw e (simp append_assoc)
 
 pub recovery_held : (r old a b c new : Bytes) (f : Bool) (m i j k n : ℕ) → m ≡ number 24 2 r → f ≡ flag 6 r
-    → Held 56 (text_if true (ascii "recovery kahash ") (hex (part 4 hash_bytes r))) 0 old a i
-    → Held 21 (text_if true (ascii " mechanism ") (decimal m)) i a b j
+    → Held 56 ((ascii "recovery kahash " ++ hex (part 4 hash_bytes r))) 0 old a i
+    → Held 21 ((ascii " mechanism " ++ decimal m)) i a b j
     → Held 9 (text_if f (ascii " blobfile") []) j b c k
     → Held 27 (words_text (time_word r ∷ [])) k c new n
     → Held 320 (ascii "recovery" ++ words_text (recovery_words r)) 0 old new n
@@ -82,7 +82,7 @@ recovery_held r old a b c new f m i j k n e d p q s o =
     record { written = put_as (text f m e d) (put_on p.written (put_on q.written (put_on s.written o.written))); bound = omega arith }
   where
     text : (f : Bool) (m : ℕ) → m ≡ number 24 2 r → f ≡ flag 6 r
-        → text_if true (ascii "recovery kahash ") (hex (part 4 hash_bytes r)) ++ (text_if true (ascii " mechanism ") (decimal m) ++ (text_if f (ascii " blobfile") [] ++ words_text (time_word r ∷ [])))
+        → (ascii "recovery kahash " ++ hex (part 4 hash_bytes r)) ++ ((ascii " mechanism " ++ decimal m) ++ (text_if f (ascii " blobfile") [] ++ words_text (time_word r ∷ [])))
         ≡ ascii "recovery" ++ words_text (recovery_words r)
     text f m e d = rw (e, d) (simp append_assoc)
 
@@ -120,7 +120,7 @@ token_held r old a b new f s l at i j n ef el es p q o =
     text f s l ef el es = rw (es, ef, el)
 
 pub blob_held : (r old a b c new : Bytes) (f : Bool) (i j k n : ℕ) → f ≡ flag 6 r
-    → Held 52 (text_if true (ascii "blob kmhash ") (hex (part 4 hash_bytes r))) 0 old a i
+    → Held 52 ((ascii "blob kmhash " ++ hex (part 4 hash_bytes r))) 0 old a i
     → Held 116 (token_text r) i a b j
     → Held 9 (text_if f (ascii " blobfile") []) j b c k
     → Held 27 (words_text (time_word r ∷ [])) k c new n
@@ -134,13 +134,13 @@ blob_held r old a b c new f i j k n d p q s o =
     record { written = put_as (text f d) (put_on p.written (put_on q.written (put_on s.written o.written))); bound = omega arith }
   where
     text : (f : Bool) → f ≡ flag 6 r
-        → text_if true (ascii "blob kmhash ") (hex (part 4 hash_bytes r)) ++ (token_text r ++ (text_if f (ascii " blobfile") [] ++ words_text (time_word r ∷ [])))
+        → (ascii "blob kmhash " ++ hex (part 4 hash_bytes r)) ++ (token_text r ++ (text_if f (ascii " blobfile") [] ++ words_text (time_word r ∷ [])))
         ≡ ascii "blob" ++ words_text (blob_request_words r)
     text f d = rw d (ap (λ (l : Bytes). ascii "blob" ++ l) (simp append_assoc))
 
 pub delegation_held : (r old a b c new : Bytes) (m i j k n : ℕ) → m ≡ number 44 2 r
-    → Held 56 (text_if true (ascii "delegation from ") (hex (part 4 hash_bytes r))) 0 old a i
-    → Held 44 (text_if true (ascii " to ") (hex (part 24 hash_bytes r))) i a b j
+    → Held 56 ((ascii "delegation from " ++ hex (part 4 hash_bytes r))) 0 old a i
+    → Held 44 ((ascii " to " ++ hex (part 24 hash_bytes r))) i a b j
     → Held 175 (names_text (words_of permission_row) m) j b c k
     → Put (ascii "\n") k c new n
     → Held 320 (ascii "delegation" ++ words_text (delegation_words r)) 0 old new n
@@ -153,7 +153,7 @@ delegation_held r old a b c new m i j k n e p q s o =
     record { written = put_as (text m e) (put_on p.written (put_on q.written (put_on s.written o))); bound = omega arith }
   where
     text : (m : ℕ) → m ≡ number 44 2 r
-        → text_if true (ascii "delegation from ") (hex (part 4 hash_bytes r)) ++ (text_if true (ascii " to ") (hex (part 24 hash_bytes r)) ++ (names_text (words_of permission_row) m ++ ascii "\n"))
+        → (ascii "delegation from " ++ hex (part 4 hash_bytes r)) ++ ((ascii " to " ++ hex (part 24 hash_bytes r)) ++ (names_text (words_of permission_row) m ++ ascii "\n"))
         ≡ ascii "delegation" ++ words_text (delegation_words r)
     text m e = rw (names_line m, e) (simp append_assoc)
 
@@ -174,18 +174,18 @@ bits_held r old a b new s t u w at i j n ew es et eu p q o =
     text s t u w ew es et eu = rw (es, et, eu, ew)
 
 pub protection_held : (r old a new : Bytes) (z at i n : ℕ) → z ≡ byte 7 r
-    → Held 22 (text_if true (ascii " protection ") (decimal z)) at old a i
+    → Held 22 ((ascii " protection " ++ decimal z)) at old a i
     → Put (ascii "\n") i a new n
     → Held 23 (protection_text r) at old new n
 unfolding ascii protection_text
 protection_held r old a new z at i n e p o =
     let b0 = p.bound in
     let b1 = o.end in
-    record { written = put_as (ap (λ (x : ℕ). text_if true (ascii " protection ") (decimal x) ++ ascii "\n") e) (put_on p.written o); bound = omega arith }
+    record { written = put_as (ap (λ (x : ℕ). (ascii " protection " ++ decimal x) ++ ascii "\n") e) (put_on p.written o); bound = omega arith }
 
 pub policy_held : (r old a b c new : Bytes) (x y i j k n : ℕ) → x ≡ byte 4 r → y ≡ byte 5 r
-    → Held 23 (text_if true (ascii "policy suite ") (decimal x)) 0 old a i
-    → Held 20 (text_if true (ascii " approach ") (decimal y)) i a b j
+    → Held 23 ((ascii "policy suite " ++ decimal x)) 0 old a i
+    → Held 20 ((ascii " approach " ++ decimal y)) i a b j
     → Held 23 (bits_text r) j b c k
     → Held 23 (protection_text r) k c new n
     → Held 320 (ascii "policy" ++ words_text (policy_words r)) 0 old new n
@@ -198,86 +198,45 @@ policy_held r old a b c new x y i j k n ex ey p q s o =
     record { written = put_as (text x y ex ey) (put_on p.written (put_on q.written (put_on s.written o.written))); bound = omega arith }
   where
     text : (x y : ℕ) → x ≡ byte 4 r → y ≡ byte 5 r
-        → text_if true (ascii "policy suite ") (decimal x) ++ (text_if true (ascii " approach ") (decimal y) ++ (bits_text r ++ protection_text r))
+        → (ascii "policy suite " ++ decimal x) ++ ((ascii " approach " ++ decimal y) ++ (bits_text r ++ protection_text r))
         ≡ ascii "policy" ++ words_text (policy_words r)
     text x y ex ey = rw (ex, ey) (ap (λ (l : Bytes). ascii "policy" ++ l) (simp append_assoc))
 
 -- numbers one after the other
-numbers_both : (xs ys : Bytes) → numbers_text (xs ++ ys) ≡ numbers_text xs ++ numbers_text ys
-unfolding numbers_text
-numbers_both [] ys = refl
-numbers_both (x ∷ xs) ys = ap (λ (t : Bytes). 32 ∷ t) (ap (λ (t : Bytes). decimal x ++ t) (numbers_both xs ys) ∙ sym (append_assoc (decimal x) (numbers_text xs) (numbers_text ys)))
+module _ (bytes old : Bytes) (at : ℕ) where
+  pub numbers_none : at + 11 * length bytes ≤ length old → Filled (numbers_text bytes) (numbers_text (left bytes 0)) at old old at
+  unfolding left
+  numbers_none h = filled_none (numbers_text bytes) old at (omega arith)
 
--- two bytes of a record, and four
-part_two : (r : Bytes) (from : ℕ) → from + 2 ≤ length r → part from 2 r ≡ byte from r ∷ byte (from + 1) r ∷ []
-part_two r from h =
-    let a = drop-cons r from 0 (omega arith) in
-    let b = drop-cons r (suc from) 0 (omega arith) in
-    let x : suc from ≡ from + 1 = omega arith in
-    ap (take 2) a ∙ ap (λ (t : Bytes). byte from r ∷ take 1 t) b ∙ ap (λ (k : ℕ). byte from r ∷ byte k r ∷ []) x
+  pub numbers_more : (mid new : Bytes) (i end r : ℕ) → i < length bytes → Held 11 (32 ∷ decimal (get_or bytes i 0)) end mid new r
+      → Filled (numbers_text bytes) (numbers_text (left bytes i)) at old mid end → Filled (numbers_text bytes) (numbers_text (left bytes (i + 1))) at old new r
+  unfolding numbers_text
+  numbers_more mid new i end r h q p = filled_piece (32 ∷ decimal (get_or bytes i 0)) (numbers_text (left bytes (i + 1))) (rw (left_next bytes i h) at p) q.written
 
-pub two_held : (r old a new : Bytes) (x y from at i n : ℕ) → from + 2 ≤ length r → x ≡ byte from r → y ≡ byte (from + 1) r
-    → Held 11 (text_if true (ascii " ") (decimal x)) at old a i
-    → Held 11 (text_if true (ascii " ") (decimal y)) i a new n
-    → Held 22 (numbers_text (part from 2 r)) at old new n
-unfolding ascii text_if numbers_text
-two_held r old a new x y from at i n h ex ey p o =
-    let b0 = p.bound in
-    let b1 = o.bound in
-    record { written = put_as text (put_on p.written o.written); bound = omega arith }
-  where
-    text : text_if true (ascii " ") (decimal x) ++ text_if true (ascii " ") (decimal y) ≡ numbers_text (part from 2 r)
-    text = rw (ex, ey, part_two r from h) (ap (λ (t : Bytes). 32 ∷ (decimal (byte from r) ++ 32 ∷ t)) (sym (append-nil (decimal (byte (from + 1) r)))))
+  pub numbers_all : (new : Bytes) (i end : ℕ) → length bytes ≤ i → i ≤ length bytes → end ≤ at + 11 * i → Filled (numbers_text bytes) (numbers_text (left bytes i)) at old new end → Held (11 * length bytes) (numbers_text bytes) at old new end
+  unfolding numbers_text
+  numbers_all new i end h l e p = record { written = filled_all (rw (left_none bytes i h) at p); bound = omega arith }
 
-take_past : (n k : ℕ) (xs ys : Bytes) → n ≡ length xs + k → take n (xs ++ ys) ≡ xs ++ take k ys
-take_past n k [] ys e =
-    let q : n ≡ k = omega arith in
-    ap (λ (j : ℕ). take j ys) q
-take_past zero k (x ∷ xs) ys e = absurd (omega arith)
-take_past (suc n) k (x ∷ xs) ys e = ap (λ (t : Bytes). x ∷ t) (take_past n k xs ys (omega arith))
-
-part_split : (r : Bytes) (from m : ℕ) → from + (m + m) ≤ length r → part from (m + m) r ≡ part from m r ++ part (from + m) m r
-part_split r from m h =
-    let a = length-drop from r in
-    let k = length-take-le m (drop from r) (omega arith) in
-    sym (ap (take (m + m)) (take-append-drop m (drop from r))) ∙ take_past (m + m) m (take m (drop from r)) (drop m (drop from r)) (omega arith) ∙ ap (λ (t : Bytes). take m (drop from r) ++ take m t) (drop-drop m from r)
-
-pub four_held : (r old a new : Bytes) (from at i n : ℕ) → from + 4 ≤ length r
-    → Held 22 (numbers_text (part from 2 r)) at old a i
-    → Held 22 (numbers_text (part (from + 2) 2 r)) i a new n
-    → Held 44 (numbers_text (part from 4 r)) at old new n
-four_held r old a new from at i n h p o =
-    let b0 = p.bound in
-    let b1 = o.bound in
-    let e = ap numbers_text (part_split r from 2 h) ∙ numbers_both (part from 2 r) (part (from + 2) 2 r) in
-    record { written = put_as (sym e) (put_on p.written o.written); bound = omega arith }
-
-pub hint_held : (r old a b c d new : Bytes) (x i j k h n : ℕ) → length r ≡ 64 → x ≡ byte 4 r
-    → Held 21 (text_if true (ascii "hint group ") (decimal x)) 0 old a i
+pub hint_held : (r old a b c new : Bytes) (x i j k n : ℕ) → length r ≡ 64 → x ≡ byte 4 r
+    → Held 21 (ascii "hint group " ++ decimal x) 0 old a i
     → Put (ascii " actions") i a b j
-    → Held 44 (numbers_text (part 8 4 r)) j b c k
-    → Held 44 (numbers_text (part 12 4 r)) k c d h
-    → Put (ascii "\n") h d new n
+    → Held (11 * length (part 8 8 r)) (numbers_text (part 8 8 r)) j b c k
+    → Put (ascii "\n") k c new n
     → Held 320 (ascii "hint" ++ words_text (hint_words r)) 0 old new n
 unfolding ascii words_text word_text text_if
-hint_held r old a b c d new x i j k h n l ex p q s t o =
+hint_held r old a b c new x i j k n l ex p q s o =
+    let d = length-drop 8 r in
+    let e = length-take-le 8 (drop 8 r) (omega arith) in
     let b0 = p.bound in
     let b1 = q.end in
     let b2 = s.bound in
-    let b3 = t.bound in
-    let b4 = o.end in
-    record { written = put_as (text x ex) (put_on p.written (put_on q (put_on s.written (put_on t.written o)))); bound = omega arith }
+    let b3 = o.end in
+    record { written = put_as (text x ex) (put_on p.written (put_on q (put_on s.written o))); bound = omega arith }
   where
-    both : (xs ys : Bytes) → numbers_text (xs ++ ys) ≡ numbers_text xs ++ numbers_text ys
-    both xs ys = numbers_both xs ys
-
-    eight : part 8 8 r ≡ part 8 4 r ++ part 12 4 r
-    eight = part_split r 8 4 (omega arith)
-
     text : (x : ℕ) → x ≡ byte 4 r
-        → text_if true (ascii "hint group ") (decimal x) ++ (ascii " actions" ++ (numbers_text (part 8 4 r) ++ (numbers_text (part 12 4 r) ++ ascii "\n")))
+        → (ascii "hint group " ++ decimal x) ++ (ascii " actions" ++ (numbers_text (part 8 8 r) ++ ascii "\n"))
         ≡ ascii "hint" ++ words_text (hint_words r)
-    text x ex = rw (ex, eight, both (part 8 4 r) (part 12 4 r)) (ap (λ (l : Bytes). ascii "hint" ++ l) (simp append_assoc))
+    text x ex = rw ex (ap (λ (l : Bytes). ascii "hint" ++ l) (simp append_assoc))
 
 -- A name out of a row is no longer than the row.
 name_length : (t : Bytes) (i : ℕ) → length (get_or (words_of t) i []) ≤ length t
@@ -374,7 +333,7 @@ use_held r old a b new w i j n e p q o =
 pub fact_held : (r old a b c new : Bytes) (v w i j k n : ℕ) → v ≡ byte 4 r → w ≡ v - 1
     → Put (ascii "fact") 0 old a i
     → Held 96 (name_of field_row w) i a b j
-    → Held 41 (text_if true (ascii " ") (hex (part 8 hash_bytes r))) j b c k
+    → Held 41 ((ascii " " ++ hex (part 8 hash_bytes r))) j b c k
     → Put (ascii "\n") k c new n
     → Held 320 (ascii "fact" ++ words_text (fact_words r)) 0 old new n
 unfolding ascii words_text word_text text_if
@@ -385,7 +344,7 @@ fact_held r old a b c new v w i j k n d e p q s o =
     let b3 = o.end in
     record { written = put_as (text w (e ∙ ap (λ (m : ℕ). m - 1) d)) (put_on p (put_on q.written (put_on s.written o))); bound = omega arith }
   where
-    text : (w : ℕ) → w ≡ byte 4 r - 1 → ascii "fact" ++ (name_of field_row w ++ (text_if true (ascii " ") (hex (part 8 hash_bytes r)) ++ ascii "\n")) ≡ ascii "fact" ++ words_text (fact_words r)
+    text : (w : ℕ) → w ≡ byte 4 r - 1 → ascii "fact" ++ (name_of field_row w ++ ((ascii " " ++ hex (part 8 hash_bytes r)) ++ ascii "\n")) ≡ ascii "fact" ++ words_text (fact_words r)
     text w e = rw (e, name_by field_row field_names (byte 4 r - 1) field_names_lem) (ap (λ (l : Bytes). ascii "fact" ++ l) (sym (text_with (bare true (told (byte 4 r - 1) field_names)) (alone (hex (part 8 hash_bytes r)) ∷ []) refl)))
 
 pub signature_held : (r old a b c d new : Bytes) (v w i j k h n : ℕ) → v ≡ byte 4 r → w ≡ v - 1

@@ -1,5 +1,5 @@
 -- The parts of a line, by the bytes of its words.
-use Rattle.std.specs.Prelude.{ℕ, [], ◌∷◌, ◌++◌, true, length, ltb, if◌then◌else◌}
+use Rattle.std.specs.Prelude.{ℕ, [], ◌∷◌, ◌++◌, length, ltb, if◌then◌else◌}
 use Rattle.rules.specs.Sizes.{hash_bytes}
 use Rattle.rules.specs.Basics.{Bytes, ascii, bit, part, number, byte, flag}
 use Rattle.rules.specs.Day.{decimal}
@@ -31,4 +31,4 @@ bits_text r =
 
 -- protection N
 unfoldable pub protection_text : Bytes → Bytes
-protection_text r = text_if true (ascii " protection ") (decimal (byte 7 r)) ++ ascii "\n"
+protection_text r = (ascii " protection " ++ decimal (byte 7 r)) ++ ascii "\n"

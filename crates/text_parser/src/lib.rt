@@ -11,26 +11,23 @@ ghost use Rattle.text_parser.specs.Parts.{token_place, token_bytes, outcome_byte
 
 use text_lexer::Cursor;
 
+// The names of the permissions in a row.
+const PERMISSIONS: &[u8] =
+    b" DuplicateHandle GetAppData ReduceACL GetACL Sign Verify SignModuleCert UseAsCertificate Encrypt Decrypt ExportAsPlain SetAppData ExpandACL UseAsBlobKey UseAsKM UseAsLoaderKey";
+
 // The record of a use's line: the permission, the time.
 fn use_from(line: &[u8], from: usize, at: usize, rec: &mut [u8]) -> usize
     requires { (from ≤ 20) × (at + 64 ≤ length rec.old) }
     ensures { Put (use_from (drop from line.now)) at rec.old rec.new result }
 {
-    let headed = text_acl_parser::put_header(6, 0, at, rec);
+    let headed = text_acl_parser::put_header(record_kinds::USE, 0, at, rec);
     let start = Cursor {
         at: from,
         end: headed,
         flags: 0,
     };
-    let named = text_lexer::take_name(
-        b" DuplicateHandle GetAppData ReduceACL GetACL Sign Verify SignModuleCert UseAsCertificate Encrypt Decrypt ExportAsPlain SetAppData ExpandACL UseAsBlobKey UseAsKM UseAsLoaderKey",
-        0,
-        line,
-        start,
-        rec,
-    );
-    let end = named.end;
-    let gap = text_bytes::append(&[0u8; 51], end, rec);
+    let named = text_lexer::take_name(PERMISSIONS, 0, line, start, rec);
+    let gap = text_bytes::append(&[0u8; 51], named.end, rec);
     let last = Cursor {
         at: named.at,
         end: gap,
@@ -53,8 +50,7 @@ fn blob_token(line: &[u8], c: Cursor, rec: &mut [u8]) -> Cursor
     };
     let soft = text_lexer::take_word(b" AllowSoftSlots", 1, line, own);
     let bits = soft.flags as u64;
-    let first = soft.end;
-    let end = text_lexer::put_number(bits, 2, first, rec);
+    let end = text_lexer::put_number(bits, 2, soft.end, rec);
     let next = Cursor {
         at: soft.at,
         end,
@@ -70,9 +66,8 @@ fn end_from(zeros: &[u8], line: &[u8], c: Cursor, rec: &mut [u8]) -> Cursor
         × Put (zeros.now ++ bytes_of 8 (time_after (after_word "blobfile" (drop c.at line.now)))) c.end rec.old rec.new result.end }
 {
     let filed = text_lexer::take_word(b" blobfile", 64, line, c);
-    let end = filed.end;
     let flags = filed.flags;
-    let gap = text_bytes::append(zeros, end, rec);
+    let gap = text_bytes::append(zeros, filed.end, rec);
     let last = Cursor {
         at: filed.at,
         end: gap,
@@ -99,10 +94,8 @@ fn blob_from(line: &[u8], from: usize, at: usize, rec: &mut [u8]) -> usize
     let key = text_lexer::take_hash(b" kmhash", 0, line, start, rec);
     let token = blob_token(line, key, rec);
     let last = end_from(&[0u8; 4], line, token, rec);
-    let done = last.end;
-    let flags = last.flags;
-    text_acl_parser::put_header(7, flags, at, rec);
-    done
+    text_acl_parser::put_header(record_kinds::BLOB, last.flags, at, rec);
+    last.end
 }
 
 // The record of a recovery blob request's line: the key's hash, the mechanism, the time.
@@ -118,10 +111,8 @@ fn recovery_from(line: &[u8], from: usize, at: usize, rec: &mut [u8]) -> usize
     let key = text_lexer::take_hash(b" kahash", 0, line, start, rec);
     let named = text_lexer::take_number(b" mechanism", 0, 2, line, key, rec);
     let last = end_from(&[0u8; 30], line, named, rec);
-    let done = last.end;
-    let flags = last.flags;
-    text_acl_parser::put_header(8, flags, at, rec);
-    done
+    text_acl_parser::put_header(record_kinds::RECOVERY_BLOB, last.flags, at, rec);
+    last.end
 }
 
 // The record of a certificate's line: the key's hash and the mechanism.
@@ -129,7 +120,7 @@ fn certificate_from(line: &[u8], from: usize, at: usize, rec: &mut [u8]) -> usiz
     requires { (from ≤ 20) × (at + 64 ≤ length rec.old) }
     ensures { Put (certificate_from (drop from line.now)) at rec.old rec.new result }
 {
-    let headed = text_acl_parser::put_header(9, 0, at, rec);
+    let headed = text_acl_parser::put_header(record_kinds::CERTIFICATE, 0, at, rec);
     let start = Cursor {
         at: from,
         end: headed,
@@ -137,8 +128,7 @@ fn certificate_from(line: &[u8], from: usize, at: usize, rec: &mut [u8]) -> usiz
     };
     let key = text_lexer::hash_here(line, start, rec);
     let named = text_lexer::take_number(b" mechanism", 0, 2, line, key, rec);
-    let end = named.end;
-    text_bytes::append(&[0u8; 38], end, rec)
+    text_bytes::append(&[0u8; 38], named.end, rec)
 }
 
 // The record of a fact's line: the field, its content.
@@ -146,7 +136,7 @@ fn fact_from(line: &[u8], from: usize, at: usize, rec: &mut [u8]) -> usize
     requires { (from ≤ 20) × (at + 64 ≤ length rec.old) }
     ensures { Put (fact_from (drop from line.now)) at rec.old rec.new result }
 {
-    let headed = text_acl_parser::put_header(10, 0, at, rec);
+    let headed = text_acl_parser::put_header(record_kinds::FACT, 0, at, rec);
     let start = Cursor {
         at: from,
         end: headed,
@@ -159,16 +149,14 @@ fn fact_from(line: &[u8], from: usize, at: usize, rec: &mut [u8]) -> usize
         start,
         rec,
     );
-    let end = named.end;
-    let gap = text_bytes::append(&[0u8; 3], end, rec);
+    let gap = text_bytes::append(&[0u8; 3], named.end, rec);
     let next = Cursor {
         at: named.at,
         end: gap,
         flags: 0,
     };
     let content = text_lexer::hash_here(line, next, rec);
-    let last = content.end;
-    text_bytes::append(&[0u8; 36], last, rec)
+    text_bytes::append(&[0u8; 36], content.end, rec)
 }
 
 // A signature's outcome, and zeros to the end of the record.
@@ -182,9 +170,8 @@ fn outcome_from(line: &[u8], c: Cursor, rec: &mut [u8]) -> usize
         flags: 0,
     };
     let good = text_lexer::take_word(b" good", 1, line, own);
-    let end = good.end;
     let flags = good.flags as u64;
-    let last = text_lexer::put_number(flags, 1, end, rec);
+    let last = text_lexer::put_number(flags, 1, good.end, rec);
     text_bytes::append(&[0u8; 58], last, rec)
 }
 
@@ -193,7 +180,7 @@ fn signature_from(line: &[u8], from: usize, at: usize, rec: &mut [u8]) -> usize
     requires { (from ≤ 20) × (at + 64 ≤ length rec.old) }
     ensures { Put (signature_from (drop from line.now)) at rec.old rec.new result }
 {
-    let headed = text_acl_parser::put_header(11, 0, at, rec);
+    let headed = text_acl_parser::put_header(record_kinds::SIGNATURE, 0, at, rec);
     let start = Cursor {
         at: from,
         end: headed,
@@ -218,8 +205,7 @@ fn policy_bits(line: &[u8], c: Cursor, rec: &mut [u8]) -> Cursor
     let encryption = text_lexer::take_word(b" encryption", 2, line, signing);
     let csr = text_lexer::take_word(b" csr", 4, line, encryption);
     let bits = csr.flags as u64;
-    let first = csr.end;
-    let end = text_lexer::put_number(bits, 1, first, rec);
+    let end = text_lexer::put_number(bits, 1, csr.end, rec);
     Cursor {
         at: csr.at,
         end,
@@ -234,8 +220,7 @@ fn policy_end(line: &[u8], c: Cursor, rec: &mut [u8]) -> usize
 {
     let bits = policy_bits(line, c, rec);
     let protection = text_lexer::take_number(b" protection", 0, 1, line, bits, rec);
-    let end = protection.end;
-    text_bytes::append(&[0u8; 56], end, rec)
+    text_bytes::append(&[0u8; 56], protection.end, rec)
 }
 
 // The record of a policy's line: suite, approach, three bits, the lowest protection.
@@ -243,7 +228,7 @@ fn policy_from(line: &[u8], from: usize, at: usize, rec: &mut [u8]) -> usize
     requires { (from ≤ 20) × (at + 64 ≤ length rec.old) }
     ensures { Put (policy_record_from (drop from line.now)) at rec.old rec.new result }
 {
-    let headed = text_acl_parser::put_header(12, 0, at, rec);
+    let headed = text_acl_parser::put_header(record_kinds::POLICY, 0, at, rec);
     let start = Cursor {
         at: from,
         end: headed,
@@ -259,8 +244,7 @@ fn actions_from(line: &[u8], c: Cursor, rec: &mut [u8]) -> usize
     requires { (c.at ≤ 100) × (c.flags ≡ 0) × (c.end + 59 ≤ length rec.old) }
     ensures { Put (action_bytes (drop c.at line.now)) c.end rec.old rec.new result }
 {
-    let end = c.end;
-    let gap = text_bytes::append(&[0u8; 3], end, rec);
+    let gap = text_bytes::append(&[0u8; 3], c.end, rec);
     let next = Cursor {
         at: c.at,
         end: gap,
@@ -276,7 +260,7 @@ fn hint_from(line: &[u8], from: usize, at: usize, rec: &mut [u8]) -> usize
     requires { (from ≤ 20) × (at + 64 ≤ length rec.old) }
     ensures { Put (hint_from (drop from line.now)) at rec.old rec.new result }
 {
-    let headed = text_acl_parser::put_header(13, 0, at, rec);
+    let headed = text_acl_parser::put_header(record_kinds::HINT, 0, at, rec);
     let start = Cursor {
         at: from,
         end: headed,
@@ -292,13 +276,8 @@ fn bits_from(line: &[u8], c: Cursor, rec: &mut [u8]) -> usize
     ensures { Put (bits_bytes (drop c.at line.now)) c.end rec.old rec.new result }
 {
     let from = c.at;
-    let end = c.end;
-    let bits = text_acl_parser::names_from(
-        b" DuplicateHandle GetAppData ReduceACL GetACL Sign Verify SignModuleCert UseAsCertificate Encrypt Decrypt ExportAsPlain SetAppData ExpandACL UseAsBlobKey UseAsKM UseAsLoaderKey",
-        line,
-        from,
-    );
-    let last = text_lexer::put_number(bits as u64, 2, end, rec);
+    let bits = text_acl_parser::names_from(PERMISSIONS, line, from);
+    let last = text_lexer::put_number(bits as u64, 2, c.end, rec);
     text_bytes::append(&[0u8; 18], last, rec)
 }
 
@@ -307,7 +286,7 @@ fn delegation_from(line: &[u8], from: usize, at: usize, rec: &mut [u8]) -> usize
     requires { (from ≤ 20) × (at + 64 ≤ length rec.old) }
     ensures { Put (delegation_from (drop from line.now)) at rec.old rec.new result }
 {
-    let headed = text_acl_parser::put_header(14, 0, at, rec);
+    let headed = text_acl_parser::put_header(record_kinds::DELEGATION, 0, at, rec);
     let start = Cursor {
         at: from,
         end: headed,

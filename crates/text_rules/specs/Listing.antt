@@ -6,7 +6,6 @@ use Rattle.std.proofs.Math.Option.{Option, none, some}
 use Rattle.rules.specs.Sizes.{record_bytes}
 use Rattle.rules.specs.Numbers.{malformed, short_buffer, not_listing}
 use Rattle.rules.specs.Basics.{Bytes, Every, same, present, unless, first_fault, scan}
-use Rattle.rules.specs.Acl.{AclState}
 use Rattle.rules.specs.Subject.{written_over}
 use Rattle.text_rules.specs.Words.{newline, text_by}
 use Rattle.text_rules.specs.Decoding.{decoded}
@@ -154,15 +153,7 @@ pub record FirstBad {S : Type 0} (k : FileKind S) (text : Bytes) (n : ℕ) : Typ
   pub valid : so_far k before ≡ none
   pub bad : BadAfter k before later
 
--- An ACL's text is its listing. What the code's contracts say of it, by the names of request b: a line that is written as its record is,
-abbrev pub is_written : Bytes → Bool
-is_written = as_written acl_kind
-
--- A good line in a state of the ACL reader.
-abbrev pub good_line : AclState → Bytes → Bool
-good_line = good_in acl_kind
-
--- The first bad line of a listing.
+-- An ACL's text is its listing. What the code's contracts say of it, by the names of request b: the first bad line of a listing,
 abbrev pub listing_fault : Bytes → Option ℕ
 listing_fault = text_fault acl_kind
 

@@ -1,5 +1,5 @@
 -- The parser states of the files other than an ACL as one type, and what a record does to them.
-use Rattle.std.specs.Prelude.{ℕ}
+use Rattle.std.specs.Prelude.{ℕ, ◌+◌, Bool, ltb, Result, Ok, Err, if◌then◌else◌}
 use Rattle.std.proofs.Math.Option.{Option, none, some}
 use Rattle.rules.specs.Sizes.{request_records, day_records, bundle_records, hint_records}
 use Rattle.rules.specs.Basics.{Bytes}
@@ -8,11 +8,10 @@ use Rattle.refusals.specs.Refusals.{refusal_number}
 use Rattle.text_rules.specs.OtherWords.{record_line}
 use Rattle.text_rules.specs.OtherDecoding.{record_of}
 use Rattle.text_rules.specs.Kinds.{FileKind, RequestState, request_due, blob_file_due, presenting, request_state_fault, after_request_record, request_end, requests_kind, hints_kind}
-use Rattle.files.specs.declared.Checked.{Checked}
-use Rattle.files.specs.declared.Checked.TheVariants.{Sound, Refused}
+use Rattle.refusals.specs.declared.Refusal.{Refusal}
+use Rattle.refusals.specs.declared.Refusal.TheVariants.{Malformed, TooMany}
 use Rattle.text_states.specs.declared.State.{State}
 use Rattle.text_states.specs.declared.State.TheVariants as code
-use Rattle.text_states.specs.declared.Step.{Step}
 
 -- a state of one of the four readers
 pub data AnyState : Type 0 where
@@ -80,10 +79,11 @@ past (some f) s = stopped f
 unfoldable pub step_of : AnyState → Bytes → Stepped
 step_of s r = past (state_fault s r) (state_after s r)
 
--- what the code answers
-abbrev pub checked_as : AnyState → Checked → Stepped
-checked_as s Sound = on s
-checked_as s (Refused f) = stopped (refusal_number f)
+-- what the code answers: the state after the record, or its fault
+abbrev pub step_as : Result State Refusal → Stepped
+step_as (Ok s) = on (state_as s)
+step_as (Err f) = stopped (refusal_number f)
 
-abbrev pub step_as : Step → Stepped
-step_as r = checked_as (state_as r.state) r.found
+-- one record more after n of them, of at most so many: how many there are with it
+abbrev pub one_more : Bool → ℕ → ℕ → Result ℕ Refusal
+one_more good n most = if good then (if ltb n most then Ok (n + 1) else Err TooMany) else Err Malformed

@@ -1,15 +1,13 @@
 // Parser states of the files other than an ACL: a request, requests that stand alone, a bundle, hints. One step reads one record.
 #![tactic(auto)]
 
-ghost use Rattle.std.specs.Prelude.{◌≡◌, ◌≤◌, length, get_or};
-ghost use Rattle.rules.specs.Sizes.{record_bytes};
+ghost use Rattle.std.specs.Prelude.{◌≡◌, ◌≤◌, get_or};
 ghost use Rattle.rules.specs.Basics.{present};
 ghost use Rattle.files.specs.Faults.{fault_as};
-ghost use Rattle.refusals.specs.Refusals.{refusal_number};
 ghost use Rattle.text_rules.specs.Kinds.{request_due, blob_file_due, presenting};
-ghost use Rattle.text_states.specs.States.{of_request, of_requests, of_bundle, of_hints, state_as, state_end, state_most, stopped, on, step_of, step_as};
+ghost use Rattle.text_states.specs.States.{of_request, of_requests, of_bundle, of_hints, state_as, state_end, state_most, one_more, step_of, step_as};
 
-use files::Checked;
+use record_sizes::Record;
 use refusals::Refusal;
 
 // Request records of one file of requests that stand alone.
@@ -17,7 +15,7 @@ pub const REQUESTS: usize = 1000;
 
 // What may come next. A request file: its request record, the record of kind 15 that this announces, or what is presented after so many certificates
 // and delegations. A file of requests or of hints: after so many records. A bundle: after a record with this place in the order, and so many of field 14.
-#[derive(Clone, Copy)]
+#[derive(Clone, Copy, Debug, PartialEq, Eq)]
 pub enum State {
     Request,
     Blobfile,
@@ -27,147 +25,112 @@ pub enum State {
     Hints(usize),
 }
 
-// What reading a record finds, and the state after it where it has no fault.
-#[derive(Clone, Copy)]
-pub struct Step {
-    pub state: State,
-    pub found: Checked,
-}
-
-// A record with a fault.
-fn refused(r: Refusal) -> Step
-    ensures { step_as result ≡ stopped (refusal_number r) }
-{
-    Step {
-        state: State::Request,
-        found: Checked::Refused(r),
-    }
-}
-
-// A record without fault.
-fn passed(state: State) -> Step
-    ensures { step_as result ≡ on (state_as state) }
-{
-    Step {
-        state,
-        found: Checked::Sound,
-    }
-}
-
 // The request record of a request file.
-fn request_step(rec: &[u8]) -> Step
-    requires { length rec.now ≡ record_bytes }
+fn request_step(rec: &Record) -> Result<State, Refusal>
     ensures { step_as result ≡ step_of (of_request request_due) rec.now }
 {
     if !request_reader::request_record(rec) {
-        return refused(Refusal::Malformed);
+        return Err(Refusal::Malformed);
     }
-    if record_fields::flag_of(6, rec) {
-        return passed(State::Blobfile);
+    if record_fields::flag_of(record_kinds::HAS_BLOBFILE, rec) {
+        return Ok(State::Blobfile);
     }
-    passed(State::Presented(0, 0))
+    Ok(State::Presented(0, 0))
 }
 
 // The record of kind 15 that a request record announces.
-fn blobfile_step(rec: &[u8]) -> Step
-    requires { length rec.now ≡ record_bytes }
+fn blobfile_step(rec: &Record) -> Result<State, Refusal>
     ensures { step_as result ≡ step_of (of_request blob_file_due) rec.now }
 {
     if !request_reader::blobfile_record(rec) {
-        return refused(Refusal::Malformed);
+        return Err(Refusal::Malformed);
     }
-    passed(State::Presented(0, 0))
+    Ok(State::Presented(0, 0))
+}
+
+// One record more after n of them, of at most so many: how many there are with it.
+fn one_more(good: bool, n: usize, most: usize) -> Result<usize, Refusal>
+    ensures { result ≡ one_more good n most }
+{
+    if !good {
+        return Err(Refusal::Malformed);
+    }
+    if most <= n {
+        return Err(Refusal::TooMany);
+    }
+    Ok(n + 1)
 }
 
 // A certificate.
-fn certificate_step(certs: usize, dels: usize, rec: &[u8]) -> Step
-    requires { (length rec.now ≡ record_bytes) × (get_or rec.now 0 0 ≡ 9) }
+fn certificate_step(certs: usize, dels: usize, rec: &Record) -> Result<State, Refusal>
+    requires { get_or rec.now 0 0 ≡ 9 }
     ensures { step_as result ≡ step_of (of_request (presenting (record { certificates = certs; delegations = dels }))) rec.now }
 {
-    if !(request_reader::certificate_record(rec) & (dels == 0)) {
-        return refused(Refusal::Malformed);
-    }
-    if record_sizes::CERTIFICATES <= certs {
-        return refused(Refusal::TooMany);
-    }
-    passed(State::Presented(certs + 1, dels))
+    let good = request_reader::certificate_record(rec) & (dels == 0);
+    let count = one_more(good, certs, record_sizes::CERTIFICATES)?;
+    Ok(State::Presented(count, dels))
 }
 
 // A delegation, or another record after the request record.
-fn delegation_step(certs: usize, dels: usize, rec: &[u8]) -> Step
-    requires { (length rec.now ≡ record_bytes) × (get_or rec.now 0 0 ≡ 9 → ⊥) }
+fn delegation_step(certs: usize, dels: usize, rec: &Record) -> Result<State, Refusal>
+    requires { get_or rec.now 0 0 ≡ 9 → ⊥ }
     ensures { step_as result ≡ step_of (of_request (presenting (record { certificates = certs; delegations = dels }))) rec.now }
 {
-    if !request_reader::delegation_record(rec) {
-        return refused(Refusal::Malformed);
-    }
-    if record_sizes::DELEGATIONS <= dels {
-        return refused(Refusal::TooMany);
-    }
-    passed(State::Presented(certs, dels + 1))
+    let good = request_reader::delegation_record(rec);
+    let count = one_more(good, dels, record_sizes::DELEGATIONS)?;
+    Ok(State::Presented(certs, count))
 }
 
 // A record that is presented with a request.
-fn presented_step(certs: usize, dels: usize, rec: &[u8]) -> Step
-    requires { length rec.now ≡ record_bytes }
+fn presented_step(certs: usize, dels: usize, rec: &Record) -> Result<State, Refusal>
     ensures { step_as result ≡ step_of (of_request (presenting (record { certificates = certs; delegations = dels }))) rec.now }
 {
-    if rec[0] == 9 {
+    if rec[0] == record_kinds::CERTIFICATE {
         return certificate_step(certs, dels, rec);
     }
     delegation_step(certs, dels, rec)
 }
 
 // A request that stands alone, after n of them.
-fn alone_step(n: usize, rec: &[u8]) -> Step
-    requires { length rec.now ≡ record_bytes }
+fn alone_step(n: usize, rec: &Record) -> Result<State, Refusal>
     ensures { step_as result ≡ step_of (of_requests n) rec.now }
 {
-    if !request_reader::stands_alone(rec) {
-        return refused(Refusal::Malformed);
-    }
-    if REQUESTS <= n {
-        return refused(Refusal::TooMany);
-    }
-    passed(State::Requests(n + 1))
+    let count = one_more(request_reader::stands_alone(rec), n, REQUESTS)?;
+    Ok(State::Requests(count))
 }
 
 // A hint, after n of them.
-fn hint_step(n: usize, rec: &[u8]) -> Step
-    requires { length rec.now ≡ record_bytes }
+fn hint_step(n: usize, rec: &Record) -> Result<State, Refusal>
     ensures { step_as result ≡ step_of (of_hints n) rec.now }
 {
-    if !request_reader::hint_record(rec) {
-        return refused(Refusal::Malformed);
-    }
-    if record_sizes::HINT_RECORDS <= n {
-        return refused(Refusal::TooMany);
-    }
-    passed(State::Hints(n + 1))
+    let count = one_more(
+        request_reader::hint_record(rec),
+        n,
+        record_sizes::HINT_RECORDS,
+    )?;
+    Ok(State::Hints(count))
 }
 
 // A record of a bundle.
-fn bundle_step(last: u16, listed: usize, rec: &[u8]) -> Step
-    requires { length rec.now ≡ record_bytes }
+fn bundle_step(last: u16, listed: usize, rec: &Record) -> Result<State, Refusal>
     ensures { step_as result ≡ step_of (of_bundle (record { last = last; listed_count = listed })) rec.now }
 {
     let here = bundle_reader::record_order(rec);
     let again = bundle_reader::repeats(here);
     if !bundle_reader::in_place(last, here, again, rec) {
-        return refused(Refusal::Malformed);
+        return Err(Refusal::Malformed);
     }
     if again == 0 {
-        return passed(State::Bundle(here, listed));
+        return Ok(State::Bundle(here, listed));
     }
     if record_sizes::LISTED <= listed {
-        return refused(Refusal::TooMany);
+        return Err(Refusal::TooMany);
     }
-    passed(State::Bundle(here, listed + 1))
+    Ok(State::Bundle(here, listed + 1))
 }
 
 // The next record of a file.
-pub fn next(state: State, rec: &[u8]) -> Step
-    requires { length rec.now ≡ record_bytes }
+pub fn next(state: State, rec: &Record) -> Result<State, Refusal>
     ensures { step_as result ≡ step_of (state_as state) rec.now }
 {
     match state {
@@ -181,26 +144,23 @@ pub fn next(state: State, rec: &[u8]) -> Step
 }
 
 // The end of a bundle after a record with this place in the order.
-fn bundle_end(last: u16, listed: usize) -> Checked
+fn bundle_end(last: u16, listed: usize) -> Result<(), Refusal>
     ensures { fault_as result ≡ state_end (of_bundle (record { last = last; listed_count = listed })) }
 {
-    if !(last == bundle_reader::POLICY_ORDER) {
-        return Checked::Refused(Refusal::Malformed);
+    if last != bundle_reader::POLICY_ORDER {
+        return Err(Refusal::Malformed);
     }
-    Checked::Sound
+    Ok(())
 }
 
 // The end of a file: 2 where a record is missing.
-pub fn end(state: State) -> Checked
+pub fn end(state: State) -> Result<(), Refusal>
     ensures { fault_as result ≡ state_end (state_as state) }
 {
     match state {
-        State::Request => Checked::Refused(Refusal::Malformed),
-        State::Blobfile => Checked::Refused(Refusal::Malformed),
-        State::Presented(_, _) => Checked::Sound,
-        State::Requests(_) => Checked::Sound,
+        State::Request | State::Blobfile => Err(Refusal::Malformed),
+        State::Presented(_, _) | State::Requests(_) | State::Hints(_) => Ok(()),
         State::Bundle(last, listed) => bundle_end(last, listed),
-        State::Hints(_) => Checked::Sound,
     }
 }
 
@@ -208,11 +168,7 @@ pub fn end(state: State) -> Checked
 pub fn missing(state: State) -> bool
     ensures { result ≡ present (state_end (state_as state)) }
 {
-    let found = end(state);
-    match found {
-        Checked::Sound => false,
-        Checked::Refused(_) => true,
-    }
+    end(state).is_err()
 }
 
 // The greatest number of records of a file.
@@ -220,9 +176,7 @@ pub fn most(state: State) -> usize
     ensures { (result ≡ state_most (state_as state)) × (result ≤ 65535) }
 {
     match state {
-        State::Request => record_sizes::REQUEST_RECORDS,
-        State::Blobfile => record_sizes::REQUEST_RECORDS,
-        State::Presented(_, _) => record_sizes::REQUEST_RECORDS,
+        State::Request | State::Blobfile | State::Presented(_, _) => record_sizes::REQUEST_RECORDS,
         State::Requests(_) => REQUESTS,
         State::Bundle(_, _) => record_sizes::BUNDLE_RECORDS,
         State::Hints(_) => record_sizes::HINT_RECORDS,

@@ -1,13 +1,11 @@
--- A hint as far as it is written, and what is asked of an ACL from an offset on.
-use Rattle.std.specs.Prelude.{ℕ, ◌+◌, ◌≡◌, List, [], Bool, drop, set, eqb, if◌then◌else◌}
+-- A hint as far as it is written, and what is asked of the records that are left of an ACL.
+use Rattle.std.specs.Prelude.{Option, is_some, ℕ, ◌+◌, ◌≡◌, List, [], Bool, set, eqb, if◌then◌else◌}
 use Rattle.std.proofs.Math.Option.{none}
-use Rattle.rules.specs.Sizes.{record_bytes}
-use Rattle.rules.specs.Basics.{Bytes, part, kind, scan, records}
+use Rattle.rules.specs.Basics.{Bytes, kind, scan}
 use Rattle.rules.specs.Acl.{AclState, acl_record_fault, after_record, acl_end}
 use Rattle.rules.specs.Trim.{is_checked, kept_indices}
 use Rattle.rules.specs.Written.{hint_bytes}
-use Rattle.trim_records.specs.declared.TrimAction.{TrimAction}
-use Rattle.trim_records.specs.Fates.{is_kept}
+use Rattle.trim_records.specs.declared.Kept.{Kept}
 use Rattle.trim_hints.specs.declared.Hint.{Hint}
 
 -- a hint that names a group and no action yet
@@ -26,15 +24,15 @@ unfoldable pub action_hinted : Hint → Bool → Hint
 action_hinted h kept = if kept then named h else unnamed h
 
 -- the hint after a record that begins no group, which may be an action that is kept, changed or dropped
-unfoldable pub record_hinted : Hint → TrimAction → Bytes → Hint
-record_hinted h fate r = if eqb (kind r) 2 then h else if eqb (kind r) 15 then h else action_hinted h (is_kept fate)
+unfoldable pub record_hinted : Hint → Option Kept → Bytes → Hint
+record_hinted h fate r = if eqb (kind r) 2 then h else if eqb (kind r) 15 then h else action_hinted h (is_some fate)
 
--- "naming each kept .. action by its old place": those of the group whose first record begins at an offset of the ACL
-unfoldable pub places_at : List Bytes → Bytes → ℕ → List ℕ
-places_at b acl at = kept_indices b (is_checked b (part at record_bytes acl)) 0 (records (drop (at + record_bytes) acl))
+-- "naming each kept .. action by its old place": those of the group with a first record and the records that follow it
+unfoldable pub places_of : List Bytes → Bytes → List Bytes → List ℕ
+places_of b r rs = kept_indices b (is_checked b r) 0 rs
 
--- an ACL is read without fault from an offset on, where so many groups have begun
-pub record SoundFrom (acl : Bytes) (at groups : ℕ) : Type 0 where
+-- what is left of an ACL is read without fault, where so many groups have begun
+pub record SoundFrom (rs : List Bytes) (groups : ℕ) : Type 0 where
   pub place : AclState
-  pub sound : scan acl_record_fault after_record acl_end place (records (drop at acl)) ≡ none
+  pub sound : scan acl_record_fault after_record acl_end place rs ≡ none
   pub begun : place.groups ≡ groups

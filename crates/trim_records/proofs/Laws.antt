@@ -5,27 +5,33 @@ use native.Mathlib.Numerals.{add-one}
 use native.Mathlib.Nat.{add-zero, pow-succ'}
 use mathlib.Core.Path.{◌≡◌, refl, ◌∙◌, ap}
 use mathlib.Core.List.{List, [], ◌∷◌, ◌++◌}
-use mathlib.Core.Option.{Option, none, some}
+use mathlib.Core.Option.{Option, none}
 use mathlib.Core.Bool.{Bool, true, false, not, ◌&&◌, false≢true}
 use borrow.Author.Tests.{eqb-true, not-true, not-false}
 use lib.ListN.{length}
 use lib.Dec.{eqb}
 use lib.Arith.{mod-mul}
 use lib.Pow.{pow_pos}
-use Rattle.rules.specs.Sizes.{record_bytes}
-use Rattle.std.specs.Prelude.{if◌then◌else◌}
-use Rattle.rules.specs.Basics.{Bytes, implies, bit, number, kind, joined}
+use Rattle.rules.specs.Sizes.{record_bytes, hash_bytes}
+use Rattle.std.specs.Prelude.{if◌then◌else◌, Some, None, is_some, Result, Ok, Err, is_ok}
+use Rattle.std.specs.Prelude as prelude
+use Rattle.rules.specs.Basics.{Bytes, implies, bit, number, kind, flag, part, optional, both_same, joined}
 use Rattle.rules.specs.Bundle.{Policy, policy_of}
 use Rattle.rules.specs.Acl.{Action, action_of}
-use Rattle.rules.specs.Desk.{Step, failure_under, action_failure, class_of, policy_admits, module_key, recovery_key}
-use Rattle.rules.specs.Trim.{kept_below, kept_bits, action_passes, stays, trimmed_record, kept_before, trimmed_from}
+use Rattle.rules.specs.Desk.{Step, action_failure, class_of, policy_admits}
+use Rattle.rules.specs.Trim.{kept_below, kept_bits, is_checked, action_passes, stays, trimmed_record, kept_before, trimmed_from}
 use Rattle.rules.proofs.Laws.{not_both}
 use Rattle.rules.proofs.Bits.{kept_below_lem}
 use Rattle.rules.proofs.Trim.{masked}
+use Rattle.bundle_facts.specs.Found.{bytes_as}
+use Rattle.desk_steps.specs.declared.Step as code
+use Rattle.desk_steps.specs.Steps.{failure_as}
+use Rattle.desk_actions.specs.declared.Terms.{Terms}
 use Rattle.desk_actions.specs.Classes.{admitted_bit}
-use Rattle.trim_records.specs.declared.TrimAction.{TrimAction}
-use Rattle.trim_records.specs.declared.TrimAction.TheVariants.{Copied, Fewer, Dropped}
-use Rattle.trim_records.specs.Fates.{kept_bit, on_action, on_record, is_kept, size_of, left_of, kept_after, checked_after}
+use Rattle.desk_actions.specs.Judging.{TermsOf, failure_by}
+use Rattle.trim_records.specs.declared.Kept.{Kept}
+use Rattle.trim_records.specs.declared.Kept.TheVariants.{Whole, Fewer}
+use Rattle.trim_records.specs.Fates.{kept_bit, on_action, on_record, size_of, left_of, kept_after, checked_after}
 
 -- A bit that is set, and admitted if it is set.
 set_admitted : (x y : Bool) → (x && implies x y) ≡ (x && y)
@@ -90,34 +96,34 @@ kept_among (suc k) p bits = pick (bit k bits) refl (p k) refl (kept_among k p bi
 pub kept_most : (policy : Policy) (bits n : ℕ) → n ≡ kept_bits policy bits → n ≤ bits
 kept_most policy bits n e = let h = kept_among 16 (λ p. policy_admits policy (class_of p)) bits in omega arith
 
--- The step that an action fails, by what the code found in the bundle.
-pub failure_found : (b : List Bytes) (policy : Policy) (hkm hkre : Option Bytes) (a : Action) (f : Option Step) → policy ≡ policy_of b → hkm ≡ module_key b → hkre ≡ recovery_key b
-    → f ≡ failure_under policy hkm hkre a → f ≡ action_failure b a
-failure_found b policy hkm hkre a f p m r e = rw (← p, ← m, ← r) e
+-- The step that an action fails by the terms of the bundle, and whether it names the officer's key.
+module _ (b : List Bytes) (t : Terms) (of : TermsOf b t) where
+  pub failure_found : (a : Action) (f : Option Step) → f ≡ failure_by t a → f ≡ action_failure b a
+  failure_found a f e = rw (← of.policy, ← of.hkm, ← of.hkre) e
+
+  pub checked_found : (r : Bytes) (n : Bool) → n ≡ both_same (bytes_as t.officer) (optional (flag 0 r) (part 4 hash_bytes r)) → not n ≡ is_checked b r
+  unfolding is_checked
+  checked_found r n e = rw (← of.officer) (ap not e)
 
 -- What a run of steps found.
-module _ (b : List Bytes) (r : Bytes) where
-  pub pass_none : none ≡ action_failure b (action_of r none) → true ≡ action_passes b r
-  unfolding action_passes
-  pass_none e = rw (← e)
-
-  pub pass_some : (s : Step) → some s ≡ action_failure b (action_of r none) → false ≡ action_passes b r
-  unfolding action_passes
-  pass_some s e = rw (← e)
+pub passed : {A : Type 0} (b : List Bytes) (r : Bytes) (x : Result A code.Step) → failure_as x ≡ action_failure b (action_of r none) → is_ok x ≡ action_passes b r
+unfolding action_passes
+passed b r (Ok x) e = rw (← e)
+passed b r (Err s) e = rw (← e)
 
 -- The bytes that are left of a record.
-pub left_size : (b : List Bytes) (fate : TrimAction) (r : Bytes) → length r ≡ record_bytes → length (left_of b fate r) ≡ size_of fate
+pub left_size : (b : List Bytes) (fate : prelude.Option Kept) (r : Bytes) → length r ≡ record_bytes → length (left_of b fate r) ≡ size_of fate
 unfolding left_of
-left_size b Copied r w = w
-left_size b Fewer r w = (masked (kept_bits (policy_of b) (number 4 2 r)) r w).whole
-left_size b Dropped r w = refl
+left_size b (Some Whole) r w = w
+left_size b (Some Fewer) r w = (masked (kept_bits (policy_of b) (number 4 2 r)) r w).whole
+left_size b None r w = refl
 
 module _ (b : List Bytes) (checked : Bool) (r : Bytes) where
-  stays_as : stays b checked r ≡ is_kept (on_action b checked r)
+  stays_as : stays b checked r ≡ is_some (on_action b checked r)
   unfolding stays on_action
   stays_as = pick checked refl (action_passes b r) refl (eqb (kind r) 3) refl
     where
-      pick : (c : Bool) → checked ≡ c → (p : Bool) → action_passes b r ≡ p → (q : Bool) → eqb (kind r) 3 ≡ q → stays b checked r ≡ is_kept (on_action b checked r)
+      pick : (c : Bool) → checked ≡ c → (p : Bool) → action_passes b r ≡ p → (q : Bool) → eqb (kind r) 3 ≡ q → stays b checked r ≡ is_some (on_action b checked r)
       pick false u p e q d = rw u
       pick true u true e q d = rw (u, e)
       pick true u false e true d = rw (u, e, d)
@@ -137,25 +143,25 @@ module _ (b : List Bytes) (checked : Bool) (r : Bytes) where
   unfolding left_of
   gone_as s = pick (on_action b checked r) refl
     where
-      pick : (f : TrimAction) → on_action b checked r ≡ f → [] ≡ left_of b f r
-      pick Copied e = absurd (not_both (stays b checked r) (stays_as ∙ ap is_kept e) s)
-      pick Fewer e = absurd (not_both (stays b checked r) (stays_as ∙ ap is_kept e) s)
-      pick Dropped e = refl
+      pick : (f : prelude.Option Kept) → on_action b checked r ≡ f → [] ≡ left_of b f r
+      pick (Some Whole) e = absurd (not_both (stays b checked r) (stays_as ∙ ap is_some e) s)
+      pick (Some Fewer) e = absurd (not_both (stays b checked r) (stays_as ∙ ap is_some e) s)
+      pick None e = refl
 
   -- whether an action stays, by what the code does with it
-  pub action_stays : (fate : TrimAction) → fate ≡ on_action b checked r → stays b checked r ≡ is_kept fate
+  pub action_stays : (fate : prelude.Option Kept) → fate ≡ on_action b checked r → stays b checked r ≡ is_some fate
   action_stays fate e = rw e stays_as
 
 -- One record of an ACL: what is left of it, and what is left of the rest.
 module _ (b : List Bytes) (checked kept : Bool) (r : Bytes) (rs : List Bytes) where
-  abbrev Turn : TrimAction → Type 0
+  abbrev Turn : prelude.Option Kept → Type 0
   Turn fate = joined (trimmed_from b checked kept (r ∷ rs)) ≡ left_of b fate r ++ joined (trimmed_from b (checked_after b checked r) (kept_after fate kept r) rs)
 
   turn : Turn (on_record b checked kept r)
   unfolding trimmed_from joined left_of on_record kept_after checked_after
   turn = pick (eqb (kind r) 1) refl (eqb (kind r) 2) refl (eqb (kind r) 15) refl (stays b checked r) refl
     where
-      file : (k : Bool) → joined (kept_before k r (trimmed_from b checked k rs)) ≡ left_of b (if k then Copied else Dropped) r ++ joined (trimmed_from b checked (is_kept (if k then Copied else Dropped)) rs)
+      file : (k : Bool) → joined (kept_before k r (trimmed_from b checked k rs)) ≡ left_of b (if k then Some Whole else None) r ++ joined (trimmed_from b checked (is_some (if k then Some Whole else None)) rs)
       file true = refl
       file false = refl
 
@@ -166,5 +172,5 @@ module _ (b : List Bytes) (checked kept : Bool) (r : Bytes) (rs : List Bytes) wh
       pick false e false d false f true g = rw (e, d, f, g, ← left_as b checked r g, ← stays_as b checked r, g)
       pick false e false d false f false g = rw (e, d, f, g, ← gone_as b checked r g, ← stays_as b checked r, g)
 
-  pub record_turn : (fate : TrimAction) → fate ≡ on_record b checked kept r → Turn fate
+  pub record_turn : (fate : prelude.Option Kept) → fate ≡ on_record b checked kept r → Turn fate
   record_turn fate e = rw e turn

@@ -2,7 +2,7 @@
 // the file may or may not have been tested.
 #![tactic(auto)]
 
-ghost use Rattle.std.specs.Prelude.{◌≡◌, ◌+◌, ◌-◌, ◌^◌, ◌≤◌, ◌<◌, length};
+ghost use Rattle.std.specs.Prelude.{◌≡◌, ◌+◌, ◌-◌, ◌^◌, ◌≤◌, ◌<◌};
 ghost use Rattle.std.proofs.Math.Option.{none};
 ghost use Rattle.rules.specs.Sizes.{record_bytes};
 ghost use Rattle.rules.specs.Basics.{records};
@@ -10,19 +10,20 @@ ghost use Rattle.rules.specs.Acl.{action_of};
 ghost use Rattle.rules.specs.Desk.{action_failure};
 ghost use Rattle.rules.specs.Trim.{kept_bits, is_checked, action_passes};
 ghost use Rattle.bundle_facts.specs.Found.{policy_as};
-ghost use Rattle.bundle_facts.specs.Places.{Found};
 ghost use Rattle.desk_steps.specs.Steps.{failure_as};
-ghost use Rattle.trim_records.specs.Fates.{kept_bit, is_kept, size_of, on_action, on_blobfile, on_record, kept_after, checked_after};
+ghost use Rattle.trim_records.specs.Fates.{kept_bit, size_of, on_action, on_record, kept_after, checked_after};
 
-use bundle_facts::Policy;
-use desk_steps::Failure;
+use bundle_facts::{Facts, Policy};
+use desk_actions::Terms;
+use desk_steps::Step;
+use record_sizes::Record;
 
-// What the tool does with a record: it is copied, copied with fewer permissions, or dropped.
-#[derive(Clone, Copy)]
-pub enum TrimAction {
-    Copied,
+// How a record that is not dropped stays.
+#[derive(Clone, Copy, Debug, PartialEq, Eq)]
+pub enum Kept {
+    Whole,
+    // With fewer permissions.
     Fewer,
-    Dropped,
 }
 
 // A number with bit b more, above those that it has.
@@ -46,14 +47,11 @@ pub fn kept_bits(policy: Policy, bits: u16) -> u16
     ensures { result ≡ kept_bits (policy_as policy) bits }
 {
     let mut kept = 0;
-    let mut b = 0;
-    while b < 16 {
+    for b in 0..16 {
         if !bit_kept(policy, bits, b) {
-            b += 1;
             continue;
         }
         kept = with_bit(kept, b);
-        b += 1;
     }
     kept
 }
@@ -66,142 +64,102 @@ pub fn lost_bits(policy: Policy, bits: u16) -> u16
 }
 
 // Whether the desk checks the group of this record: one that the officer's key certifies is skipped.
-pub fn is_checked(places: &[usize; bundle_facts::ENTRIES], bundle: &[u8], rec: &[u8]) -> bool
-    requires { (length rec.now ≡ record_bytes) × Found bundle.now places.now }
-    ensures { result ≡ is_checked (records bundle.now) rec.now }
+pub fn is_checked(facts: Facts, rec: &Record) -> bool
+    ensures { result ≡ is_checked (records facts.entry.bundle.now) rec.now }
 {
-    !desk_actions::names_key(desk_evidence::field_of(4, places, bundle), 0, 4, rec)
+    !Terms::of(facts).names_officer(rec)
 }
 
 // The first step that an action fails, by the bundle's policy and the keys that it vouches for.
-pub fn action_failure(places: &[usize; bundle_facts::ENTRIES], bundle: &[u8], rec: &[u8]) -> Failure
-    requires { (length rec.now ≡ record_bytes) × Found bundle.now places.now }
-    ensures { failure_as result ≡ action_failure (records bundle.now) (action_of rec.now none) }
+pub fn action_failure(facts: Facts, rec: &Record) -> Result<(), Step>
+    ensures { failure_as result ≡ action_failure (records facts.entry.bundle.now) (action_of rec.now none) }
 {
-    let policy = bundle_facts::policy_of(places, bundle);
-    let hkm = desk_evidence::module_key(places, bundle);
-    let hkre = desk_evidence::recovery_key(places, bundle);
-    desk_actions::action_steps(policy, hkm, hkre, rec)
+    Terms::of(facts).action_steps(rec)
 }
 
 // Whether an action fails none of the steps.
-fn passes(places: &[usize; bundle_facts::ENTRIES], bundle: &[u8], rec: &[u8]) -> bool
-    requires { (length rec.now ≡ record_bytes) × Found bundle.now places.now }
-    ensures { result ≡ action_passes (records bundle.now) rec.now }
+fn passes(facts: Facts, rec: &Record) -> bool
+    ensures { result ≡ action_passes (records facts.entry.bundle.now) rec.now }
 {
-    let failure = action_failure(places, bundle, rec);
-    match failure {
-        Failure::Nothing => true,
-        Failure::At(_) => false,
-    }
+    action_failure(facts, rec).is_ok()
 }
 
-// What becomes of an action. One of permissions stays with those that pass, even with none; a blob action that fails a step goes.
-pub fn on_action(
-    places: &[usize; bundle_facts::ENTRIES],
-    bundle: &[u8],
-    checked: bool,
-    rec: &[u8],
-) -> TrimAction
-    requires { (length rec.now ≡ record_bytes) × Found bundle.now places.now }
-    ensures { result ≡ on_action (records bundle.now) checked rec.now }
+// What stays of an action. One of permissions stays with those that pass, even with none; a blob action that fails a step goes.
+pub fn on_action(facts: Facts, checked: bool, rec: &Record) -> Option<Kept>
+    ensures { result ≡ on_action (records facts.entry.bundle.now) checked rec.now }
 {
     if !checked {
-        return TrimAction::Copied;
+        return Some(Kept::Whole);
     }
-    if passes(places, bundle, rec) {
-        return TrimAction::Copied;
+    if passes(facts, rec) {
+        return Some(Kept::Whole);
     }
     if rec[0] == record_kinds::OP_PERMISSIONS {
-        return TrimAction::Fewer;
+        return Some(Kept::Fewer);
     }
-    TrimAction::Dropped
-}
-
-// What becomes of a record of kind 15: it goes with its action.
-fn on_blobfile(kept: bool) -> TrimAction
-    ensures { result ≡ on_blobfile kept }
-{
-    if kept {
-        return TrimAction::Copied;
-    }
-    TrimAction::Dropped
-}
-
-// What becomes of a record. Limits and records of kind 15 are copied or dropped too, so the tool looks at every record instead of using the
-// walk over actions. `checked` says whether actions are checked here, `kept` whether the last one stayed.
-pub fn on_record(
-    places: &[usize; bundle_facts::ENTRIES],
-    bundle: &[u8],
-    checked: bool,
-    kept: bool,
-    rec: &[u8],
-) -> TrimAction
-    requires { (length rec.now ≡ record_bytes) × Found bundle.now places.now }
-    ensures { result ≡ on_record (records bundle.now) checked kept rec.now }
-{
-    let kind = rec[0];
-    if kind == record_kinds::GROUP {
-        return TrimAction::Copied;
-    }
-    if kind == record_kinds::LIMIT {
-        return TrimAction::Copied;
-    }
-    if kind == record_kinds::BLOBFILE {
-        return on_blobfile(kept);
-    }
-    on_action(places, bundle, checked, rec)
-}
-
-// Whether a record is still there.
-pub fn is_kept(fate: TrimAction) -> bool
-    ensures { result ≡ is_kept fate }
-{
-    match fate {
-        TrimAction::Copied => true,
-        TrimAction::Fewer => true,
-        TrimAction::Dropped => false,
-    }
+    None
 }
 
 // The bytes that are left of a record.
-pub fn size_of(fate: TrimAction) -> usize
+pub fn size_of(fate: Option<Kept>) -> usize
     ensures { (result ≡ size_of fate) × (result ≤ record_bytes) }
 {
-    match fate {
-        TrimAction::Copied => record_sizes::RECORD,
-        TrimAction::Fewer => record_sizes::RECORD,
-        TrimAction::Dropped => 0,
+    if fate.is_some() {
+        record_sizes::RECORD
+    } else {
+        0
     }
 }
 
-// Whether the last action is kept, after a record with which the tool does this.
-pub fn kept_after(fate: TrimAction, kept: bool, rec: &[u8]) -> bool
-    requires { length rec.now ≡ record_bytes }
+// Whether the last action is kept, after a record of which this stays.
+fn kept_after(fate: Option<Kept>, kept: bool, rec: &Record) -> bool
     ensures { result ≡ kept_after fate kept rec.now }
 {
-    let kind = rec[0];
-    if kind == record_kinds::GROUP {
-        return kept;
+    match rec[0] {
+        record_kinds::GROUP => kept,
+        record_kinds::LIMIT => kept,
+        _ => fate.is_some(),
     }
-    if kind == record_kinds::LIMIT {
-        return kept;
-    }
-    is_kept(fate)
 }
 
 // Whether actions are checked after a record: a group's first one says so.
-pub fn checked_after(
-    places: &[usize; bundle_facts::ENTRIES],
-    bundle: &[u8],
-    checked: bool,
-    rec: &[u8],
-) -> bool
-    requires { (length rec.now ≡ record_bytes) × Found bundle.now places.now }
-    ensures { result ≡ checked_after (records bundle.now) checked rec.now }
+fn checked_after(facts: Facts, checked: bool, rec: &Record) -> bool
+    ensures { result ≡ checked_after (records facts.entry.bundle.now) checked rec.now }
 {
     if rec[0] == record_kinds::GROUP {
-        return is_checked(places, bundle, rec);
+        return is_checked(facts, rec);
     }
     checked
+}
+
+// Where the tool is in an ACL: whether actions are checked here, and whether the last one stayed.
+#[derive(Clone, Copy)]
+pub struct Standing {
+    pub checked: bool,
+    pub kept: bool,
+}
+
+impl Standing {
+    // What stays of a record. Limits and records of kind 15 are copied or dropped too, so the tool looks at every record instead of using the
+    // walk over actions. A record of kind 15 goes with its action.
+    pub fn on_record(self, facts: Facts, rec: &Record) -> Option<Kept>
+        ensures { result ≡ on_record (records facts.entry.bundle.now) self.checked self.kept rec.now }
+    {
+        match rec[0] {
+            record_kinds::GROUP => Some(Kept::Whole),
+            record_kinds::LIMIT => Some(Kept::Whole),
+            record_kinds::BLOBFILE => self.kept.then_some(Kept::Whole),
+            _ => on_action(facts, self.checked, rec),
+        }
+    }
+
+    // Where the tool is after a record of which this stays.
+    pub fn after(self, facts: Facts, fate: Option<Kept>, rec: &Record) -> Standing
+        ensures { (result.checked ≡ checked_after (records facts.entry.bundle.now) self.checked rec.now) × (result.kept ≡ kept_after fate self.kept rec.now) }
+    {
+        Standing {
+            checked: checked_after(facts, self.checked, rec),
+            kept: kept_after(fate, self.kept, rec),
+        }
+    }
 }

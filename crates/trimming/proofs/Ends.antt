@@ -1,7 +1,7 @@
 -- The ways that the tool ends, by what the code met: the reply, and both buffers.
 use Prim.Native.Nat.{ℕ, ◌+◌, ◌*◌, ◌≤◌, ◌<◌}
 use native.Mathlib.Omega.{arith}
-use mathlib.Core.Path.{◌≡◌, refl, sym, ◌∙◌, ap₂}
+use mathlib.Core.Path.{◌≡◌, refl, sym, ◌∙◌, ap, ap₂}
 use mathlib.Core.List.{List, [], ◌∷◌}
 use mathlib.Core.Option.{none, some}
 use mathlib.Core.Bool.{Bool, true, false}
@@ -12,14 +12,24 @@ use Rattle.rules.specs.Sizes.{record_bytes}
 use Rattle.rules.specs.Numbers.{short_buffer}
 use Rattle.rules.specs.Basics.{Bytes, Every, kind, scan, records}
 use Rattle.rules.specs.Acl.{AclState, acl_start, after_record, acl_record_fault, acl_fault_under, acl_fault}
-use Rattle.rules.specs.Desk.{Step, before_acl, desk_fault}
+use Rattle.rules.specs.Desk.{before_acl, desk_fault}
 use Rattle.rules.specs.Trim.{is_checked, kept_indices, hints_from, trimmed_acl, trim_hints, TrimReply, trimmed, untrimmed, unread, trim_fault, trim_reply, trim_acl_buffer, trim_hint_buffer, roomy}
 use Rattle.rules.proofs.Laws.{and_both, or_next_next, fault_none_every}
 use Rattle.rules.proofs.Joined.{Whole, joined_length}
 use Rattle.rules.proofs.Places.{acl_from}
 use Rattle.rules.proofs.Written.{hint_whole}
 use Rattle.rules.proofs.Trim.{group_places, fault_refused, fault_step, fault_short, fault_none}
+use Rattle.std.specs.Prelude.{Result, Ok, Err}
+use Rattle.std.specs.Result.{IsErrAnd, IsErr}
+use Rattle.refusals.specs.declared.Refusal.{Refusal}
+use Rattle.refusals.specs.Refusals.{refusal_number}
+use Rattle.desk_steps.specs.declared.Step.{Step}
+use Rattle.desk_steps.specs.Steps.{step_as}
 use Rattle.subject.specs.Writing.{overwritten}
+use Rattle.trimming.specs.declared.Lengths.{Lengths}
+use Rattle.trimming.specs.declared.Untrimmed.{Untrimmed}
+use Rattle.trimming.specs.declared.Untrimmed.TheVariants.{Failed, Refused}
+use Rattle.trimming.specs.Trimming.{trim_reply_as}
 
 -- Each hint has 64 bytes.
 hints_whole : (b : List Bytes) (place : ℕ) (s : AclState) (rs : List Bytes) → acl_from s rs ≡ none → Every Whole (hints_from b place rs)
@@ -45,6 +55,11 @@ acl_read bundle acl e = (fault_none_every _ e).1.1.0
 pub room_hints : (bundle acl : Bytes) → desk_fault bundle acl ≡ none → (m most : ℕ) → m ≡ length (hints_from (records bundle) 0 (records acl)) * record_bytes → m ≤ most → length (trim_hints (records bundle) acl) ≤ most
 room_hints bundle acl read m most e l = let d = hints_length (records bundle) acl (acl_read bundle acl read) in omega arith
 
+-- what `?` returns
+passed_on : (x : Result Lengths Untrimmed) (u : Untrimmed) → IsErr x × IsErrAnd x (λ v. v ≡ u) → x ≡ Err u
+passed_on (Ok n) u h = absurd h.1
+passed_on (Err v) u h = ap (λ (z : Untrimmed). Err z) h.1
+
 module _ (bundle acl new hints : Bytes) where
   -- the reply, and what both buffers hold afterwards
   abbrev pub Ends : TrimReply → Bytes → Bytes → Type 0
@@ -54,12 +69,12 @@ module _ (bundle acl new hints : Bytes) where
   unfolding trim_reply trim_acl_buffer trim_hint_buffer
   end_fault f e = rw e record { reply = refl; trimmed = refl; hinted = refl }
 
-  pub ends_refused : (f : ℕ) → desk_fault bundle acl ≡ some f → Ends (unread f) new hints
-  ends_refused f e = end_fault (unread f) (fault_refused bundle acl new hints f e)
+  pub ends_refused : (x : Result Lengths Untrimmed) (r : Refusal) → IsErr x × IsErrAnd x (λ u. u ≡ Refused r) → some (refusal_number r) ≡ desk_fault bundle acl → Ends (trim_reply_as x) new hints
+  ends_refused x r h e = rw (passed_on x (Refused r) h) (end_fault (unread (refusal_number r)) (fault_refused bundle acl new hints (refusal_number r) (sym e)))
 
   module _ (read : desk_fault bundle acl ≡ none) where
-    pub ends_step : (s : Step) → before_acl (records bundle) ≡ some s → Ends (untrimmed s) new hints
-    ends_step s e = end_fault (untrimmed s) (fault_step bundle acl new hints s read e)
+    pub ends_step : (x : Result Lengths Untrimmed) (s : Step) → IsErr x × IsErrAnd x (λ u. u ≡ Failed s) → some (step_as s) ≡ before_acl (records bundle) → Ends (trim_reply_as x) new hints
+    ends_step x s h e = rw (passed_on x (Failed s) h) (end_fault (untrimmed (step_as s)) (fault_step bundle acl new hints (step_as s) read (sym e)))
 
     module _ (passed : before_acl (records bundle) ≡ none) (n m : ℕ) (is : (n ≡ length (trimmed_acl (records bundle) acl)) × (m ≡ length (hints_from (records bundle) 0 (records acl)) * record_bytes)) where
       hints_is : m ≡ length (trim_hints (records bundle) acl)

@@ -5,8 +5,8 @@ use Rattle.acl_groups.proofs.next_action.Goals as goal
 pub returns-then-s-i-lt-RECORD : goal.returns-then-s-i-lt-RECORD
 returns-then-s-i-lt-RECORD c = search (rules, next_none)
 
-pub returns-then-s-i-eq1 : goal.returns-then-s-i-eq1
-returns-then-s-i-eq1 c = search (rules, next_group)
+pub returns-then-s-i-eq-GROUP : goal.returns-then-s-i-eq-GROUP
+returns-then-s-i-eq-GROUP c = search (rules, next_group)
 
 pub returns : goal.returns
 returns c = search (rules, next_here)

@@ -1,12 +1,10 @@
-use Prim.Native.Nat.{◌≤◌, ◌-◌}
+use Prim.Native.Nat.{◌*◌}
 use mathlib.Core.Path.{◌≡◌}
-use lib.ListN.{length}
-use Rattle.rules.specs.Basics.{records_from}
+use lib.ListN.{length, drop}
 use Rattle.bundle_facts.specs.Places.{entries, noted_from, offsets_of, Filling}
 use Rattle.bundle_facts.proofs.find_offsets.Given as goal
 
-abbrev pub invariant-loop-at : goal.invariant-loop-at
-invariant-loop-at l = (l.at ≤ length l.bundle) × ((length l.places ≡ entries) × (Filling l.bundle l.places (records_from l.bundle l.at) × (noted_from l.places l.at (records_from l.bundle l.at) ≡ offsets_of l.bundle)))
-
-abbrev pub decreases-loop-at : goal.decreases-loop-at
-decreases-loop-at l = length l.bundle - l.at
+abbrev pub invariant-loop-n : goal.invariant-loop-n
+invariant-loop-n l =
+    (length l.places ≡ entries)
+    × (Filling l.bundle l.places (drop l.n l.rec-items) × (noted_from l.places (l.n * 64) (drop l.n l.rec-items) ≡ offsets_of l.bundle))

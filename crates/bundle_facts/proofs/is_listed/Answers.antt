@@ -1,19 +1,16 @@
-use mathlib.Core.Path.{refl}
-use Rattle.rules.specs.Basics.{records_from}
-use Rattle.rules.specs.Bundle.{listed}
-use Rattle.bundle_facts.proofs.Laws.{any_found, any_next, any_none}
+use Rattle.std.proofs.Common.{tests}
+use Rattle.std.proofs.lemmas.Iterator.{YieldsList-from_slice}
+use Rattle.std.proofs.lemmas.Iterator.Search.{any_from_yields_List}
+use mathlib.Core.Path.{◌∙◌}
+use Rattle.rules.specs.Basics.{records}
+use Rattle.rules.specs.Bundle.{lists, listed}
+use Rattle.bundle_facts.proofs.Laws.{any_is}
 use borrow.Author.Rules.{rules}
 use Rattle.bundle_facts.proofs.is_listed.Goals as goal
 
-pub loop-at-init : goal.loop-at-init
-unfolding listed records_from
-loop-at-init c = (search rules, refl)
-
-pub returns-then-is_listing : goal.returns-then-is_listing
-returns-then-is_listing c = search (rules, any_found)
-
-pub loop-at-preserved : goal.loop-at-preserved
-loop-at-preserved c = (search rules, search (rules, any_next))
-
 pub returns : goal.returns
-returns c = search (rules, any_none)
+unfolding listed
+returns c =
+    let p = lists c.args.key.now in
+    any_from_yields_List p _ _ _ c.any.ensures.ran (YieldsList-from_slice (records c.args.bundle.now) cc) (λ x b q k. search (rules, tests))
+    ∙ any_is p (records c.args.bundle.now)

@@ -3,4 +3,4 @@ use Rattle.c_run_answers.specs.Surface.{host_cabinet_run_for}
 use Rattle.c_runs.proofs.akubolinfe_cabinet_run.Goals as goal
 
 pub returns : goal.returns
-returns c = c.cabinet_run.ensures _ ∙ ap host_cabinet_run_for c.run.ensures
+returns c = c.from.ensures _ ∙ ap host_cabinet_run_for c.run.ensures

@@ -3,4 +3,4 @@ use Rattle.c_run_answers.specs.Surface.{host_run_for}
 use Rattle.c_runs.proofs.akubolinfe_prepared_run.Goals as goal
 
 pub returns : goal.returns
-returns c = c.run.ensures _ ∙ ap host_run_for c.prepared_run.ensures
+returns c = c.from.ensures _ ∙ ap host_run_for c.prepared_run.ensures

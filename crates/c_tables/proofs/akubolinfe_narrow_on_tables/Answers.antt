@@ -2,4 +2,4 @@ use Rattle.c_tables.proofs.Tables.{outcome_on}
 use Rattle.c_tables.proofs.akubolinfe_narrow_on_tables.Goals as goal
 
 pub returns : goal.returns
-returns c = outcome_on c.narrow.result _ _ _ _ _ _ c.host_reply.ensures c.narrow.ensures
+returns c = outcome_on c.narrow.result _ _ _ _ _ _ c.from.ensures c.narrow.ensures

@@ -13,4 +13,4 @@ returns-then-slot-ge-SLOTS c = c.no_slot.ensures _ ∙ slot_missing _ _ _ _ c.if
 pub returns : goal.returns
 returns c = let a = c.args in
     slot_there (cabinet_as a.cabinet) a.slot a.answers.now _ _ _ c.if-slot-ge-SLOTS.false (c.put_back.ensures _)
-    (c.prepared_judged-o.ensures ∙ ap (λ (m : rules.Ledger). prepared_seen m a.km0.now a.acl.now a.seen (form_as a.form) a.requests.now a.answers.now) c.slot_ledger.ensures)
+    (c.prepared_judged-o.ensures ∙ ap (λ (m : rules.Ledger). prepared_seen m a.asked.now.km0.now a.asked.now.acl.now a.asked.now.seen (form_as a.form) a.asked.now.requests.now a.answers.now) c.slot_ledger.ensures)

@@ -1,69 +1,78 @@
-use mathlib.Core.Path.{refl}
-use Rattle.rules.specs.Basics.{ascii}
-use Rattle.cli_messages.specs.Words.{refusal_words}
-use Rattle.cli_messages.proofs.Laws.{words_put, none_put}
+use mathlib.Core.Path.{◌≡◌, ◌∙◌, ap, sym, refl}
+use Prim.Native.Nat.{ℕ}
+use mathlib.Core.List.{[]}
 use borrow.Author.Rules.{rules}
+use borrow.Author.Tests.{ne_eqb}
+use Rattle.rules.specs.Basics.{Bytes, ascii}
+use Rattle.cli_messages.specs.Words.{refusal_words}
 use Rattle.cli_messages.proofs.refusal_words.Goals as goal
+
+of : {t : Bytes} {n : ℕ} (k : ℕ) → n ≡ k → t ≡ refusal_words k → t ≡ refusal_words n
+of k e f = f ∙ sym (ap refusal_words e)
+
+no_words : (n : ℕ) → (n ≡ 1 → ⊥) → (n ≡ 2 → ⊥) → (n ≡ 3 → ⊥) → (n ≡ 4 → ⊥) → (n ≡ 5 → ⊥) → (n ≡ 6 → ⊥) → (n ≡ 7 → ⊥) → (n ≡ 8 → ⊥) → (n ≡ 9 → ⊥) → (n ≡ 10 → ⊥) → (n ≡ 11 → ⊥) → (n ≡ 12 → ⊥) → (n ≡ 13 → ⊥) → (n ≡ 14 → ⊥) → (n ≡ 15 → ⊥) → [] ≡ refusal_words n
+unfolding refusal_words ascii
+no_words n e1 e2 e3 e4 e5 e6 e7 e8 e9 e10 e11 e12 e13 e14 e15 = rw (ne_eqb n 1 e1, ne_eqb n 2 e2, ne_eqb n 3 e3, ne_eqb n 4 e4, ne_eqb n 5 e5, ne_eqb n 6 e6, ne_eqb n 7 e7, ne_eqb n 8 e8, ne_eqb n 9 e9, ne_eqb n 10 e10, ne_eqb n 11 e11, ne_eqb n 12 e12, ne_eqb n 13 e13, ne_eqb n 14 e14, ne_eqb n 15 e15)
 
 pub returns-in-1 : goal.returns-in-1
 unfolding ascii refusal_words
-returns-in-1 c = words_put 1 c.in-1.is refl c.append.ensures
+returns-in-1 c = of 1 c.in-1.is refl
 
 pub returns-in-2 : goal.returns-in-2
 unfolding ascii refusal_words
-returns-in-2 c = words_put 2 c.in-2.is refl c.append-in-2.ensures
+returns-in-2 c = of 2 c.in-2.is refl
 
 pub returns-in-3 : goal.returns-in-3
 unfolding ascii refusal_words
-returns-in-3 c = words_put 3 c.in-3.is refl c.append-in-3.ensures
+returns-in-3 c = of 3 c.in-3.is refl
 
 pub returns-in-4 : goal.returns-in-4
 unfolding ascii refusal_words
-returns-in-4 c = words_put 4 c.in-4.is refl c.append-in-4.ensures
+returns-in-4 c = of 4 c.in-4.is refl
 
 pub returns-in-5 : goal.returns-in-5
 unfolding ascii refusal_words
-returns-in-5 c = words_put 5 c.in-5.is refl c.append-in-5.ensures
+returns-in-5 c = of 5 c.in-5.is refl
 
 pub returns-in-6 : goal.returns-in-6
 unfolding ascii refusal_words
-returns-in-6 c = words_put 6 c.in-6.is refl c.append-in-6.ensures
+returns-in-6 c = of 6 c.in-6.is refl
 
 pub returns-in-7 : goal.returns-in-7
 unfolding ascii refusal_words
-returns-in-7 c = words_put 7 c.in-7.is refl c.append-in-7.ensures
+returns-in-7 c = of 7 c.in-7.is refl
 
 pub returns-in-8 : goal.returns-in-8
 unfolding ascii refusal_words
-returns-in-8 c = words_put 8 c.in-8.is refl c.append-in-8.ensures
+returns-in-8 c = of 8 c.in-8.is refl
 
 pub returns-in-9 : goal.returns-in-9
 unfolding ascii refusal_words
-returns-in-9 c = words_put 9 c.in-9.is refl c.append-in-9.ensures
+returns-in-9 c = of 9 c.in-9.is refl
 
 pub returns-in-10 : goal.returns-in-10
 unfolding ascii refusal_words
-returns-in-10 c = words_put 10 c.in-10.is refl c.append-in-10.ensures
+returns-in-10 c = of 10 c.in-10.is refl
 
 pub returns-in-11 : goal.returns-in-11
 unfolding ascii refusal_words
-returns-in-11 c = words_put 11 c.in-11.is refl c.append-in-11.ensures
+returns-in-11 c = of 11 c.in-11.is refl
 
 pub returns-in-12 : goal.returns-in-12
 unfolding ascii refusal_words
-returns-in-12 c = words_put 12 c.in-12.is refl c.append-in-12.ensures
+returns-in-12 c = of 12 c.in-12.is refl
 
 pub returns-in-13 : goal.returns-in-13
 unfolding ascii refusal_words
-returns-in-13 c = words_put 13 c.in-13.is refl c.append-in-13.ensures
+returns-in-13 c = of 13 c.in-13.is refl
 
 pub returns-in-14 : goal.returns-in-14
 unfolding ascii refusal_words
-returns-in-14 c = words_put 14 c.in-14.is refl c.append-in-14.ensures
+returns-in-14 c = of 14 c.in-14.is refl
 
 pub returns-in-15 : goal.returns-in-15
 unfolding ascii refusal_words
-returns-in-15 c = words_put 15 c.in-15.is refl c.append-in-15.ensures
+returns-in-15 c = of 15 c.in-15.is refl
 
 pub returns-in_default : goal.returns-in_default
-returns-in_default c = search (rules, none_put)
+returns-in_default c = search (rules, no_words)

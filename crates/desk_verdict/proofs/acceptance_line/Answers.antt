@@ -9,8 +9,8 @@ returns-then-a-ne2 c = put_as (acceptance_short _ c.if-a-ne2.true) c.append.ensu
 
 pub returns-then-a : goal.returns-then-a
 unfolding ascii
-returns-then-a c = put_as (acceptance_long _ _ _ c.if-a-ne2.false c.protection_number-number.ensures c.if-a.true) (put_on c.number_if-graded.ensures.written c.append-then-a.ensures)
+returns-then-a c = put_as (acceptance_long _ _ _ c.if-a-ne2.false c.from-number.ensures c.if-a.true) (put_on c.word_and_number-graded.ensures.written c.append-then-a.ensures)
 
 pub returns : goal.returns
 unfolding ascii
-returns c = put_as (acceptance_long _ _ _ c.if-a-ne2.false c.protection_number-number.ensures c.if-a.false) (put_on c.number_if-graded.ensures.written c.append-2.ensures)
+returns c = put_as (acceptance_long _ _ _ c.if-a-ne2.false c.from-number.ensures c.if-a.false) (put_on c.word_and_number-graded.ensures.written c.append-2.ensures)

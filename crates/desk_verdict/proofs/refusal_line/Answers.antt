@@ -5,4 +5,4 @@ use Rattle.desk_verdict.proofs.refusal_line.Goals as goal
 
 pub returns : goal.returns
 unfolding ascii
-returns c = put_as (refusal_text _ _ c.number-number.ensures) (put_on c.number_if-named.ensures.written c.append.ensures)
+returns c = put_as (refusal_text _ _ c.from-number.ensures) (put_on c.word_and_number-named.ensures.written c.append.ensures)

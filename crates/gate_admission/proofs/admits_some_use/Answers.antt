@@ -1,21 +1,18 @@
 use mathlib.Core.Path.{refl}
-use Rattle.rules.specs.Basics.{records_from}
-use Rattle.gate_admission.proofs.Laws.{uses_found, uses_next, acts_stop, acts_none}
-use borrow.Author.Rules.{rules}
+use Rattle.gate_admission.proofs.Laws.{uses_stop, uses_found, uses_next, uses_none}
 use Rattle.gate_admission.proofs.admits_some_use.Goals as goal
 
-pub loop-at-init : goal.loop-at-init
-unfolding records_from
-loop-at-init c = (search rules, refl)
+pub loop-act-init : goal.loop-act-init
+loop-act-init c = rw c.records-act-items.ensures refl
 
-pub returns-then-body-at-eq1 : goal.returns-then-body-at-eq1
-returns-then-body-at-eq1 c = search (rules, acts_stop)
+pub returns-then-act-eq-GROUP : goal.returns-then-act-eq-GROUP
+returns-then-act-eq-GROUP c = uses_stop _ _ _ _ c.loop-act.invariant c.loop-act-test.true c.if-act-eq-GROUP.true
 
 pub returns-then-admits_use : goal.returns-then-admits_use
-returns-then-admits_use c = search (rules, uses_found)
+returns-then-admits_use c = uses_found _ _ _ _ c.loop-act.invariant c.loop-act-test.true _ c.if-act-eq-GROUP.false c.admits_use.ensures c.if-admits_use.true
 
-pub loop-at-preserved : goal.loop-at-preserved
-loop-at-preserved c = (search rules, search (rules, uses_next))
+pub loop-act-preserved : goal.loop-act-preserved
+loop-act-preserved c = uses_next _ _ _ _ c.loop-act.invariant c.loop-act-test.true _ c.if-act-eq-GROUP.false c.admits_use.ensures c.if-admits_use.false
 
 pub returns : goal.returns
-returns c = search (rules, acts_none)
+returns c = uses_none _ _ _ _ c.loop-act.invariant c.loop-act-test.false

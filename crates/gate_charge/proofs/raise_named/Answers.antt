@@ -1,18 +1,14 @@
-use Rattle.gate_charge.proofs.Laws.{raised_length, raising_start, raising_stop, raising_done, raising_room, raising_next}
-use borrow.Author.Rules.{rules}
+use Rattle.gate_charge.proofs.Laws.{raising_done, raising_stop, raising_room, raising_next}
 use Rattle.gate_charge.proofs.raise_named.Goals as goal
 
-pub loop-at-init : goal.loop-at-init
-loop-at-init c = (search rules, (search rules, search (rules, raising_start)))
-
-pub returns-then-body-at-ne2 : goal.returns-then-body-at-ne2
-returns-then-body-at-ne2 c = search (rules, raising_stop)
+pub returns-then-rec-ne-LIMIT : goal.returns-then-rec-ne-LIMIT
+returns-then-rec-ne-LIMIT c = rw (← c.records-rec-items.ensures) (raising_stop _ _ _ _ c.loop-rec.invariant c.loop-rec-test.true c.if-rec-ne-LIMIT.true)
 
 pub raise_one-requires : goal.raise_one-requires
-raise_one-requires c = (search rules, search (rules, raising_room))
+raise_one-requires c = raising_room _ _ _ _ c.loop-rec.invariant c.loop-rec-test.true c.if-rec-ne-LIMIT.false
 
-pub loop-at-preserved : goal.loop-at-preserved
-loop-at-preserved c = (search rules, (search (rules, raised_length), search (rules, raising_next)))
+pub loop-rec-preserved : goal.loop-rec-preserved
+loop-rec-preserved c = raising_next _ _ _ _ c.loop-rec.invariant c.loop-rec-test.true c.if-rec-ne-LIMIT.false _ c.raise_one.ensures
 
 pub returns : goal.returns
-returns c = search (rules, raising_done)
+returns c = rw (← c.records-rec-items.ensures) (raising_done _ _ _ _ c.loop-rec.invariant c.loop-rec-test.false)

@@ -1,13 +1,17 @@
-use Rattle.gate_charge.proofs.Laws.{changed_length}
-use Rattle.gate_counts.proofs.Laws.{carry_start, carry_next, carry_done}
-use borrow.Author.Rules.{rules}
+use native.Mathlib.Omega.{arith}
+use mathlib.Core.Path.{◌∙◌}
+use Rattle.gate_counts.proofs.Laws.{carry_past, carry_next, carry_done}
 use Rattle.gate_counts.proofs.carry_all.Goals as goal
+use Rattle.gate_counts.proofs.carry_all.Goals.{then-i-lt-GROUPS, else-i-lt-GROUPS}
 
-pub loop-at-init : goal.loop-at-init
-loop-at-init c = (search rules, (search rules, (search rules, search (rules, carry_start))))
-
-pub loop-at-preserved : goal.loop-at-preserved
-loop-at-preserved c = (search rules, (search rules, (search (rules, changed_length), carry_next _ _ _ _ _ _ c.loop-at.invariant.1.1.1 _ c.loop-at-test.true c.carry.ensures)))
+pub loop-i-preserved : goal.loop-i-preserved
+loop-i-preserved c =
+    carry_next _ _ _ _ _ c.loop-i.invariant _ c.loop-i-test.true (elim c.if-i-lt-GROUPS.branch [
+      | then-i-lt-GROUPS w ↦ rw (w.table-is, w.count_at.ensures, w.from.ensures)
+      | else-i-lt-GROUPS w ↦
+          let l = rw w.table-is at c.if-i-lt-GROUPS.array_long in
+          w.table-is ∙ carry_past c.loop-i.table _ _ (omega (arith, l, w.if-i-lt-GROUPS.false))
+    ])
 
 pub returns : goal.returns
-returns c = search (rules, carry_done)
+returns c = rw (← c.records-hint-items.ensures) (carry_done _ _ _ _ _ c.loop-i.invariant c.loop-i-test.false)

@@ -1,14 +1,9 @@
-use Prim.Native.Nat.{◌≤◌, ◌-◌}
 use mathlib.Core.Path.{◌≡◌}
-use lib.ListN.{length}
-use Rattle.rules.specs.Sizes.{groups_max}
-use Rattle.rules.specs.Request.{hints_of}
+use mathlib.Core.List.{map}
+use lib.ListN.{drop}
+use Rattle.rules.specs.Request.{hint_of}
 use Rattle.gate_counts.specs.Carried.{carried_from}
-use Rattle.gate_counts.proofs.Laws.{hints_left}
 use Rattle.gate_counts.proofs.carry_all.Given as goal
 
-abbrev pub invariant-loop-at : goal.invariant-loop-at
-invariant-loop-at l = (l.at ≤ length l.hints) × ((l.i ≤ l.at) × ((length l.table ≡ groups_max) × (carried_from l.from l.i (hints_left l.hints l.at) l.table ≡ carried_from l.from 0 (hints_of l.hints) l.initial.table)))
-
-abbrev pub decreases-loop-at : goal.decreases-loop-at
-decreases-loop-at l = length l.hints - l.at
+abbrev pub invariant-loop-i : goal.invariant-loop-i
+invariant-loop-i l = carried_from l.from l.i (map hint_of (drop l.i l.hint-items)) l.table ≡ carried_from l.from 0 (map hint_of l.hint-items) l.initial.table

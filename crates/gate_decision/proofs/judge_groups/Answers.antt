@@ -1,41 +1,43 @@
 use native.Mathlib.Omega.{arith}
-use mathlib.Core.Path.{ap}
-use Rattle.rules.specs.Basics.{records_from}
-use Rattle.gate_decision.specs.declared.Nearest.TheVariants.{Nothing}
-use Rattle.gate_decision.specs.Standings.{judged_from}
-use Rattle.gate_decision.proofs.Laws.{groups_grant, groups_next, groups_done, standing_at, told_none, told_next, seen_before}
-use borrow.Author.Rules.{rules}
+use mathlib.Core.Logic.{inl}
+use mathlib.Core.Path.{sym, ◌∙◌, ap}
+use Rattle.rules.specs.Basics.{records}
+use Rattle.rules.specs.Request.{request_of}
+use Rattle.gate_decision.specs.Standings.{group_result, record_result}
+use Rattle.gate_decision.proofs.Laws.{groups_done, group_grants, group_next, groups_within, result_at, granting_is}
 use Rattle.gate_decision.proofs.judge_groups.Goals as goal
 
-pub loop-at-init : goal.loop-at-init
-unfolding records_from
-loop-at-init c = let e = c.next_group-at.ensures in
-    (e.inside, (search rules, (e.head, (ap (judged_from _ Nothing 0) e.same, (search rules, told_none _ _ _)))))
+pub loop-place-init-derived : goal.loop-place-init-derived
+loop-place-init-derived c =
+    let few = groups_within c.args.acl.now in
+    ((tt, tt, inl (rw (c.into_iter-place-iterator.ensures.into_iter_gives, c.enumerate-place-items.ensures.source, c.enumerate-place-items.ensures.count) (omega (arith, few)))), tt)
 
-pub group_result-s-requires : goal.group_result-s-requires
-group_result-s-requires c = (search rules, search rules, search rules, search rules)
-
-pub returns-then-grants : goal.returns-then-grants
-returns-then-grants c = let i = c.loop-at.invariant.1.1 in
-    let t = c.loop-at-test.true in
+pub returns-then-eq : goal.returns-then-eq
+returns-then-eq c = let e = c.in-Some.ensures.steps in
     let a = c.args in
-    let d = standing_at _ _ _ _ _ _ _ a.acl.now c.loop-at.at _ c.count_at-own.ensures c.group_result-s.ensures in
-    groups_grant _ _ _ _ _ _ i.1.0 t (i.0 t) _ d _ c.grants.ensures c.if-grants.true
+    let q = request_of a.presented.now.req.now in
+    let t =
+    c.group_result-result.ensures.comes
+    ∙ ap (λ (p : _). record_result a.counters.now c.count_at-own.result a.elapsed a.km0.now (request_of p.req.now) c.in-Some.group.now (records c.in-Some.body.now)) c.loop-place.invariant.presented in
+    let d = result_at a.counts.now a.counters.now c.count_at-own.result a.elapsed a.km0.now q c.in-Some.place _ _ _ c.count_at-own.ensures t in
+    group_grants (group_result a.counts.now a.counters.now a.elapsed a.km0.now q) _ _ _ _ c.loop-place.invariant.judged _ _ e.0 c.in-Some.place e.1 _ d (sym (granting_is _ _ c.eq.ensures) ∙ c.if-eq.true)
 
-pub loop-at-smaller : goal.loop-at-smaller
-loop-at-smaller c = let e = c.next_group-at-in-loop-at.ensures.later in search rules
-
-pub loop-at-preserved : goal.loop-at-preserved
-loop-at-preserved c = let i = c.loop-at.invariant.1.1 in
-    let t = c.loop-at-test.true in
+pub loop-place-preserved : goal.loop-place-preserved
+loop-place-preserved c = let e = c.in-Some.ensures.steps in
     let a = c.args in
-    let e = c.next_group-at-in-loop-at.ensures in
-    let d = standing_at _ _ _ _ _ _ _ a.acl.now c.loop-at.at _ c.count_at-own.ensures c.group_result-s.ensures in
-    let p = c.loop-at.invariant.1.0 in
-    let j = groups_next _ _ _ _ _ _ i.1.0 t (i.0 t) _ d _ c.grants.ensures _ _ c.if-grants.false c.near_with-near.ensures e.same in
-    let m = told_next _ _ _ _ _ a.acl.now c.loop-at.at c.loop-at.seen _ _ _ _ i.1.1.1 c.group_result-s.ensures _ _ _ c.seen_after-seen.ensures c.some_after-some.ensures c.held_after-held.ensures in
-    let z = seen_before c.group_result-s.result c.loop-at.seen c.loop-at.at c.seen_after-seen.result i.1.1.0 c.seen_after-seen.ensures in
-    (e.inside, (omega (arith, e.later, p), (e.head, (j, (omega (arith, e.later, z), m)))))
+    let q = request_of a.presented.now.req.now in
+    let t =
+    c.group_result-result.ensures.comes
+    ∙ ap (λ (p : _). record_result a.counters.now c.count_at-own.result a.elapsed a.km0.now (request_of p.req.now) c.in-Some.group.now (records c.in-Some.body.now)) c.loop-place.invariant.presented in
+    let d = result_at a.counts.now a.counters.now c.count_at-own.result a.elapsed a.km0.now q c.in-Some.place _ _ _ c.count_at-own.ensures t in
+    record {
+      presented = ap (λ (p : _). p.now) c.group_result-result.ensures.kept ∙ c.loop-place.invariant.presented;
+      judged =
+          group_next (group_result a.counts.now a.counters.now a.elapsed a.km0.now q) _ _ _ _ c.loop-place.invariant.judged _ _ e.0 c.in-Some.place e.1 _ d
+          (sym (granting_is _ _ c.eq.ensures) ∙ c.if-eq.false) _ c.with-near.ensures _ e.2;
+    }
 
 pub returns : goal.returns
-returns c = search (rules, groups_done)
+returns c =
+    groups_done (group_result c.args.counts.now c.args.counters.now c.args.elapsed c.args.km0.now (request_of c.args.presented.now.req.now)) _ _ _ _
+    c.loop-place.invariant.judged c.in-None.ensures.steps.0.0 _ c.from.ensures

@@ -1,15 +1,39 @@
 use mathlib.Core.Bool.{not}
-use mathlib.Core.Path.{refl, ap}
-use Rattle.rules.proofs.Faults.{fault_here, fault_later, fault_last}
-use Rattle.gate_files.proofs.Laws.{fault_next, both_are}
+use mathlib.Core.Path.{refl, sym, ap}
+use Rattle.rules.proofs.Faults.{fault_here, fault_later, fault_passed, fault_last}
+use Rattle.gate_files.proofs.Laws.{both_are, handed_on}
 use Rattle.gate_files.proofs.narrow_files.Goals as goal
 
 pub returns-then-not-fit : goal.returns-then-not-fit
-returns-then-not-fit c = let e = both_are _ _ _ _ (both_are _ _ _ _ c.lengths_fit.ensures c.whole.ensures) c.whole-2.ensures in
+returns-then-not-fit c =
+    let e = both_are _ _ _ _ (both_are _ _ _ _ c.lengths_fit.ensures c.whole.ensures) c.whole-2.ensures in
     fault_here _ _ _ _ _ e (ap not c.if-not-fit.true) refl
 
+pub returns-in_err-acl_records : goal.returns-in_err-acl_records
+returns-in_err-acl_records c =
+    let e = both_are _ _ _ _ (both_are _ _ _ _ c.lengths_fit.ensures c.whole.ensures) c.whole-2.ensures in
+    fault_later _ _ _ _ _ e (ap not c.if-not-fit.false) (handed_on _ _ _ _ c.from_residual.ensures c.in_err-acl_records.ensures)
+
+pub returns-in_err-use_records : goal.returns-in_err-use_records
+returns-in_err-use_records c =
+    let e = both_are _ _ _ _ (both_are _ _ _ _ c.lengths_fit.ensures c.whole.ensures) c.whole-2.ensures in
+    fault_later _ _ _ _ _ e (ap not c.if-not-fit.false)
+    (fault_passed _ _ _ (sym c.in_ok-acl_records.ensures)
+    (handed_on _ _ _ _ c.from_residual-in_err-use_records.ensures c.in_err-use_records.ensures))
+
+pub returns-in_err-acl_records-2 : goal.returns-in_err-acl_records-2
+returns-in_err-acl_records-2 c =
+    let e = both_are _ _ _ _ (both_are _ _ _ _ c.lengths_fit.ensures c.whole.ensures) c.whole-2.ensures in
+    fault_later _ _ _ _ _ e (ap not c.if-not-fit.false)
+    (fault_passed _ _ _ (sym c.in_ok-acl_records.ensures)
+    (fault_passed _ _ _ (sym c.in_ok-use_records.ensures)
+    (handed_on _ _ _ _ c.from_residual-in_err-acl_records-2.ensures c.in_err-acl_records-2.ensures)))
+
 pub returns : goal.returns
-returns c = let e = both_are _ _ _ _ (both_are _ _ _ _ c.lengths_fit.ensures c.whole.ensures) c.whole-2.ensures in
-    let n = fault_next _ _ _ _ _ c.first_fault-replacement.ensures c.acl_records.ensures (fault_last _ _ c.hint_records.ensures) in
-    let r = fault_next _ _ _ _ _ c.first_fault-rest.ensures c.use_records.ensures n in
-    fault_later _ _ _ _ _ e (ap not c.if-not-fit.false) (fault_next _ _ _ _ _ c.first_fault.ensures c.acl_records-2.ensures r)
+returns c =
+    let e = both_are _ _ _ _ (both_are _ _ _ _ c.lengths_fit.ensures c.whole.ensures) c.whole-2.ensures in
+    fault_later _ _ _ _ _ e (ap not c.if-not-fit.false)
+    (fault_passed _ _ _ (sym c.in_ok-acl_records.ensures)
+    (fault_passed _ _ _ (sym c.in_ok-use_records.ensures)
+    (fault_passed _ _ _ (sym c.in_ok-acl_records-2.ensures)
+    (fault_last _ _ c.hint_records.ensures))))

@@ -1,10 +1,11 @@
-use Prim.Native.Nat.{◌≤◌, ◌-◌}
-use lib.ListN.{length}
-use Rattle.gate_narrowing.proofs.Laws.{Comparing}
+use mathlib.Core.Path.{◌≡◌}
+use lib.ListN.{drop}
+use Rattle.rules.specs.Basics.{records}
+use Rattle.rules.specs.Acl.{actions_of}
+use Rattle.rules.specs.Narrow.{actions_no_wider}
 use Rattle.gate_narrowing.proofs.actions_no_wider.Given as goal
 
-abbrev pub invariant-loop-at : goal.invariant-loop-at
-invariant-loop-at l = (l.i ≤ length l.hints) × ((l.at ≤ length l.new) × ((l.from ≤ length l.old) × Comparing l.new l.hints l.old l.at l.i l.low l.from))
-
-abbrev pub decreases-loop-at : goal.decreases-loop-at
-decreases-loop-at l = length l.new - l.at
+abbrev pub invariant-loop-act : goal.invariant-loop-act
+invariant-loop-act l =
+    (actions_of (records l.ahead.0.now) ≡ drop l.low (actions_of (records l.old)))
+    × (actions_no_wider (actions_of (records l.act-iterator.0.now)) l.left (actions_of (records l.old)) ≡ actions_no_wider (actions_of (records l.new)) l.hints (actions_of (records l.old)))

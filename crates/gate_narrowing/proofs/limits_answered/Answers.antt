@@ -1,22 +1,15 @@
-use mathlib.Core.Bool.{not}
-use mathlib.Core.Path.{refl, ap}
-use Rattle.rules.specs.Basics.{records_from}
-use Rattle.acl_groups.proofs.Laws.{all_stop, all_failed, all_next, all_done}
-use borrow.Author.Rules.{rules}
+use mathlib.Core.Path.{◌∙◌, ap}
+use Rattle.std.proofs.Common.{rules, tests}
+use Rattle.std.proofs.lemmas.Iterator.{YieldsList-from_slice}
+use Rattle.std.proofs.lemmas.Iterator.Search.{all_from_yields_List}
+use Rattle.rules.specs.Basics.{Bytes, all, records}
+use Rattle.rules.specs.Acl.{limit_of, limits_of}
+use Rattle.rules.specs.Narrow.{is_answered}
+use Rattle.gate_narrowing.proofs.Laws.{all_read}
 use Rattle.gate_narrowing.proofs.limits_answered.Goals as goal
 
-pub loop-at-init : goal.loop-at-init
-unfolding records_from
-loop-at-init c = (search rules, refl)
-
-pub returns-then-old-at-ne-LIMIT : goal.returns-then-old-at-ne-LIMIT
-returns-then-old-at-ne-LIMIT c = search (rules, all_stop)
-
-pub returns-then-not-limit_answered : goal.returns-then-not-limit_answered
-returns-then-not-limit_answered c = search (rules, all_failed)
-
-pub loop-at-preserved : goal.loop-at-preserved
-loop-at-preserved c = (search rules, all_next _ _ _ _ c.loop-at.invariant.1 _ c.loop-at-test.true c.if-old-at-ne-LIMIT.false c.limit_answered.ensures (ap not c.if-not-limit_answered.false))
-
 pub returns : goal.returns
-returns c = search (rules, all_done)
+returns c =
+    all_from_yields_List (λ (r : Bytes). is_answered (limits_of (records c.args.new.now)) (limit_of r)) _ _ _ c.all.ensures.ran (YieldsList-from_slice c.limits.result.now cc) (λ x b q k. search (rules, tests))
+    ∙ all_read (is_answered (limits_of (records c.args.new.now))) limit_of c.limits.result.now
+    ∙ ap (all (is_answered (limits_of (records c.args.new.now)))) c.limits.ensures

@@ -1,43 +1,32 @@
-use mathlib.Core.Path.{ap}
-use mathlib.Core.Bool.{false, not}
-use Rattle.reason_actions.specs.Spots.{at_fault}
-use Rattle.reason_actions.proofs.Laws.{left_begun, left_group, left_past, left_next, left_found, left_done}
+use native.Mathlib.Omega.{arith}
+use Rattle.reason_actions.proofs.Laws.{counted, left_begun, left_group, left_past, left_next, left_found, left_done}
 use borrow.Author.Rules.{rules}
 use Rattle.reason_actions.proofs.first_at_fault.Goals as goal
 
-pub loop-at-init : goal.loop-at-init
-loop-at-init c = let q = c.next_part-at.ensures in (q.inside, (search rules, (search rules, (q.stands, left_begun _ _ _ _ q))))
+pub loop-rec-init : goal.loop-rec-init
+loop-rec-init c = (search rules, (search rules, left_begun _ _ _ _ c.records-rec-items.ensures))
 
-pub loop-at-smaller-then-acl-at-eq1 : goal.loop-at-smaller-then-acl-at-eq1
-loop-at-smaller-then-acl-at-eq1 c = let q = c.next_part-at-then-acl-at-eq1.ensures.later in search rules
+pub overflow_add-next : goal.overflow_add-next
+overflow_add-next c = let k = counted _ _ _ _ c.records-rec-items.ensures c.loop-rec-test.true c.loop-rec.invariant.0 c.requires in omega arith
 
-pub loop-at-preserved-then-acl-at-eq1 : goal.loop-at-preserved-then-acl-at-eq1
-loop-at-preserved-then-acl-at-eq1 c = let q = c.next_part-at-then-acl-at-eq1.ensures in
-    let later = q.later in
-    let i = c.loop-at.invariant in
-    (q.inside, (search rules, (search rules, (q.stands, left_group _ _ _ _ _ _ _ _ _ i.1.1.1.1 _ c.loop-at-test.true c.if-acl-at-eq1.true c.names_key-checked.ensures _ q))))
+pub loop-rec-preserved-then-rec-eq-GROUP : goal.loop-rec-preserved-then-rec-eq-GROUP
+loop-rec-preserved-then-rec-eq-GROUP c =
+    (search rules, (search rules, left_group _ _ _ _ _ _ _ _ _ c.loop-rec.invariant.1.1 _ c.loop-rec-test.true c.if-rec-eq-GROUP.true c.names_officer-checked.ensures))
 
-pub loop-at-smaller-then-not-checked : goal.loop-at-smaller-then-not-checked
-loop-at-smaller-then-not-checked c = let q = c.next_part-at-then-not-checked.ensures.later in search rules
-
-pub loop-at-preserved-then-not-checked : goal.loop-at-preserved-then-not-checked
-loop-at-preserved-then-not-checked c = let q = c.next_part-at-then-not-checked.ensures in
-    let later = q.later in
-    let i = c.loop-at.invariant in
-    (q.inside, (search rules, (search rules, (q.stands, left_past _ _ _ _ _ _ _ _ _ i.1.1.1.1 c.loop-at-test.true c.if-acl-at-eq1.false (ap not c.if-not-checked.true) _ q))))
+pub loop-rec-preserved-then-checked-is_passed_over : goal.loop-rec-preserved-then-checked-is_passed_over
+loop-rec-preserved-then-checked-is_passed_over c =
+    (search rules, (search rules, left_past _ _ _ _ _ _ _ _ _ c.loop-rec.invariant.1.1 _ c.loop-rec-test.true c.if-rec-eq-GROUP.false c.is_passed_over.ensures c.if-checked-is_passed_over.true))
 
 pub returns-then-at_fault : goal.returns-then-at_fault
-returns-then-at_fault c = let i = c.loop-at.invariant in
-    left_found _ _ _ _ _ _ _ _ _ i.1.1.1.1 c.loop-at-test.true c.if-acl-at-eq1.false (ap not c.if-not-checked.false) i.1.1.1.0 _ c.at_fault.ensures c.if-at_fault.true _ _ c.permission_of.ensures
+returns-then-at_fault c =
+    left_found _ _ _ _ _ _ _ _ _ c.loop-rec.invariant.1.1 _ c.loop-rec-test.true c.if-rec-eq-GROUP.false c.is_passed_over.ensures c.if-checked-is_passed_over.false _ c.at_fault.ensures c.if-at_fault.true _ c.permission_of-permission.result c.permission_of-permission.ensures
 
-pub loop-at-smaller : goal.loop-at-smaller
-loop-at-smaller c = let q = c.next_part-at-in-loop-at.ensures.later in search rules
+pub overflow_add-action : goal.overflow_add-action
+overflow_add-action c = let k = counted _ _ _ _ c.records-rec-items.ensures c.loop-rec-test.true c.loop-rec.invariant.1.0 c.requires in omega arith
 
-pub loop-at-preserved : goal.loop-at-preserved
-loop-at-preserved c = let q = c.next_part-at-in-loop-at.ensures in
-    let later = q.later in
-    let i = c.loop-at.invariant in
-    (q.inside, (search rules, (search rules, (q.stands, left_next _ _ _ _ _ _ _ _ _ i.1.1.1.1 c.loop-at-test.true c.if-acl-at-eq1.false (ap not c.if-not-checked.false) i.1.1.1.0 _ c.at_fault.ensures c.if-at_fault.false _ q))))
+pub loop-rec-preserved : goal.loop-rec-preserved
+loop-rec-preserved c =
+    (search rules, (search rules, left_next _ _ _ _ _ _ _ _ _ c.loop-rec.invariant.1.1 _ c.loop-rec-test.true c.if-rec-eq-GROUP.false c.is_passed_over.ensures c.if-checked-is_passed_over.false _ c.at_fault.ensures c.if-at_fault.false))
 
 pub returns : goal.returns
-returns c = left_done _ _ _ _ _ _ _ _ _ c.loop-at.invariant.1.1.1.1 c.loop-at-test.false _ _ c.nowhere.ensures
+returns c = left_done _ _ _ _ _ _ _ _ _ c.loop-rec.invariant.1.1 c.loop-rec-test.false _

@@ -3,14 +3,14 @@ use Rattle.reason_actions.proofs.Laws.{unadmitted_here, unadmitted_later, unadmi
 use borrow.Author.Rules.{rules}
 use Rattle.reason_actions.proofs.lowest_unadmitted.Goals as goal
 
-pub loop-left-init : goal.loop-left-init
-loop-left-init c = (search rules, refl)
+pub loop-b-init : goal.loop-b-init
+loop-b-init c = refl
 
 pub returns-then-not-bit_admitted : goal.returns-then-not-bit_admitted
 returns-then-not-bit_admitted c = search (rules, unadmitted_here)
 
-pub loop-left-preserved : goal.loop-left-preserved
-loop-left-preserved c = (search rules, search (rules, unadmitted_later))
+pub loop-b-preserved : goal.loop-b-preserved
+loop-b-preserved c = search (rules, unadmitted_later)
 
 pub returns : goal.returns
 returns c = search (rules, unadmitted_none)

@@ -2,9 +2,6 @@ use mathlib.Core.Path.{refl}
 use Rattle.reason_desk.proofs.Laws.{site_is, site_numbered}
 use Rattle.reason_desk.proofs.site_of.Goals as goal
 
-pub returns-in-Sound : goal.returns-in-Sound
-returns-in-Sound c = site_is _ _ _ _ c.in-Sound.is refl
-
 pub returns-in-Length : goal.returns-in-Length
 returns-in-Length c = site_is _ _ _ _ c.in-Length.is refl
 

@@ -1,21 +1,31 @@
-use mathlib.Core.Bool.{not}
-use mathlib.Core.Path.{ap}
+use native.Mathlib.Omega.{arith}
+use mathlib.Core.Path.{◌≡◌, ◌∙◌, ap₂}
+use mathlib.Core.List.{List}
+use lib.ListN.{length}
+use Rattle.rules.specs.Basics.{Bytes}
+use Rattle.rules.specs.Acl.{AclState}
 use Rattle.acl_reader.specs.Places.{acl_state_as}
-use Rattle.reason_files.proofs.Laws.{acl_start_lem, acl_stop, acl_next, acl_due, acl_sound_lem}
-use borrow.Author.Rules.{rules}
+use Rattle.text_rules.specs.Kinds.{acl_kind}
+use Rattle.reason_files.specs.Places.{records_place}
+use Rattle.reason_files.proofs.Laws.{place_stop, place_next, place_done, record_length, acl_fault_lem, acl_sound_lem, acl_due, acl_over}
 use Rattle.reason_files.proofs.acl_records.Goals as goal
 
-pub loop-at-init : goal.loop-at-init
-loop-at-init c = (search rules, (search rules, (search rules, acl_start_lem _ _ c.start-state.ensures.0)))
+pub returns-in-Err : goal.returns-in-Err
+returns-in-Err c = let h = record_length _ _ _ c.records-records.ensures c.loop-index-test.true in
+    place_stop acl_kind _ _ _ _ c.loop-index.invariant _ c.loop-index-test.true (acl_fault_lem _ _ h _ c.in-Err.ensures)
+    ∙ ap₂ (λ (s : AclState) (rs : List Bytes). records_place acl_kind s 0 rs) c.start-state.ensures c.records-records.ensures
 
-pub returns-then-not-is_sound : goal.returns-then-not-is_sound
-returns-then-not-is_sound c = search (rules, acl_stop)
-
-pub loop-at-preserved : goal.loop-at-preserved
-loop-at-preserved c = (search rules, (search rules, (search rules, acl_next _ (acl_state_as c.read-read.result.place) _ _ _ _ c.read-read.result.found _ c.loop-at.invariant.1.1.1 c.loop-at-test.true c.read-read.ensures.0 c.is_sound.ensures (ap not c.if-not-is_sound.false))))
+pub loop-index-preserved : goal.loop-index-preserved
+loop-index-preserved c = let h = record_length _ _ _ c.records-records.ensures c.loop-index-test.true in
+    let e = acl_sound_lem _ _ h _ c.in-Ok.ensures in
+    place_next acl_kind _ _ _ _ c.loop-index.invariant _ c.loop-index-test.true e.0 e.1
 
 pub returns-then-state : goal.returns-then-state
-returns-then-state c = search (rules, acl_due)
+returns-then-state c = let h : c.loop-index.index ≡ length c.records-records.result.now = omega arith in
+    place_done acl_kind _ _ _ _ c.loop-index.invariant _ h (acl_due (acl_state_as c.loop-index.state) _ c.if-state.true)
+    ∙ ap₂ (λ (s : AclState) (rs : List Bytes). records_place acl_kind s 0 rs) c.start-state.ensures c.records-records.ensures
 
 pub returns : goal.returns
-returns c = search (rules, acl_sound_lem)
+returns c = let h : c.loop-index.index ≡ length c.records-records.result.now = omega arith in
+    place_done acl_kind _ _ _ _ c.loop-index.invariant _ h (acl_over (acl_state_as c.loop-index.state) _ c.if-state.false)
+    ∙ ap₂ (λ (s : AclState) (rs : List Bytes). records_place acl_kind s 0 rs) c.start-state.ensures c.records-records.ensures

@@ -1,20 +1,28 @@
-use mathlib.Core.Bool.{not}
-use mathlib.Core.Path.{refl, ap}
-use Rattle.rules.specs.Basics.{records_from}
-use Rattle.text_states.specs.States.{state_as}
-use Rattle.reason_files.proofs.Laws.{place_done, other_stop, other_next}
-use borrow.Author.Rules.{rules}
+use Prim.Native.Nat.{ℕ}
+use native.Mathlib.Omega.{arith}
+use mathlib.Core.Option.{Option}
+use mathlib.Core.Path.{◌≡◌, ◌∙◌, ap}
+use lib.ListN.{length}
+use Rattle.text_states.specs.States.{state_as, kind_from}
+use Rattle.reason_files.specs.Places.{records_place, end_place}
+use Rattle.reason_files.proofs.Laws.{place_stop, place_next, place_done, other_fault, other_sound}
 use Rattle.reason_files.proofs.other_records.Goals as goal
 
-pub loop-at-init : goal.loop-at-init
-unfolding records_from
-loop-at-init c = (search rules, (search rules, refl))
+pub returns-in-Err : goal.returns-in-Err
+returns-in-Err c = let k = kind_from (state_as c.args.start) in
+    place_stop k _ _ _ _ c.loop-index.invariant _ c.loop-index-test.true (other_fault _ _ _ c.in-Err.ensures) ∙ ap (records_place k (state_as c.args.start) 0) c.records-records.ensures
 
-pub returns-then-not-is_sound : goal.returns-then-not-is_sound
-returns-then-not-is_sound c = search (rules, other_stop)
+pub loop-index-preserved : goal.loop-index-preserved
+loop-index-preserved c = let e = other_sound _ _ _ c.in-Ok.ensures in place_next (kind_from (state_as c.args.start)) _ _ _ _ c.loop-index.invariant _ c.loop-index-test.true e.0 e.1
 
-pub loop-at-preserved : goal.loop-at-preserved
-loop-at-preserved c = (search rules, (search rules, other_next _ _ (state_as c.next-read.result.state) _ _ _ _ c.next-read.result.found _ c.loop-at.invariant.1.1 c.loop-at-test.true c.next-read.ensures c.is_sound.ensures (ap not c.if-not-is_sound.false)))
+pub returns-in-Ok-end : goal.returns-in-Ok-end
+returns-in-Ok-end c = let k = kind_from (state_as c.args.start) in
+    let h : c.loop-index.index ≡ length c.records-records.result.now = omega arith in
+    place_done k _ _ _ _ c.loop-index.invariant _ h (ap (λ (o : Option ℕ). end_place o (length c.records-records.result.now)) c.in-Ok-end.ensures)
+    ∙ ap (records_place k (state_as c.args.start) 0) c.records-records.ensures
 
-pub returns : goal.returns
-returns c = search (rules, place_done)
+pub returns-in-Err-end : goal.returns-in-Err-end
+returns-in-Err-end c = let k = kind_from (state_as c.args.start) in
+    let h : c.loop-index.index ≡ length c.records-records.result.now = omega arith in
+    place_done k _ _ _ _ c.loop-index.invariant _ h (ap (λ (o : Option ℕ). end_place o (length c.records-records.result.now)) c.in-Err-end.ensures)
+    ∙ ap (records_place k (state_as c.args.start) 0) c.records-records.ensures

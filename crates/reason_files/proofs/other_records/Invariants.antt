@@ -1,13 +1,8 @@
-use Prim.Native.Nat.{◌-◌, ◌≤◌}
 use mathlib.Core.Path.{◌≡◌}
-use lib.ListN.{length}
-use Rattle.rules.specs.Basics.{records, records_from}
+use lib.ListN.{drop}
 use Rattle.text_states.specs.States.{state_as, kind_from}
 use Rattle.reason_files.specs.Places.{records_place}
 use Rattle.reason_files.proofs.other_records.Given as goal
 
-abbrev pub invariant-loop-at : goal.invariant-loop-at
-invariant-loop-at l = (l.at ≤ length l.file) × ((l.index ≤ l.at) × (records_place (kind_from (state_as l.initial.state)) (state_as l.state) l.index (records_from l.file l.at) ≡ records_place (kind_from (state_as l.initial.state)) (state_as l.initial.state) 0 (records l.file)))
-
-abbrev pub decreases-loop-at : goal.decreases-loop-at
-decreases-loop-at l = length l.file - l.at
+abbrev pub invariant-loop-index : goal.invariant-loop-index
+invariant-loop-index l = records_place (kind_from (state_as l.initial.state)) (state_as l.state) l.index (drop l.index l.records) ≡ records_place (kind_from (state_as l.initial.state)) (state_as l.initial.state) 0 l.records

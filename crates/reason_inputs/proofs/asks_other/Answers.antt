@@ -1,9 +1,10 @@
+use mathlib.Core.Path.{◌∙◌, ap}
+use Rattle.rules.specs.Request.{use_of}
 use Rattle.reason_inputs.proofs.Laws.{asks_nothing, asks_first}
-use borrow.Author.Rules.{rules}
 use Rattle.reason_inputs.proofs.asks_other.Goals as goal
 
-pub returns-then-req-lt-RECORD : goal.returns-then-req-lt-RECORD
-returns-then-req-lt-RECORD c = search (rules, asks_nothing)
+pub returns-in-Some : goal.returns-in-Some
+returns-in-Some c = let h = c.in-Some.ensures.cases in asks_first _ _ _ h.enough (c.is_use.ensures ∙ ap (use_of c.args.p) h.same)
 
-pub returns : goal.returns
-returns c = search (rules, asks_first)
+pub returns-in-None : goal.returns-in-None
+returns-in-None c = asks_nothing _ _ c.in-None.ensures.cases

@@ -1,6 +1,6 @@
-use Rattle.reason_inputs.proofs.Laws.{expand_is}
-use borrow.Author.Rules.{rules}
+use Rattle.reason_files.specs.Places.{place_in}
 use Rattle.reason_inputs.proofs.expand_inputs.Goals as goal
 
 pub returns : goal.returns
-returns c = search (rules, expand_is)
+unfolding place_in
+returns c = rw (c.km0_input.ensures, c.acl_input.ensures, c.use_place.ensures, c.locate.ensures) at c.input_at_fault.ensures

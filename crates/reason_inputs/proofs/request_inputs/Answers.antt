@@ -1,6 +1,6 @@
-use Rattle.reason_inputs.proofs.Laws.{request_is}
-use borrow.Author.Rules.{rules}
+use Rattle.reason_files.specs.Places.{place_in}
 use Rattle.reason_inputs.proofs.request_inputs.Goals as goal
 
 pub returns : goal.returns
-returns c = search (rules, request_is)
+unfolding place_in
+returns c = rw (c.km0_input.ensures, c.acl_input.ensures, c.locate.ensures) at c.input_at_fault.ensures

@@ -1,22 +1,19 @@
-use Rattle.reason_narrowing.proofs.Laws.{named_first, named_short_here, named_nothing_here, named_more, named_end}
-use borrow.Author.Rules.{rules}
+use mathlib.Core.Path.{refl}
+use Rattle.std.specs.Prelude as option
+use Rattle.rules.specs.Basics.{records}
+use Rattle.rules.specs.Acl.{actions_of}
+use Rattle.gate_narrowing.proofs.Laws.{nth_found, action_seen, actions_seen}
+use Rattle.reason_narrowing.proofs.Laws.{named_over, named_short, named_nothing, named_more}
 use Rattle.reason_narrowing.proofs.actions_named.Goals as goal
 
-pub loop-at-init : goal.loop-at-init
-loop-at-init c = let e = c.next_action-at.ensures in (search rules, (e.inside, (search rules, named_first _ _ _ _ e)))
+pub returns-in_default : goal.returns-in_default
+returns-in_default c = named_short _ _ _ _ c.loop.invariant _ _ c.in-Some.ensures.steps c.in_default.ensures.cases
 
-pub returns-then-hints-i : goal.returns-then-hints-i
-returns-then-hints-i c = named_short_here _ _ _ _ _ _ c.loop-at.invariant.1.1.1 c.loop-at-test.true c.if-hints-i.true
+pub returns-in_default-nth : goal.returns-in_default-nth
+returns-in_default-nth c = named_nothing _ _ _ _ c.loop.invariant _ _ c.in-Some.ensures.steps _ _ c.in-Some-split_first.ensures.cases.0 (nth_found action_seen actions_seen (actions_of (records c.args.old.now)) c.in-Some-split_first.hint.now _ _ c.nth.new.self refl option.None c.in_default-nth.ensures.ran)
 
-pub returns-then-count-widened : goal.returns-then-count-widened
-returns-then-count-widened c = named_nothing_here _ _ _ _ _ _ c.loop-at.invariant.1.1.1 c.loop-at-test.true _ c.if-hints-i.false c.widened.ensures.0 _ c.loop-at.invariant.1.1.0 c.if-count-widened.true
-
-pub loop-at-smaller : goal.loop-at-smaller
-loop-at-smaller c = let e = c.next_action-at-in-loop-at.ensures.later in search rules
-
-pub loop-at-preserved : goal.loop-at-preserved
-loop-at-preserved c = let e = c.next_action-at-in-loop-at.ensures in
-    (search rules, (e.inside, (c.loop-at.invariant.1.1.0, named_more _ _ _ _ _ _ c.loop-at.invariant.1.1.1 c.loop-at-test.true _ c.if-hints-i.false c.widened.ensures.0 _ c.loop-at.invariant.1.1.0 c.if-count-widened.false _ e)))
+pub loop-preserved : goal.loop-preserved
+loop-preserved c = named_more _ _ _ _ c.loop.invariant _ _ c.in-Some.ensures.steps _ _ c.in-Some-split_first.ensures.cases.0 _ (nth_found action_seen actions_seen (actions_of (records c.args.old.now)) c.in-Some-split_first.hint.now _ _ c.nth.new.self refl (option.Some c.in-Some-nth.field-0) c.in-Some-nth.ensures.ran)
 
 pub returns : goal.returns
-returns c = named_end _ _ _ _ _ _ c.loop-at.invariant.1.1.1 c.loop-at-test.false _ c.all_zero.ensures
+returns c = named_over _ _ _ _ c.loop.invariant _ c.in-None.ensures.steps.0 c.all_zero.ensures

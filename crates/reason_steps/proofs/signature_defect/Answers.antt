@@ -1,16 +1,12 @@
 use Rattle.reason_steps.specs.Defects.{signature_test}
-use Rattle.reason_steps.proofs.Laws.{several}
+use Rattle.reason_steps.proofs.Laws.{tests}
 use borrow.Author.Rules.{rules}
 use Rattle.reason_steps.proofs.signature_defect.Goals as goal
 
-pub returns-then-not-is_signed : goal.returns-then-not-is_signed
+pub returns-in_err-unless : goal.returns-in_err-unless
 unfolding signature_test
-returns-then-not-is_signed c = search (rules, several)
-
-pub returns-then-not-is_good : goal.returns-then-not-is_good
-unfolding signature_test
-returns-then-not-is_good c = search (rules, several)
+returns-in_err-unless c = search (rules, tests)
 
 pub returns : goal.returns
 unfolding signature_test
-returns c = search (rules, several)
+returns c = search (rules, tests)

@@ -1,5 +1,5 @@
 use Rattle.reason_steps.specs.Defects.{step_tests}
-use Rattle.reason_steps.proofs.Laws.{last_named, none_named, of_step_lem}
+use Rattle.reason_steps.proofs.Laws.{last_test, of_step_lem, acl_step}
 use Rattle.reason_steps.proofs.step_defect.Goals as goal
 
 pub returns-in-WV1 : goal.returns-in-WV1
@@ -7,21 +7,21 @@ returns-in-WV1 c = of_step_lem _ _ _ _ c.in-WV1.is c.warrant_defect.ensures
 
 pub returns-in-MSCV1 : goal.returns-in-MSCV1
 unfolding step_tests
-returns-in-MSCV1 c = of_step_lem _ _ _ _ c.in-MSCV1.is (last_named _ _ c.signature_defect.ensures)
+returns-in-MSCV1 c = of_step_lem _ _ _ _ c.in-MSCV1.is (last_test _ _ c.signature_defect.ensures)
 
 pub returns-in-MSCV2 : goal.returns-in-MSCV2
 returns-in-MSCV2 c = of_step_lem _ _ _ _ c.in-MSCV2.is c.state_defect.ensures
 
 pub returns-in-MSCV3 : goal.returns-in-MSCV3
 unfolding step_tests
-returns-in-MSCV3 c = of_step_lem _ _ _ _ c.in-MSCV3.is (last_named _ _ c.equal_defect.ensures)
+returns-in-MSCV3 c = of_step_lem _ _ _ _ c.in-MSCV3.is (last_test _ _ c.equal_defect.ensures)
 
 pub returns-in-MSCV4 : goal.returns-in-MSCV4
 returns-in-MSCV4 c = of_step_lem _ _ _ _ c.in-MSCV4.is c.officer_defect.ensures
 
 pub returns-in-MSCV5 : goal.returns-in-MSCV5
 unfolding step_tests
-returns-in-MSCV5 c = of_step_lem _ _ _ _ c.in-MSCV5.is (last_named _ _ c.listed_defect.ensures)
+returns-in-MSCV5 c = of_step_lem _ _ _ _ c.in-MSCV5.is (last_test _ _ c.listed_defect.ensures)
 
 pub returns-in-WBCV1 : goal.returns-in-WBCV1
 unfolding step_tests
@@ -36,46 +36,13 @@ returns-in-WBCV3 c = of_step_lem _ _ _ _ c.in-WBCV3.is c.certificate_defect-in-W
 
 pub returns-in-KGCV1 : goal.returns-in-KGCV1
 unfolding step_tests
-returns-in-KGCV1 c = of_step_lem _ _ _ _ c.in-KGCV1.is (last_named _ _ c.signature_defect-in-KGCV1.ensures)
+returns-in-KGCV1 c = of_step_lem _ _ _ _ c.in-KGCV1.is (last_test _ _ c.signature_defect-in-KGCV1.ensures)
 
 pub returns-in-KGCV2 : goal.returns-in-KGCV2
 returns-in-KGCV2 c = of_step_lem _ _ _ _ c.in-KGCV2.is c.key_defect.ensures
 
-pub returns-in-ACLV3 : goal.returns-in-ACLV3
-unfolding step_tests
-returns-in-ACLV3 c = of_step_lem _ _ _ _ c.in-ACLV3.is (none_named _ c.nothing.ensures)
-
-pub returns-in-WB1 : goal.returns-in-WB1
-unfolding step_tests
-returns-in-WB1 c = of_step_lem _ _ _ _ c.in-WB1.is (none_named _ c.nothing-in-WB1.ensures)
-
-pub returns-in-WB2 : goal.returns-in-WB2
-unfolding step_tests
-returns-in-WB2 c = of_step_lem _ _ _ _ c.in-WB2.is (none_named _ c.nothing-in-WB2.ensures)
-
-pub returns-in-WB3 : goal.returns-in-WB3
-unfolding step_tests
-returns-in-WB3 c = of_step_lem _ _ _ _ c.in-WB3.is (none_named _ c.nothing-in-WB3.ensures)
-
-pub returns-in-WB6 : goal.returns-in-WB6
-unfolding step_tests
-returns-in-WB6 c = of_step_lem _ _ _ _ c.in-WB6.is (none_named _ c.nothing-in-WB6.ensures)
-
-pub returns-in-RB1 : goal.returns-in-RB1
-unfolding step_tests
-returns-in-RB1 c = of_step_lem _ _ _ _ c.in-RB1.is (none_named _ c.nothing-in-RB1.ensures)
-
-pub returns-in-RB2 : goal.returns-in-RB2
-unfolding step_tests
-returns-in-RB2 c = of_step_lem _ _ _ _ c.in-RB2.is (none_named _ c.nothing-in-RB2.ensures)
-
-pub returns-in-RB3 : goal.returns-in-RB3
-unfolding step_tests
-returns-in-RB3 c = of_step_lem _ _ _ _ c.in-RB3.is (none_named _ c.nothing-in-RB3.ensures)
-
-pub returns-in-KV3 : goal.returns-in-KV3
-unfolding step_tests
-returns-in-KV3 c = of_step_lem _ _ _ _ c.in-KV3.is (none_named _ c.nothing-in-KV3.ensures)
-
 pub returns-in-CSRL1 : goal.returns-in-CSRL1
 returns-in-CSRL1 c = of_step_lem _ _ _ _ c.in-CSRL1.is c.csr_defect.ensures
+
+pub returns-in-ACLV3 : goal.returns-in-ACLV3
+returns-in-ACLV3 c = acl_step _ _ c.in-ACLV3.is

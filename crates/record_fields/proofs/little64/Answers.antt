@@ -1,6 +1,8 @@
-use Rattle.record_fields.proofs.Words.{word_halves}
-use borrow.Author.Rules.{rules}
+use native.Mathlib.Omega.{arith}
+use Rattle.record_fields.proofs.Words.{little_eight, chunk_length, chunk_part}
 use Rattle.record_fields.proofs.little64.Goals as goal
 
 pub returns : goal.returns
-returns c = search (rules, word_halves 4 4294967296)
+returns c =
+    let k = rw c.unwrap.ensures at c.first_chunk.ensures.cases in
+    little_eight c.args.s.now _ _ _ (chunk_length _ _ _ c.requires k.same) (chunk_part _ _ _ c.requires k.same) (λ i. omega (arith, c.type_inv.s i)) c.from_le_bytes.ensures

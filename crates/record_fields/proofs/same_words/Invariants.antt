@@ -1,13 +1,13 @@
-use Prim.Native.Nat.{◌≤◌, ◌-◌}
+use Prim.Native.Nat.{◌*◌}
 use mathlib.Core.Path.{◌≡◌}
 use mathlib.Core.Bool.{◌&&◌}
-use lib.ListN.{length, drop}
+use lib.ListN.{drop}
 use Rattle.rules.specs.Basics.{same}
 use Rattle.record_fields.proofs.Words.{same_last}
 use Rattle.record_fields.proofs.same_words.Given as goal
 
-abbrev pub invariant-loop-i : goal.invariant-loop-i
-invariant-loop-i l = (l.i ≤ length l.a) × ((l.so_far && same (drop l.i l.a) (drop l.i l.b)) ≡ same l.a l.b) × ((l.so_far && same_last l.a l.b) ≡ l.so_far)
-
-abbrev pub decreases-loop-i : goal.decreases-loop-i
-decreases-loop-i l = length l.a - l.i
+abbrev pub invariant-loop-k : goal.invariant-loop-k
+invariant-loop-k l = record {
+  left : (l.so_far && same (drop (8 * l.k) l.a) (drop (8 * l.k) l.b)) ≡ same l.a l.b;
+  low : (l.so_far && same_last l.a l.b) ≡ l.so_far;
+}

@@ -1,13 +1,12 @@
 use mathlib.Core.Path.{refl}
 use Rattle.record_fields.proofs.Laws.{zero_next, zero_done}
-use borrow.Author.Rules.{rules}
 use Rattle.record_fields.proofs.zero_few.Goals as goal
 
-pub loop-i-init : goal.loop-i-init
-loop-i-init c = (search rules, refl)
+pub loop-byte-init : goal.loop-byte-init
+loop-byte-init c = refl
 
-pub loop-i-preserved : goal.loop-i-preserved
-loop-i-preserved c = (search rules, search (rules, zero_next))
+pub loop-byte-preserved : goal.loop-byte-preserved
+loop-byte-preserved c = zero_next _ _ _ c.loop-byte.invariant c.loop-byte-test.true
 
 pub returns : goal.returns
-returns c = search (rules, zero_done)
+returns c = zero_done _ _ _ c.loop-byte.invariant c.loop-byte-test.false

@@ -1,12 +1,15 @@
-use Rattle.record_fields.proofs.Words.{zero_words_start, zero_words_low, zero_words_next, zero_words_lower, zero_words_done}
-use borrow.Author.Rules.{rules}
+use native.Mathlib.Omega.{arith}
+use Rattle.record_fields.proofs.Words.{zero_words_start, zero_words_low, zero_words_next, zero_words_lower, zero_words_done, next_word}
 use Rattle.record_fields.proofs.zero_words.Goals as goal
 
-pub loop-i-init : goal.loop-i-init
-loop-i-init c = (search rules, search (rules, zero_words_start), search (rules, zero_words_low))
+pub loop-k-init : goal.loop-k-init
+loop-k-init c = record { left = zero_words_start _ c.requires _ c.zero_word-so_far.ensures; low = zero_words_low _ c.requires _ c.zero_word-so_far.ensures }
 
-pub loop-i-preserved : goal.loop-i-preserved
-loop-i-preserved c = (search rules, search (rules, zero_words_next), search (rules, zero_words_lower))
+pub loop-k-preserved : goal.loop-k-preserved
+loop-k-preserved c = record {
+  left = rw (next_word c.loop-k.k) (zero_words_next _ c.requires _ _ c.loop-k.invariant.left c.loop-k.invariant.low _ c.zero_word-so_far-in-loop-k.ensures);
+  low = zero_words_lower _ c.requires _ _ c.loop-k.invariant.left c.loop-k.invariant.low _;
+}
 
 pub returns : goal.returns
-returns c = search (rules, zero_words_done)
+returns c = zero_words_done _ c.requires _ _ c.loop-k.invariant.left c.loop-k.invariant.low (omega arith) (omega arith)

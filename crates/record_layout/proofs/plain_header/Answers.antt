@@ -1,10 +1,9 @@
-use native.Mathlib.Omega.{arith}
 use Rattle.record_layout.proofs.Header.{header_bytes_lem}
 use borrow.Author.Rules.{rules}
 use Rattle.record_layout.proofs.plain_header.Goals as goal
 
 pub returns : goal.returns
-returns c = let given = c.type_inv.s in
+returns c =
     header_bytes_lem
     c.args.s.now
     c.args.listed
@@ -12,6 +11,6 @@ returns c = let given = c.type_inv.s in
     c.low_flags.result
     (search rules)
     (search rules)
-    (λ i. omega (arith, given i))
+    c.fits-s
     (search rules)
     (search rules)

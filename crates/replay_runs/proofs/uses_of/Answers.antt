@@ -3,10 +3,10 @@ use borrow.Author.Rules.{rules}
 use Rattle.replay_runs.proofs.uses_of.Goals as goal
 
 pub loop-i-init : goal.loop-i-init
-loop-i-init c = (search rules, search rules, uses_start _)
+loop-i-init c = (search rules, uses_start _)
 
 pub loop-i-preserved : goal.loop-i-preserved
-loop-i-preserved c = (search rules, search rules, search (rules, uses_next))
+loop-i-preserved c = (search rules, search (rules, uses_next))
 
 pub returns : goal.returns
 returns c = search (rules, uses_done)

@@ -5,8 +5,8 @@ use Rattle.request_reader.proofs.delegations_start.Goals as goal
 pub loop-at-init : goal.loop-at-init
 loop-at-init c = (search rules, (search rules, (search rules, search (rules, none_past))))
 
-pub returns-then-req-at-ne14 : goal.returns-then-req-at-ne14
-returns-then-req-at-ne14 c = search (rules, parted_here)
+pub returns-then-req-at-ne-DELEGATION : goal.returns-then-req-at-ne-DELEGATION
+returns-then-req-at-ne-DELEGATION c = search (rules, parted_here)
 
 pub loop-at-preserved : goal.loop-at-preserved
 loop-at-preserved c = (search rules, (search rules, (search rules, search (rules, none_earlier))))

@@ -1,20 +1,18 @@
-use mathlib.Core.Path.{refl}
-use Rattle.rules.specs.Basics.{records_from}
+use mathlib.Core.Path.{refl, ◌∙◌, ap}
 use Rattle.rules.specs.Request.{hints_fault}
-use Rattle.rules.proofs.Rows.{each_stop, each_next, each_done}
+use Rattle.record_fields.proofs.Walks.{each_stop, each_next, each_done}
 use Rattle.request_reader.proofs.Laws.{hint_bad, hint_sound}
-use borrow.Author.Rules.{rules}
 use Rattle.request_reader.proofs.hint_records.Goals as goal
 
-pub loop-at-init : goal.loop-at-init
-unfolding hints_fault records_from
-loop-at-init c = (search rules, refl)
+pub loop-rec-init : goal.loop-rec-init
+unfolding hints_fault
+loop-rec-init c = refl
 
 pub returns-then-not-hint_record : goal.returns-then-not-hint_record
-returns-then-not-hint_record c = search (rules, each_stop, hint_bad)
+returns-then-not-hint_record c = each_stop _ _ _ _ c.loop-rec.invariant _ c.loop-rec-test.true (hint_bad _ _ c.hint_record.ensures c.if-not-hint_record.true) ∙ ap hints_fault c.records-rec-items.ensures
 
-pub loop-at-preserved : goal.loop-at-preserved
-loop-at-preserved c = (search rules, search (rules, each_next, hint_sound))
+pub loop-rec-preserved : goal.loop-rec-preserved
+loop-rec-preserved c = each_next _ _ _ _ c.loop-rec.invariant c.loop-rec-test.true (hint_sound _ _ c.hint_record.ensures c.if-not-hint_record.false)
 
 pub returns : goal.returns
-returns c = search (rules, each_done)
+returns c = each_done _ _ _ _ c.loop-rec.invariant c.loop-rec-test.false ∙ ap hints_fault c.records-rec-items.ensures

@@ -1,12 +1,13 @@
-use Prim.Native.Nat.{◌≤◌, ◌-◌}
+use Prim.Native.Nat.{◌≤◌}
 use mathlib.Core.Path.{◌≡◌}
-use lib.ListN.{length}
-use Rattle.rules.specs.Basics.{records, scan, records_from}
+use lib.ListN.{drop}
+use Rattle.rules.specs.Basics.{scan}
 use Rattle.rules.specs.Request.{presented_record_fault, after_presented, presented_end, presented_fault}
 use Rattle.request_reader.proofs.presented_records.Given as goal
 
-abbrev pub invariant-loop-at : goal.invariant-loop-at
-invariant-loop-at l = (l.at ≤ length l.rest) × ((l.certs ≤ l.at) × ((l.dels ≤ l.at) × (scan presented_record_fault after_presented presented_end (record { certificates = l.certs; delegations = l.dels }) (records_from l.rest l.at) ≡ presented_fault (records l.rest))))
-
-abbrev pub decreases-loop-at : goal.decreases-loop-at
-decreases-loop-at l = length l.rest - l.at
+abbrev pub invariant-loop-rec : goal.invariant-loop-rec
+invariant-loop-rec l = record {
+  certificates_read : l.certs ≤ l.rec-index;
+  delegations_read : l.dels ≤ l.rec-index;
+  left : scan presented_record_fault after_presented presented_end (record { certificates = l.certs; delegations = l.dels }) (drop l.rec-index l.rec-items) ≡ presented_fault l.rec-items;
+}

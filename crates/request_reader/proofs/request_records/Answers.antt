@@ -1,12 +1,18 @@
-use Rattle.request_reader.proofs.Laws.{request_missing, request_bad, request_rest}
-use borrow.Author.Rules.{rules}
+use mathlib.Core.Path.{◌∙◌, ap, ap₂}
+use Rattle.rules.specs.Basics.{Bytes, records}
+use Rattle.rules.specs.Request.{request_laid_out}
+use Rattle.request_reader.specs.Following.{following_fault}
+use Rattle.request_reader.proofs.Laws.{request_missing, request_bad, request_rest, enough}
 use Rattle.request_reader.proofs.request_records.Goals as goal
 
-pub returns-then-req-lt-RECORD : goal.returns-then-req-lt-RECORD
-returns-then-req-lt-RECORD c = search (rules, request_missing)
+pub returns-in_default : goal.returns-in_default
+returns-in_default c = request_missing request_laid_out c.args.req.now c.in_default.ensures.cases
 
 pub returns-then-not-request_record : goal.returns-then-not-request_record
-returns-then-not-request_record c = search (rules, request_bad)
+returns-then-not-request_record c = let e = c.in-Some.ensures.cases in
+    request_bad request_laid_out c.args.req.now _ (enough _ _ e.2) (c.request_record.ensures ∙ ap request_laid_out e.0) c.if-not-request_record.true
 
 pub returns : goal.returns
-returns c = search (rules, request_rest)
+returns c = let e = c.in-Some.ensures.cases in
+    request_rest request_laid_out c.args.req.now _ _ (enough _ _ e.2) (c.request_record.ensures ∙ ap request_laid_out e.0) c.if-not-request_record.false
+    (c.following_records.ensures ∙ ap₂ (λ (r s : Bytes). following_fault r (records s)) e.0 e.1)

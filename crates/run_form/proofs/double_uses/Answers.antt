@@ -2,14 +2,14 @@ use Rattle.run_form.proofs.Making.{doubling_start, doubling_below, doubling_next
 use borrow.Author.Rules.{rules}
 use Rattle.run_form.proofs.double_uses.Goals as goal
 
-pub loop-p-init : goal.loop-p-init
-loop-p-init c = (search rules, (search rules, search (rules, doubling_start)))
+pub loop-set-init : goal.loop-set-init
+loop-set-init c = search (rules, doubling_start)
 
 pub with_digit-requires : goal.with_digit-requires
 with_digit-requires c = (search (rules, doubling_below), search rules)
 
-pub loop-p-preserved : goal.loop-p-preserved
-loop-p-preserved c = (search rules, (search rules, search (rules, doubling_next)))
+pub loop-set-preserved : goal.loop-set-preserved
+loop-set-preserved c = search (rules, doubling_next)
 
 pub returns : goal.returns
 returns c = search (rules, doubling_done)

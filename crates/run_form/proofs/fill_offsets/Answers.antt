@@ -1,18 +1,26 @@
-use Rattle.run_form.proofs.Placing.{filling_start, filling_done, filling_count, filling_skip, filling_room, filling_next, filling_sized, put_start, put_skip, put_next, put_done}
-use borrow.Author.Rules.{rules}
+use native.Mathlib.Omega.{arith}
+use Rattle.run_form.proofs.Placing.{placing_start, placing_room, placing_skip, placing_next, placing_done}
 use Rattle.run_form.proofs.fill_offsets.Goals as goal
+use Rattle.run_form.proofs.fill_offsets.Goals.{then-rec-eq1, else-rec-eq1}
 
-pub loop-at-init : goal.loop-at-init
-loop-at-init c = (search rules, (search rules, (search (rules, filling_start), put_start _ _)))
+pub loop-i-init : goal.loop-i-init
+loop-i-init c = placing_start _ _ _ c.records-rec-items.ensures c.told-bodies c.requires.0 c.requires.1
 
-pub loop-at-preserved-then-acl-at-ne1 : goal.loop-at-preserved-then-acl-at-ne1
-loop-at-preserved-then-acl-at-ne1 c = (search rules, (search rules, (search (rules, filling_skip), search (rules, put_skip))))
+pub offset_bounds-bodies-g : goal.offset_bounds-bodies-g
+offset_bounds-bodies-g c = let r = placing_room _ _ _ _ _ _ c.loop-i.invariant c.loop-i-test.true c.if-rec-eq1.true in omega arith
 
-pub put_offset-g-requires : goal.put_offset-g-requires
-put_offset-g-requires c = (search rules, search (rules, filling_room))
+pub bounds-bodies-g : goal.bounds-bodies-g
+bounds-bodies-g c = placing_room _ _ _ _ _ _ c.loop-i.invariant c.loop-i-test.true c.if-rec-eq1.true
 
-pub loop-at-preserved : goal.loop-at-preserved
-loop-at-preserved c = (search rules, (search (rules, filling_sized), (search (rules, filling_next), search (rules, put_next))))
+pub overflow_add-g : goal.overflow_add-g
+overflow_add-g c = let r = placing_room _ _ _ _ _ _ c.loop-i.invariant c.loop-i-test.true c.if-rec-eq1.true in omega arith
+
+pub loop-i-preserved : goal.loop-i-preserved
+loop-i-preserved c =
+    elim c.if-rec-eq1.branch [
+      | then-rec-eq1 w ↦ rw (w.bodies-is, w.g-is) (placing_next _ _ _ _ _ _ c.loop-i.invariant c.loop-i-test.true w.if-rec-eq1.true)
+      | else-rec-eq1 w ↦ rw (w.bodies-is, w.g-is) (placing_skip _ _ _ _ _ _ c.loop-i.invariant c.loop-i-test.true w.if-rec-eq1.false)
+    ]
 
 pub returns : goal.returns
-returns c = (search (rules, filling_done), search (rules, put_done), search (rules, filling_count))
+returns c = placing_done _ _ _ _ _ _ c.loop-i.invariant c.loop-i-test.false

@@ -1,13 +1,12 @@
-use mathlib.Core.Path.{sym, ◌∙◌, ap}
-use Rattle.files.specs.Faults.{fault_as}
+use mathlib.Core.Path.{sym}
 use Rattle.run_form.proofs.Preparing.{file_few, not_prepared, is_prepared}
 use Rattle.run_form.proofs.prepare.Goals as goal
 
 pub form_of-requires : goal.form_of-requires
-form_of-requires c = file_few _ (sym c.acl_file-fault.ensures ∙ ap fault_as c.in-Sound.is)
+form_of-requires c = file_few _ (sym c.in_ok-acl_file.ensures)
 
-pub returns-in-Refused : goal.returns-in-Refused
-returns-in-Refused c = c.refused.ensures ∙ not_prepared _ _ (sym c.acl_file-fault.ensures ∙ ap fault_as c.in-Refused.is)
+pub returns : goal.returns
+returns c = is_prepared _ _ (sym c.in_ok-acl_file.ensures) c.form_of.ensures
 
-pub returns-in-Sound : goal.returns-in-Sound
-returns-in-Sound c = is_prepared _ _ (sym c.acl_file-fault.ensures ∙ ap fault_as c.in-Sound.is) c.form_of.ensures
+pub returns-in_err-acl_file : goal.returns-in_err-acl_file
+returns-in_err-acl_file c = not_prepared _ _ _ c.from_residual.ensures c.in_err-acl_file.ensures

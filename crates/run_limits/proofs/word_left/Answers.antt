@@ -1,5 +1,5 @@
-use Rattle.run_limits.specs.Rows.{word_left}
 use borrow.Author.Rules.{rules}
+use Rattle.run_limits.specs.Rows.{word_left}
 use Rattle.run_limits.proofs.word_left.Goals as goal
 
 pub returns : goal.returns

@@ -3,5 +3,5 @@ use Rattle.files.specs.Faults.{fault_as}
 use Rattle.runs.proofs.Laws.{refused_prepared}
 use Rattle.runs.proofs.prepared_judged.Goals as goal
 
-pub returns-in-Refused : goal.returns-in-Refused
-returns-in-Refused c = c.refused.ensures _ ∙ refused_prepared _ _ _ _ _ _ _ _ (sym c.seen_fault-fault.ensures ∙ ap fault_as c.in-Refused.is)
+pub returns-in-Err : goal.returns-in-Err
+returns-in-Err c = c.refused.ensures _ ∙ refused_prepared _ _ _ _ _ _ _ _ (sym c.seen_fault.ensures ∙ ap fault_as c.in-Err.is)

@@ -1,11 +1,7 @@
-use Prim.Native.Nat.{◌*◌, ◌-◌, ◌≤◌}
-use lib.ListN.{length}
+use Prim.Native.Nat.{◌*◌, ◌≤◌}
 use Rattle.text_rules.specs.Words.{line_of}
 use Rattle.text_acl.proofs.Writing.{Summed}
 use Rattle.text_acl.proofs.listing_length.Given as goal
 
-abbrev pub invariant-loop-at : goal.invariant-loop-at
-invariant-loop-at l = (l.at ≤ length l.acl) × (l.total ≤ 4 * l.at) × Summed line_of l.acl l.at l.total
-
-abbrev pub decreases-loop-at : goal.decreases-loop-at
-decreases-loop-at l = length l.acl - l.at
+abbrev pub invariant-loop-rec : goal.invariant-loop-rec
+invariant-loop-rec l = (l.total ≤ 256 * l.rec-index) × Summed line_of l.rec-items l.rec-index l.total

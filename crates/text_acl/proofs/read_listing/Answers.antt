@@ -1,10 +1,10 @@
-use Rattle.std.proofs.Common.{sym, ◌∙◌}
 use Rattle.text_rules.specs.Kinds.{acl_kind}
+use Rattle.text_acl.proofs.Writing.{passed_on}
 use Rattle.text_acl.proofs.Reading.{read_bad, found_none}
 use Rattle.text_acl.proofs.read_listing.Goals as goal
 
-pub read_sound-requires : goal.read_sound-requires
-read_sound-requires c = found_none acl_kind _ _ (sym c.in-Count.is ∙ c.judge_lines-found.ensures)
+pub returns-in_err-count : goal.returns-in_err-count
+returns-in_err-count c = rw (passed_on _ _ c.from_residual.ensures) (read_bad acl_kind _ _ _ c.in_err-count.ensures)
 
-pub returns-in-Bad : goal.returns-in-Bad
-returns-in-Bad c = read_bad acl_kind _ _ _ (sym c.in-Bad.is ∙ c.judge_lines-found.ensures)
+pub read_sound-requires : goal.read_sound-requires
+read_sound-requires c = found_none acl_kind _ _ c.in_ok-count.ensures

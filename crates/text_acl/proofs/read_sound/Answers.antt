@@ -7,8 +7,8 @@ use Rattle.text_acl.proofs.read_sound.Goals as goal
 pub returns-then-buffer-count : goal.returns-then-buffer-count
 returns-then-buffer-count c = search (rules, read_short acl_kind decoded_record)
 
-pub put_records-end-requires : goal.put_records-end-requires
-put_records-end-requires c = search (rules, read_room acl_kind decoded_record)
+pub put_records-requires : goal.put_records-requires
+put_records-requires c = search (rules, read_room acl_kind decoded_record)
 
 pub returns : goal.returns
 returns c = search (rules, read_whole acl_kind decoded_record)

@@ -1,12 +1,9 @@
-use Rattle.text_bytes.proofs.Words.{number_inside, held_number, held_not}
+use Rattle.text_bytes.proofs.Words.{held_given, held_not}
 use borrow.Author.Rules.{rules}
 use Rattle.text_bytes.proofs.number_if.Goals as goal
 
-pub append_decimal-requires : goal.append_decimal-requires
-append_decimal-requires c = search (rules, number_inside)
-
 pub returns-then-given : goal.returns-then-given
-returns-then-given c = search (rules, held_number)
+returns-then-given c = search (rules, held_given)
 
-pub returns : goal.returns
-returns c = search (rules, held_not)
+pub returns-else-given : goal.returns-else-given
+returns-else-given c = search (rules, held_not)

@@ -1,11 +1,7 @@
-use Prim.Native.Nat.{◌*◌, ◌-◌, ◌≤◌}
-use lib.ListN.{length}
+use Prim.Native.Nat.{◌*◌, ◌≤◌}
 use Rattle.text_rules.specs.OtherWords.{record_line}
 use Rattle.text_acl.proofs.Writing.{Summed}
 use Rattle.text_files.proofs.text_length.Given as goal
 
-abbrev pub invariant-loop-at : goal.invariant-loop-at
-invariant-loop-at l = (l.at ≤ length l.file) × (l.total ≤ 5 * l.at) × Summed record_line l.file l.at l.total
-
-abbrev pub decreases-loop-at : goal.decreases-loop-at
-decreases-loop-at l = length l.file - l.at
+abbrev pub invariant-loop-rec : goal.invariant-loop-rec
+invariant-loop-rec l = (l.total ≤ 320 * l.rec-index) × Summed record_line l.rec-items l.rec-index l.total

@@ -1,6 +1,9 @@
-use Rattle.text_kinds.proofs.Laws.{written_named}
-use borrow.Author.Rules.{rules}
+use Rattle.text_acl.proofs.Writing.{passed_on}
+use Rattle.text_kinds.proofs.Laws.{written_known, written_unknown}
 use Rattle.text_kinds.proofs.write.Goals as goal
 
+pub returns-in_err-kind : goal.returns-in_err-kind
+returns-in_err-kind c = rw (passed_on _ _ c.from_residual.ensures) (written_unknown _ _ _ _ c.in_err-kind.ensures)
+
 pub returns : goal.returns
-returns c = search (rules, written_named)
+returns c = written_known _ _ _ _ _ _ c.in_ok-kind.ensures c.write.ensures

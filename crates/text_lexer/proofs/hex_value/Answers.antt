@@ -2,17 +2,17 @@ use Rattle.text_lexer.proofs.Laws.{value_below, value_decimal, value_between, va
 use Rattle.std.proofs.Common.{rules}
 use Rattle.text_lexer.proofs.hex_value.Goals as goal
 
-pub returns-then-c-lt48 : goal.returns-then-c-lt48
-returns-then-c-lt48 c = search (rules, value_below)
+pub returns-in-48-to-57 : goal.returns-in-48-to-57
+returns-in-48-to-57 c = search (rules, value_decimal)
 
-pub returns-then-c-le57 : goal.returns-then-c-le57
-returns-then-c-le57 c = value_decimal _ c.if-c-lt48.false c.if-c-le57.true
+pub returns-in-97-to-102 : goal.returns-in-97-to-102
+returns-in-97-to-102 c = search (rules, value_letter)
 
-pub returns-then-c-lt97 : goal.returns-then-c-lt97
-returns-then-c-lt97 c = value_between _ c.if-c-le57.false c.if-c-lt97.true
+pub returns-in_default : goal.returns-in_default
+returns-in_default c = search (rules, value_below)
 
-pub returns-then-c-le102 : goal.returns-then-c-le102
-returns-then-c-le102 c = value_letter _ c.if-c-le57.false c.if-c-lt97.false c.if-c-le102.true
+pub returns-in_default-2 : goal.returns-in_default-2
+returns-in_default-2 c = search (rules, value_between)
 
-pub returns : goal.returns
-returns c = search (rules, value_above)
+pub returns-in_default-3 : goal.returns-in_default-3
+returns-in_default-3 c = search (rules, value_above)

@@ -1,12 +1,8 @@
-use Rattle.text_states.proofs.Laws.{certificate_bad, certificate_full, certificate_next}
-use borrow.Author.Rules.{rules}
+use Rattle.text_states.proofs.Laws.{certificate_stop, certificate_next}
 use Rattle.text_states.proofs.certificate_step.Goals as goal
 
-pub returns-then-not-certificate_record-dels : goal.returns-then-not-certificate_record-dels
-returns-then-not-certificate_record-dels c = search (rules, certificate_bad)
-
-pub returns-then-certs-ge-CERTIFICATES : goal.returns-then-certs-ge-CERTIFICATES
-returns-then-certs-ge-CERTIFICATES c = search (rules, certificate_full)
+pub returns-in_err-count : goal.returns-in_err-count
+returns-in_err-count c = certificate_stop _ _ _ _ c.requires c.certificate_record.ensures _ _ c.from_residual.ensures c.in_err-count.ensures
 
 pub returns : goal.returns
-returns c = search (rules, certificate_next)
+returns c = certificate_next _ _ _ _ c.requires c.certificate_record.ensures _ c.in_ok-count.ensures

@@ -1,12 +1,8 @@
-use Rattle.text_states.proofs.Laws.{delegation_bad, delegation_full, delegation_next}
-use borrow.Author.Rules.{rules}
+use Rattle.text_states.proofs.Laws.{delegation_stop, delegation_next}
 use Rattle.text_states.proofs.delegation_step.Goals as goal
 
-pub returns-then-not-delegation_record : goal.returns-then-not-delegation_record
-returns-then-not-delegation_record c = search (rules, delegation_bad)
-
-pub returns-then-dels-ge-DELEGATIONS : goal.returns-then-dels-ge-DELEGATIONS
-returns-then-dels-ge-DELEGATIONS c = search (rules, delegation_full)
+pub returns-in_err-count : goal.returns-in_err-count
+returns-in_err-count c = delegation_stop _ _ _ _ c.requires c.delegation_record-good.ensures _ _ c.from_residual.ensures c.in_err-count.ensures
 
 pub returns : goal.returns
-returns c = search (rules, delegation_next)
+returns c = delegation_next _ _ _ _ c.requires c.delegation_record-good.ensures _ c.in_ok-count.ensures

@@ -1,12 +1,8 @@
-use Rattle.text_states.proofs.Laws.{hint_bad, hint_full, hint_next}
-use borrow.Author.Rules.{rules}
+use Rattle.text_states.proofs.Laws.{hint_stop, hint_next}
 use Rattle.text_states.proofs.hint_step.Goals as goal
 
-pub returns-then-not-hint_record : goal.returns-then-not-hint_record
-returns-then-not-hint_record c = search (rules, hint_bad)
-
-pub returns-then-n-ge-HINT_RECORDS : goal.returns-then-n-ge-HINT_RECORDS
-returns-then-n-ge-HINT_RECORDS c = search (rules, hint_full)
+pub returns-in_err-count : goal.returns-in_err-count
+returns-in_err-count c = hint_stop _ _ _ c.hint_record.ensures _ _ c.from_residual.ensures c.in_err-count.ensures
 
 pub returns : goal.returns
-returns c = search (rules, hint_next)
+returns c = hint_next _ _ _ c.hint_record.ensures _ c.in_ok-count.ensures

@@ -1,8 +1,5 @@
-use mathlib.Core.Path.{ap}
-use mathlib.Core.Bool.{not}
-use Rattle.rules.specs.Trim.{is_checked}
+use Rattle.trim_records.proofs.Laws.{checked_found}
 use Rattle.trim_records.proofs.is_checked.Goals as goal
 
 pub returns : goal.returns
-unfolding is_checked
-returns c = rw (← c.field_of.ensures) (ap not c.names_key.ensures)
+returns c = checked_found _ _ c.of.ensures _ _ c.names_officer.ensures

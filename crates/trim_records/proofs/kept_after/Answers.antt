@@ -3,14 +3,14 @@ use Rattle.trim_records.specs.Fates.{kept_after}
 use borrow.Author.Rules.{rules}
 use Rattle.trim_records.proofs.kept_after.Goals as goal
 
-pub returns-then-kind-eq-GROUP : goal.returns-then-kind-eq-GROUP
+pub returns-in-1 : goal.returns-in-1
 unfolding kept_after
-returns-then-kind-eq-GROUP c = search (rules, picks)
+returns-in-1 c = search (rules, picks)
 
-pub returns-then-kind-eq-LIMIT : goal.returns-then-kind-eq-LIMIT
+pub returns-in-2 : goal.returns-in-2
 unfolding kept_after
-returns-then-kind-eq-LIMIT c = search (rules, picks)
+returns-in-2 c = search (rules, picks)
 
-pub returns : goal.returns
+pub returns-in_default : goal.returns-in_default
 unfolding kept_after
-returns c = search (rules, picks)
+returns-in_default c = search (rules, picks)

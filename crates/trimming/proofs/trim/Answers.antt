@@ -1,7 +1,5 @@
-use Rattle.std.proofs.Common.{sym, ◌∙◌, ap}
-use Rattle.files.specs.Faults.{fault_as}
 use Rattle.trimming.proofs.Ends.{ends_refused}
 use Rattle.trimming.proofs.trim.Goals as goal
 
-pub returns-in-Refused : goal.returns-in-Refused
-returns-in-Refused c = ends_refused _ _ _ _ _ (sym c.read_both-checked.ensures.0 ∙ ap fault_as c.in-Refused.is)
+pub returns-in_err-read_both : goal.returns-in_err-read_both
+returns-in_err-read_both c = ends_refused _ _ _ _ _ _ c.from_residual.ensures c.in_err-read_both.ensures.0

@@ -13,4 +13,4 @@ unfolding record_hinted
 returns-then-kind-eq-BLOBFILE c = search (rules, picks)
 
 pub returns : goal.returns
-returns c = action_recorded _ _ _ _ _ _ (search rules) (search rules) c.on_action-fate.ensures c.is_kept.ensures c.after_action.ensures
+returns c = action_recorded _ _ _ _ _ _ (search rules) (search rules) c.on_action-fate.ensures c.is_some.ensures c.after_action.ensures

@@ -1,6 +1,0 @@
-use Rattle.acl_reader.proofs.Laws.{place_added}
-use borrow.Author.Rules.{rules}
-use Rattle.acl_reader.proofs.State.after_limit.Goals as goal
-
-pub returns : goal.returns
-returns c = search (rules, place_added)

@@ -1,6 +1,0 @@
-use Rattle.rules.specs.Acl.{keyed}
-use Rattle.acl_reader.proofs.State.is_keyed.Goals as goal
-
-pub returns : goal.returns
-unfolding keyed
-returns c = rw c.flag_of.ensures

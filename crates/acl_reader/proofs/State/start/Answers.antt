@@ -1,7 +1,0 @@
-use Rattle.acl_reader.specs.Places.{keys_of}
-use borrow.Author.Rules.{rules}
-use Rattle.acl_reader.proofs.State.start.Goals as goal
-
-pub returns : goal.returns
-unfolding keys_of
-returns c = search rules

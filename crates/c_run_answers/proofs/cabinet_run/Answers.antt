@@ -1,4 +1,0 @@
-use Rattle.c_run_answers.proofs.cabinet_run.Goals as goal
-
-pub returns : goal.returns
-returns c buffer = rw (c.run_refusal.ensures, c.run_count.ensures)

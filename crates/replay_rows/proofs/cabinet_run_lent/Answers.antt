@@ -1,5 +1,0 @@
-use Rattle.replay_rows.proofs.Whole.{cabinet_run_of_whole}
-use Rattle.replay_rows.proofs.cabinet_run_lent.Goals as goal
-
-pub returns : goal.returns
-returns c = cabinet_run_of_whole _ _ _ _ _ _ _ _ c.run.ensures
