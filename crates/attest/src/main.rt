@@ -35,7 +35,7 @@ fn print_verdict(rt: &HostRuntime, bundle: &[u8], acl: &[u8]) {
 
 // No file that fits its greatest length fills its buffer, so that a longer one is cut and still too long.
 fn main(rt: HostRuntime) {
-    if !cli_arguments::are_given(&rt, 3, "attest BUNDLE ACL") {
+    if !cli_arguments::are_given(&rt, 3, b"attest BUNDLE ACL") {
         return;
     }
     let mut bundle = [0u8; BUNDLE];

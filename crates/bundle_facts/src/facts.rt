@@ -2,10 +2,11 @@
 
 ghost use Rattle.bundle_facts.specs.Places.{Found};
 
-// A bundle, and where the records are that the desk asks for: the table says it of this bundle.
+// A bundle, and where the records are that the desk asks for: the table says it of this bundle. What is found borrows from the bundle alone, so that
+// the table may end before it.
 #[derive(Clone, Copy)]
-pub struct Facts<'a> {
+pub struct Facts<'a, 'p> {
     pub bundle: &'a [u8],
-    pub places: &'a [usize; super::ENTRIES],
+    pub places: &'p [usize; super::ENTRIES],
     ghost found: { Found bundle.now places.now },
 }

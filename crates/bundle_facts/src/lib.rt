@@ -69,7 +69,7 @@ fn bit_of_byte(b: u16, n: u8) -> bool
     record_fields::bit_of(b, n as u16)
 }
 
-impl<'a> Facts<'a> {
+impl<'a, 'p> Facts<'a, 'p> {
     // The first record of an entry, if there is one.
     fn first_entered(self, i: usize) -> Option<&'a Record>
         requires { i < unasked }

@@ -111,12 +111,14 @@ fn asks_for_help(rt: &HostRuntime) -> bool {
 }
 
 // Prints how the program is used.
-pub fn print_usage(rt: &HostRuntime, usage: &str) {
-    say(rt, format_args!("usage: {usage}\n"));
+pub fn print_usage(rt: &HostRuntime, usage: &[u8]) {
+    say(rt, "usage: ");
+    say_bytes(rt, usage);
+    say(rt, "\n");
 }
 
 // Whether the program has `count` arguments, its own name among them, and the first after it does not ask for help. If not, prints the usage.
-pub fn are_given(rt: &HostRuntime, count: usize, usage: &str) -> bool {
+pub fn are_given(rt: &HostRuntime, count: usize, usage: &[u8]) -> bool {
     if self::count(rt) == count && !asks_for_help(rt) {
         return true;
     }

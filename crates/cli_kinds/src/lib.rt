@@ -40,7 +40,7 @@ pub fn read_arguments(
     rt: &HostRuntime,
     count: usize,
     more: usize,
-    usage: &str,
+    usage: &[u8],
 ) -> Option<(Kind, usize)>
     ensures { IfSome result (λ given. given.1 ≤ 2) }
 {

@@ -50,7 +50,7 @@ impl Output {
         self.print(format_args!("{k} "));
     }
 
-    pub fn print_refusal(&mut self, number: u8) {
+    pub fn print_refusal(&mut self, number: u64) {
         self.print(format_args!("refuse {number}"));
     }
 

@@ -25,6 +25,7 @@ pub struct Unsaved;
 // The name of the temporary file beside the file of a path, in the room for it.
 fn temporary<'a>(rt: &HostRuntime, path: &[u8], room: &'a mut [u8; ROOM]) -> &'a [u8]
     requires { length path.now ≤ 4096 }
+    ensures { length result.now ≤ length room.old }
 {
     let named = text_bytes::append(path, 0, room);
     let numbered = text_bytes::number_if(true, b".", process::id(rt.process()), named, room);
@@ -173,11 +174,9 @@ fn kept<'a>(target: &[u8], path: &'a [u8]) -> &'a [u8]
 }
 
 // Where the symbolic link of a path leads, in the buffer; none where the path is no link, or the buffer is too short.
-fn link_of<'a>(
-    rt: &HostRuntime,
-    path: &[u8],
-    buffer: &'a mut [u8],
-) -> io::Result<Option<&'a [u8]>> {
+fn link_of<'a>(rt: &HostRuntime, path: &[u8], buffer: &'a mut [u8]) -> io::Result<Option<&'a [u8]>>
+    ensures { IfOk result (λ target. IfSome target (λ word. length word.now ≤ length buffer.old)) }
+{
     let Ok(true) = is_link(rt, path) else {
         return Ok(None);
     };

@@ -60,7 +60,7 @@ fn print_day(rt: &HostRuntime, km0: &[u8], acl: &[u8], requests: &[u8]) {
 
 // Prints the day if all three files can be read. One that is too long is read as far as its buffer goes, which is still too long.
 fn main(rt: HostRuntime) {
-    if !cli_arguments::are_given(&rt, 4, "day KM0 ACL REQUESTS") {
+    if !cli_arguments::are_given(&rt, 4, b"day KM0 ACL REQUESTS") {
         return;
     }
     let mut km0 = [0u8; record_sizes::RECORD];

@@ -39,6 +39,11 @@ module _ (policy : Policy) (bits b : ℕ) (t : Bool) (is : t ≡ bit b bits) whe
   unfolding admitted_bit
   bit_set c r h k e = e ∙ ap (policy_admits policy) k ∙ sym (rw (← is, not-false t h))
 
+-- none is set
+pub no_permissions : (policy : Policy) (bits : ℕ) → bits ≡ 0 → true ≡ all_below 16 (admitted_bit policy bits)
+unfolding all_below admitted_bit
+no_permissions policy bits e = rw e
+
 -- Whether every permission passes, from the least on: after one more.
 pub below_none : (p : ℕ → Bool) → true ≡ all_below 0 p
 unfolding all_below

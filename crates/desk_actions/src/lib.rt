@@ -89,10 +89,13 @@ pub fn bit_admitted(policy: Policy, bits: u16, b: u16) -> bool
     class_admitted(policy, class_of(b))
 }
 
-// Whether a policy admits every permission that is set. Every one is looked at, also after one that is not admitted.
+// Whether a policy admits every permission that is set. Where one is, every one is looked at, also after one that is not admitted.
 fn bits_admitted(policy: Policy, bits: u16) -> bool
     ensures { result ≡ all_below 16 (admitted_bit (policy_as policy) bits) }
 {
+    if bits == 0 {
+        return true;
+    }
     let mut admitted = true;
     for b in 0..16 {
         admitted = bit_admitted(policy, bits, b) & admitted;
@@ -183,6 +186,13 @@ pub fn archive_steps(policy: Policy, hkre: Option<&[u8]>, rec: &Record) -> Resul
     Ok(())
 }
 
+// Whether a group record names an officer's key as its certifier.
+pub fn names_certifier(officer: Option<&[u8]>, rec: &Record) -> bool
+    ensures { result ≡ both_same (bytes_as officer.entry) (optional (flag 0 rec.now) (part 4 hash_bytes rec.now)) }
+{
+    names_key(officer, 0, 4, rec)
+}
+
 // What an ACL is judged by: the policy, the officer's key, and the module key and the recovery key if they are trusted.
 #[derive(Clone, Copy)]
 pub struct Terms<'a> {
@@ -194,7 +204,7 @@ pub struct Terms<'a> {
 
 impl<'a> Terms<'a> {
     // The terms of a bundle. The keys are looked for once, not for each action.
-    pub fn of(facts: Facts<'a>) -> Terms<'a>
+    pub fn of(facts: Facts<'a, '_>) -> Terms<'a>
         ensures { TermsOf (records facts.entry.bundle.now) result }
     {
         Terms {
@@ -209,7 +219,7 @@ impl<'a> Terms<'a> {
     pub fn names_officer(self, rec: &Record) -> bool
         ensures { result ≡ both_same (bytes_as self.entry.officer) (optional (flag 0 rec.now) (part 4 hash_bytes rec.now)) }
     {
-        names_key(self.officer, 0, 4, rec)
+        names_certifier(self.officer, rec)
     }
 
     // The first step that an action fails.

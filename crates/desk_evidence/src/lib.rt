@@ -90,7 +90,7 @@ fn km_trusted(facts: Facts) -> bool
 }
 
 // The module key, if a world certificate vouches for it: that it is listed is not enough.
-pub fn module_key<'a>(facts: Facts<'a>) -> Option<&'a [u8]>
+pub fn module_key<'a>(facts: Facts<'a, '_>) -> Option<&'a [u8]>
     ensures { bytes_as result ≡ module_key (records facts.entry.bundle.now) }
 {
     if km_trusted(facts) {
@@ -100,7 +100,7 @@ pub fn module_key<'a>(facts: Facts<'a>) -> Option<&'a [u8]>
 }
 
 // The recovery key, if its certificate vouches for it.
-pub fn recovery_key<'a>(facts: Facts<'a>) -> Option<&'a [u8]>
+pub fn recovery_key<'a>(facts: Facts<'a, '_>) -> Option<&'a [u8]>
     ensures { bytes_as result ≡ recovery_key (records facts.entry.bundle.now) }
 {
     if kre_vouched(facts) {

@@ -54,9 +54,9 @@ limits_all p (r ∷ rs) = ap (list_all (λ x. p (limit_of x))) (take_while-cons 
     pick false h = refl
 
 -- a group whose count is not full is unspent if they leave room
-pub unspent_is : (counters : List ℕ) (own elapsed : ℕ) (rs : List Bytes) → own < full_count → (r : Bool)
-    → r ≡ list_all (λ x. limit_left counters own elapsed (limit_of x)) (take_while (λ x. eqb (kind x) 2) rs) → r ≡ unspent_with counters own elapsed (limits_of rs)
-unspent_is counters own elapsed rs h r e = e ∙ limits_all (limit_left counters own elapsed) rs ∙ sym (rw (lt-ltb own full_count h))
+pub unspent_is : (counters : List ℕ) (own elapsed : ℕ) (rs : List Bytes) → own < full_count
+    → unspent_with counters own elapsed (limits_of rs) ≡ list_all (λ x. limit_left counters own elapsed (limit_of x)) (take_while (λ x. eqb (kind x) 2) rs)
+unspent_is counters own elapsed rs h = rw (lt-ltb own full_count h) (sym (limits_all (limit_left counters own elapsed) rs))
 
 -- A loop over the groups, by those that are left; the next of them is g, at the index k.
 module _ (f : ℕ → Group → GroupResult) (near : Nearest) (place : ℕ) (left : List Group) (x : Result ℕ Denial) (inv : judged_from f near place left ≡ x) where

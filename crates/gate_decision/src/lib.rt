@@ -79,6 +79,7 @@ fn limits_left(counters: &[u32], own: u32, elapsed: u64, body: &[u8]) -> bool
 }
 
 // Whether a group is unspent.
+#[tactic(auto, using(crate::proofs::Laws::unspent_is))]
 pub fn is_unspent(counters: &[u32], own: u32, elapsed: u64, body: &[u8]) -> bool
     ensures { result ≡ unspent_with counters.now own elapsed (limits_of (records body.now)) }
 {

@@ -64,12 +64,13 @@ fn limit_answers(old: &Record, new: &Record) -> bool
         & (record_fields::be32(new, 8) <= record_fields::be32(old, 8))
 }
 
-// Whether one of the new limits answers an old one.
+// Whether one of the new limits answers an old one: no more of them are looked at than come up to the first that does.
 pub fn limit_answered(new: &[u8], old: &Record) -> bool
     ensures { result ≡ is_answered (limits_of (records new.now)) (limit_of old.now) }
 {
-    acl_groups::limits(new)
+    record_fields::records(new)
         .iter()
+        .take_while(|rec| rec[0] == record_kinds::LIMIT)
         .any(|limit| limit_answers(old, limit))
 }
 
@@ -77,8 +78,9 @@ pub fn limit_answered(new: &[u8], old: &Record) -> bool
 fn limits_answered(new: &[u8], old: &[u8]) -> bool
     ensures { result ≡ all (is_answered (limits_of (records new.now))) (limits_of (records old.now)) }
 {
-    acl_groups::limits(old)
+    record_fields::records(old)
         .iter()
+        .take_while(|rec| rec[0] == record_kinds::LIMIT)
         .all(|limit| limit_answered(new, limit))
 }
 

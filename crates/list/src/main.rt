@@ -18,7 +18,7 @@ fn print_text(rt: &HostRuntime, kind: Kind, i: usize, file: &[u8]) {
 
 // No file fills the buffer, so that a longer one is cut and still too long.
 fn main(rt: HostRuntime) {
-    let Some((kind, i)) = cli_kinds::read_arguments(&rt, 2, 3, "list [KIND] FILE") else {
+    let Some((kind, i)) = cli_kinds::read_arguments(&rt, 2, 3, b"list [KIND] FILE") else {
         return;
     };
     let mut file = [0u8; (record_sizes::ACL_RECORDS + 1) * record_sizes::RECORD];

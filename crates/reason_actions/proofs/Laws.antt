@@ -188,13 +188,22 @@ module _ (officer : Option Bytes) (faulty : Action → Bool) where
       pub left_next : r ≡ false → left checked g n (i + 1) (drop (k + 1) xs) ≡ x
       left_next e = rw e at action_step
 
+      pub left_somewhere : r ≡ true → true ≡ present x
+      left_somewhere e = ap (λ (o : Option Located). present o) (rw e at action_step)
+
       pub left_found : r ≡ true → (policy : Policy) (permission : prelude.Option ℕ) → ((file : Option BlobfileRule) → permission_number permission ≡ permission_of policy (action_of here file))
           → spot_as (Some (record { group = g; action = i; permission = permission })) ≡ spot_of policy x
       left_found e policy permission p = rw (p (blobfile_rule_next (drop (k + 1) xs))) (ap (spot_of policy) (rw e at action_step))
 
-    pub left_done : length xs ≤ k → (policy : Policy) → spot_as None ≡ spot_of policy x
+    left_over : length xs ≤ k → none ≡ x
     unfolding left in_groups groups_of actions_of
-    left_done h policy = ap (spot_of policy) (none_here ∙ inv)
+    left_over h = none_here ∙ inv
       where
         none_here : none ≡ left checked g n i (drop k xs)
         none_here = sym (ap (left checked g n i) (left_none xs k h) ∙ rw (none_left checked g i))
+
+    pub left_done : length xs ≤ k → (policy : Policy) → spot_as None ≡ spot_of policy x
+    left_done h policy = ap (spot_of policy) (left_over h)
+
+    pub left_nowhere : length xs ≤ k → false ≡ present x
+    left_nowhere h = ap (λ (o : Option Located). present o) (left_over h)

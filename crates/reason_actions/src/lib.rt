@@ -2,8 +2,9 @@
 // function decodes whatever bytes a record has; the file may or may not have been tested.
 #![tactic(auto)]
 
-ghost use Rattle.std.specs.Prelude.{◌≡◌, ◌<◌, length};
+ghost use Rattle.std.specs.Prelude.{◌≡◌, ◌<◌, length, is_some};
 ghost use Rattle.std.proofs.Math.Option.{Option};
+ghost use Rattle.rules.specs.Basics.{present};
 ghost use Rattle.rules.specs.Acl.{BlobfileRule, action_of, acl_of};
 ghost use Rattle.bundle_facts.specs.Found.{bytes_as, policy_as};
 ghost use Rattle.reason_actions.specs.Spots.{permission_number, unadmitted_from, permission_of, below_lowest, at_fault, skipped, in_groups, spot_as, spot_of};
@@ -67,7 +68,8 @@ fn at_fault(graded: bool, terms: Terms, rec: &Record) -> bool
 // stays: `graded`, for the promise names the fault by one function of it; of a closure it could say only what its calls may answer.
 pub fn first_at_fault(graded: bool, terms: Terms, acl: &[u8]) -> Option<Spot>
     requires { length acl.now < 4294967295 }
-    ensures { spot_as result ≡ spot_of (policy_as terms.entry.policy) (in_groups (skipped (bytes_as terms.entry.officer)) (at_fault graded (policy_as terms.entry.policy) (bytes_as terms.entry.hkm) (bytes_as terms.entry.hkre)) 0 (acl_of acl.now)) }
+    ensures spot { spot_as result ≡ spot_of (policy_as terms.entry.policy) (in_groups (skipped (bytes_as terms.entry.officer)) (at_fault graded (policy_as terms.entry.policy) (bytes_as terms.entry.hkm) (bytes_as terms.entry.hkre)) 0 (acl_of acl.now)) }
+    ensures found { is_some result ≡ present (in_groups (skipped (bytes_as terms.entry.officer)) (at_fault graded (policy_as terms.entry.policy) (bytes_as terms.entry.hkm) (bytes_as terms.entry.hkre)) 0 (acl_of acl.now)) }
 {
     let mut group: u32 = 0;
     let mut next: u32 = 0;
@@ -94,5 +96,5 @@ pub fn first_at_fault(graded: bool, terms: Terms, acl: &[u8]) -> Option<Spot>
         }
         action += 1;
     }
-    None
+    None // no action is at fault
 }

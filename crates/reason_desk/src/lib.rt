@@ -44,10 +44,10 @@ pub struct VerdictPlace {
 
 // Where in its input a fault is.
 #[derive(Clone, Copy, Debug, PartialEq, Eq)]
-struct Site {
-    input: u32,
-    part: u32,
-    index: u32,
+pub struct Site {
+    pub input: u32,
+    pub part: u32,
+    pub index: u32,
 }
 
 // A spot in numbers.

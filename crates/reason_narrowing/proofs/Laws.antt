@@ -1,5 +1,5 @@
 -- The tests of this crate in the definitions' terms, and the turns of its loops over actions.
-use Prim.Native.Nat.{ℕ, suc, ◌+◌}
+use Prim.Native.Nat.{ℕ, zero, suc, ◌+◌, ◌/◌, ◌≤◌, ◌<◌}
 use native.Mathlib.Omega.{arith}
 use mathlib.Core.Path.{◌≡◌, refl, sym, ◌∙◌, ap}
 use mathlib.Core.List.{List, [], ◌∷◌, map}
@@ -7,13 +7,14 @@ use mathlib.Core.Option.{Option, none, some}
 use mathlib.Core.Bool.{Bool, true, false, not, ◌&&◌, cond}
 use borrow.Author.Tests.{ltb-true, ltb-false, lt-ltb, le-ltb}
 use lib.ListN.{length, get_elem?}
-use lib.Dec.{ltb}
+use lib.Dec.{eqb, ltb}
 use Rattle.std.specs.Prelude.{if◌then◌else◌}
 use Rattle.std.specs.Prelude as option
 use Rattle.std.specs.List.{position_or_len}
-use Rattle.rules.specs.Basics.{all_zero}
-use Rattle.rules.specs.Acl.{Action, Group}
+use Rattle.rules.specs.Basics.{Bytes, kind, all_zero, present, records}
+use Rattle.rules.specs.Acl.{blobfile_rule_next, Action, action_of, actions_of, Group}
 use Rattle.rules.specs.Narrow.{kept, kept_number, is_answered, no_wider, no_wider_than}
+use Rattle.rules.proofs.Laws.{chunks_length}
 use Rattle.acl_groups.specs.Parts.{said}
 use Rattle.gate_narrowing.proofs.Laws.{empty}
 use Rattle.reason_limits.specs.Limits.{first_failing}
@@ -60,6 +61,34 @@ wider_than_none a g e = ap (no_wider_than a) e
 pub no_wider_there : (a o : Action) (g : Option Action) (r : Bool) → some o ≡ g → r ≡ no_wider a o → r ≡ no_wider_than a g
 no_wider_there a o g r e p = p ∙ ap (no_wider_than a) e
 
+-- a group has no more actions than records
+actions_few : (rs : List Bytes) → length (actions_of rs) ≤ length rs
+unfolding actions_of
+actions_few [] = omega arith
+actions_few (r ∷ rs) = pick (eqb (kind r) 1) (eqb (kind r) 2) (eqb (kind r) 15) (actions_few rs)
+  where
+    pick : (a b c : Bool) → length (actions_of rs) ≤ length rs
+        → length (if a then [] else if b then actions_of rs else if c then actions_of rs else action_of r (blobfile_rule_next rs) ∷ actions_of rs) ≤ length (r ∷ rs)
+    pick true b c h = omega arith
+    pick false true c h = omega arith
+    pick false false true h = omega arith
+    pick false false false h = omega arith
+
+pub actions_fit : (s : Bytes) → length (actions_of (records s)) ≤ length s
+unfolding records
+actions_fit s = let few = actions_few (records s) in let f = chunks_length (length s / 64) s in omega arith
+
+-- whether a list has an element at an index
+within : {A : Type 0} (xs : List A) (h : ℕ) → h < length xs → present (get_elem? xs h) ≡ true
+within [] h l = absurd (omega arith)
+within (x ∷ xs) zero l = refl
+within (x ∷ xs) (suc h) l = within xs h (omega arith)
+
+past_end : {A : Type 0} (xs : List A) (h : ℕ) → length xs ≤ h → present (get_elem? xs h) ≡ false
+past_end [] h l = refl
+past_end (x ∷ xs) zero l = absurd (omega arith)
+past_end (x ∷ xs) (suc h) l = past_end xs h (omega arith)
+
 -- A loop over new actions and the bytes of their hint: each byte names an action.
 module _ (olds acts : List Action) (hints : List ℕ) (x : Bool) (inv : actions_named acts hints olds ≡ x) where
   pub named_over : (r : Bool) → acts ≡ [] → r ≡ all_zero hints → r ≡ x
@@ -72,13 +101,16 @@ module _ (olds acts : List Action) (hints : List ℕ) (x : Bool) (inv : actions_
     named_short l = let d = empty hints l in rw (e, d) at inv
 
     module _ (h : ℕ) (others : List ℕ) (d : hints ≡ h ∷ others) where
-      pub named_nothing : none ≡ get_elem? olds h → false ≡ x
+      named_step : (present (get_elem? olds h) && actions_named more others olds) ≡ x
       unfolding actions_named
-      named_nothing f = rw (e, d, ← f) at inv
+      named_step = rw (e, d) at inv
 
-      pub named_more : (o : Action) → some o ≡ get_elem? olds h → actions_named more others olds ≡ x
-      unfolding actions_named
-      named_more o f = rw (e, d, ← f) at inv
+      module _ (n : ℕ) (count : n ≡ length olds) where
+        pub named_nothing : n ≤ h → false ≡ x
+        named_nothing l = rw (past_end olds h (omega arith)) at named_step
+
+        pub named_more : h < n → actions_named more others olds ≡ x
+        named_more l = rw (within olds h (omega arith)) at named_step
 
 -- A loop over new actions and the bytes of their hint: the first that is wider.
 module _ (olds acts : List Action) (hints : List ℕ) (i : ℕ) (x : Option ℕ) (inv : first_wider i acts hints olds ≡ x) where

@@ -2,7 +2,7 @@
 // bytes; the files need not have been tested.
 #![tactic(auto)]
 
-ghost use Rattle.std.specs.Prelude.{◌≡◌, true, IfErr};
+ghost use Rattle.std.specs.Prelude.{◌≡◌, true, length, IfErr};
 ghost use Rattle.std.proofs.Math.ListN.{get_elem?};
 ghost use Rattle.rules.specs.Basics.{records};
 ghost use Rattle.rules.specs.Acl.{limits_of, actions_of, acl_of};
@@ -34,18 +34,26 @@ pub enum Narrowing {
     Broken(usize, Breach),
 }
 
+// How many actions a group has, of the records that follow its first one.
+fn action_count(body: &[u8]) -> usize
+    ensures { result ≡ length (actions_of (records body.now)) }
+{
+    Actions(body).count()
+}
+
 // Whether the hint's bytes name an action of the source for each new action; those that are not used are zero.
 fn actions_named(new: &[u8], hints: &[u8], old: &[u8]) -> bool
     ensures { result ≡ actions_named (actions_of (records new.now)) hints.now (actions_of (records old.now)) }
 {
+    let count = action_count(old);
     let mut left = hints;
     for _ in Actions(new) {
         let Some((hint, others)) = left.split_first() else {
             return false;
         };
-        let Some(_) = Actions(old).nth(*hint as usize) else {
+        if count <= *hint as usize {
             return false;
-        };
+        }
         left = others;
     }
     record_fields::all_zero(left)
@@ -115,11 +123,13 @@ fn group_breach(
 }
 
 // Whether hints show that the new ACL is a narrowing of the old, and else what breaks it. A new group's index is the number of hints before its own.
+// Sources rise, so one is looked for from where the one before it was found.
 pub fn locate_breach(old: &[u8], new: &[u8], hints: &[u8]) -> Narrowing
     ensures { result ≡ narrowing_of (acl_of old.now) (acl_of new.now) (hints_of hints.now) }
 {
     let rows = record_fields::records(hints);
     let mut left = rows;
+    let mut ahead = Groups(old);
     let mut low = 0;
     for (first, body) in Groups(new) {
         let i = rows.len() - left.len();
@@ -130,7 +140,7 @@ pub fn locate_breach(old: &[u8], new: &[u8], hints: &[u8]) -> Narrowing
         if source < low {
             return Narrowing::Broken(i, Breach::Hint);
         }
-        let Some((old_first, old_body)) = Groups(old).nth(source) else {
+        let Some((old_first, old_body)) = ahead.nth(source - low) else {
             return Narrowing::Broken(i, Breach::Hint);
         };
         if let Err(why) = group_breach(first, body, &hint[8..16], old_first, old_body) {

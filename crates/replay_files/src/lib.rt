@@ -23,7 +23,7 @@ pub fn desk_call(out: &mut Output, k: u64, bundle: &[u8], acl: &[u8]) {
 fn print_written(out: &mut Output, written: Result<usize, TextError>) {
     match written {
         Ok(n) => out.print(format_args!("length {n}")),
-        Err(TextError::Refused(why)) => out.print_refusal(u8::from(why)),
+        Err(TextError::Refused(why)) => out.print_refusal(u64::from(u8::from(why))),
         Err(TextError::BadLine(n)) => {
             out.print_refusal(15);
             out.print_spaced(n);
@@ -85,7 +85,7 @@ fn print_trimmed(out: &mut Output, trimmed: Result<Lengths, Untrimmed>) {
             out.print_spaced(n.hints);
         }
         Err(Untrimmed::Failed(step)) => print_step(out, step),
-        Err(Untrimmed::Refused(why)) => out.print_refusal(u8::from(why)),
+        Err(Untrimmed::Refused(why)) => out.print_refusal(u64::from(u8::from(why))),
     }
 }
 

@@ -1,7 +1,7 @@
 // A row of certificates that is given as bytes, decoded and lent to a run as a host lends its own.
 #![tactic(auto)]
 
-ghost use Rattle.std.specs.Prelude.{◌≡◌, ◌≤◌, length};
+ghost use Rattle.std.specs.Prelude.{◌≡◌, ◌≤◌, ◌/◌, min, length};
 ghost use Rattle.rules.specs.Runs.{run};
 ghost use Rattle.rules.specs.Prepared.{prepared_run};
 ghost use Rattle.rules.specs.CabinetRuns.{cabinet_run, cabinet_prepared_run};
@@ -54,11 +54,18 @@ fn certificate_of(bytes: &[u8]) -> Certificate
     }
 }
 
+// How many of a row are lent.
+fn lent(bytes: &[u8]) -> usize
+    ensures { result ≡ min (length bytes.now / 22) 33 }
+{
+    (bytes.len() / CERTIFICATE).min(LENT)
+}
+
 // The certificates of a row that are lent, decoded into the room for them.
 fn decoded<'a>(bytes: &[u8], room: &'a mut [Certificate; LENT]) -> &'a [Certificate]
     ensures { row_as result.now ≡ lent_of bytes.now }
 {
-    let n = (bytes.len() / CERTIFICATE).min(LENT);
+    let n = lent(bytes);
     for i in 0..n {
         room[i] = certificate_of(&bytes[i * CERTIFICATE..]);
     }

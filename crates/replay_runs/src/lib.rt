@@ -69,7 +69,7 @@ fn print_ran(out: &mut Output, reply: Result<usize, Refusal>, answers: &[u8]) {
     match reply {
         Ok(n) => out.print(format_args!("length {n} ")),
         Err(why) => {
-            out.print_refusal(u8::from(why));
+            out.print_refusal(u64::from(u8::from(why)));
             out.print(" ");
         }
     }
@@ -89,11 +89,9 @@ pub fn run_call(
     ensures { (ledger_as result ≡ (run_answer (ledger_as before) letter form.now batch.entry.km0.now batch.entry.acl.now batch.entry.row.now batch.entry.requests.now answers.old).ledger) × (answers.new ≡ (run_answer (ledger_as before) letter form.now batch.entry.km0.now batch.entry.acl.now batch.entry.row.now batch.entry.requests.now answers.old).buffer) }
 {
     let o = answer(before, letter, form, batch, answers);
-    let ledger = o.ledger;
     out.print_line(k);
     print_ran(out, o.reply, answers);
-    cli_outcomes::print_ledger(out, &ledger);
-    ledger
+    cli_outcomes::print_ledger(out, &o.ledger)
 }
 
 // The answer to a letter of a run in a slot: plain, or on a prepared ACL.
@@ -130,11 +128,9 @@ pub fn slot_run_call(
 {
     let slot = first as usize;
     let o = slot_answer(before, letter, slot, form, batch, answers);
-    let cabinet = o.cabinet;
     out.print_line(k);
     print_ran(out, o.reply, answers);
-    cli_outcomes::print_cabinet(out, &cabinet, slot);
-    cabinet
+    cli_outcomes::print_cabinet(out, &o.cabinet, slot)
 }
 
 // A preparation: the sets of the form, or the ACL's refusal.
@@ -146,7 +142,7 @@ pub fn prepare_call(out: &mut Output, k: u64, acl: &[u8]) {
             out.print_words(&form.uses);
             out.print_words(&[form.working, form.recovery]);
         }
-        Err(why) => out.print_refusal(u8::from(why)),
+        Err(why) => out.print_refusal(u64::from(u8::from(why))),
     }
     out.print("\n");
 }

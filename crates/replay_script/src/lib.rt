@@ -23,31 +23,19 @@ pub struct Call {
     pub e: u64,
 }
 
-// Room for the runs of bytes of a call, and for its form.
+// Room for the runs of bytes of a call, and for its form: buffers of any length.
 #[derive(Drop)]
-pub struct Room {
-    pub a: [u8; MOST],
-    pub b: [u8; MOST],
-    pub c: [u8; MOST],
-    pub d: [u8; MOST],
-    pub e: [u8; MOST],
-    pub form: [u8; FORM],
+pub struct Room<'a> {
+    pub a: &'a mut [u8],
+    pub b: &'a mut [u8],
+    pub c: &'a mut [u8],
+    pub d: &'a mut [u8],
+    pub e: &'a mut [u8],
+    pub form: &'a mut [u8],
 }
 
-impl Room {
-    pub fn new() -> Room {
-        Room {
-            a: [0; MOST],
-            b: [0; MOST],
-            c: [0; MOST],
-            d: [0; MOST],
-            e: [0; MOST],
-            form: [0; FORM],
-        }
-    }
-}
-
-// The script cannot be read any further: it ends within a call, a length is too great, or no call has the letter.
+// The script cannot be read any further: it ends within a call, a length is greater than its buffer, a row is no whole number of certificates, a form does
+// not fill its buffer, or no call has the letter.
 #[derive(Clone, Copy, Debug, PartialEq, Eq)]
 pub struct Stop;
 
@@ -140,37 +128,40 @@ fn read_bytes(rt: &HostRuntime, due: bool, buffer: &mut [u8]) -> Result<u64, Sto
     Ok(u64::from(n))
 }
 
-// Reads a form, if the call takes one.
-fn read_form(rt: &HostRuntime, due: bool, form: &mut [u8; FORM]) -> Result<(), Stop> {
+// Reads a form, if the call takes one. It has the length of its buffer.
+fn read_form(rt: &HostRuntime, due: bool, form: &mut [u8]) -> Result<(), Stop> {
     let n = read_bytes(rt, due, form)?;
-    if due && n as usize != FORM {
+    if due && n as usize != form.len() {
         return Err(Stop);
     }
     Ok(())
 }
 
-// The arguments of a letter's call.
+// The arguments of a letter's call. A row that no run can have ends the script at once: what follows it is not read.
 fn read_arguments(rt: &HostRuntime, letter: u8, room: &mut Room) -> Result<Call, Stop> {
     let numbers = numbers_of(letter);
     let first = read_number(rt, 0 < numbers)?;
     let second = read_number(rt, 1 < numbers)?;
-    read_form(rt, letter == b'Q' || letter == b'q', &mut room.form)?;
+    read_form(rt, letter == b'Q' || letter == b'q', room.form)?;
     let runs = runs_of(letter);
-    let call = Call {
+    let a = read_bytes(rt, 0 < runs, room.a)?;
+    let b = read_bytes(rt, 1 < runs, room.b)?;
+    let c = read_bytes(rt, 2 < runs, room.c)?;
+    if !can_be_third(letter, c) {
+        return Err(Stop);
+    }
+    let d = read_bytes(rt, 3 < runs, room.d)?;
+    let e = read_bytes(rt, 4 < runs, room.e)?;
+    Ok(Call {
         letter,
         first,
         second,
-        a: read_bytes(rt, 0 < runs, &mut room.a)?,
-        b: read_bytes(rt, 1 < runs, &mut room.b)?,
-        c: read_bytes(rt, 2 < runs, &mut room.c)?,
-        d: read_bytes(rt, 3 < runs, &mut room.d)?,
-        e: read_bytes(rt, 4 < runs, &mut room.e)?,
-    };
-    if can_be_third(letter, call.c) {
-        Ok(call)
-    } else {
-        Err(Stop)
-    }
+        a,
+        b,
+        c,
+        d,
+        e,
+    })
 }
 
 // The next call, its runs of bytes and its form in their room; none where the script ends, as it may between two calls.

@@ -18,6 +18,7 @@ ghost use Rattle.run_decision.specs.Opening.{Opened, Closes, OpenAt};
 
 use record_sizes::Record;
 use refusals::Denial;
+use run_limits::Row;
 
 mod plan;
 
@@ -81,21 +82,35 @@ fn members<F: Fn(usize) -> bool>(set: u64, test: F) -> u64
     kept
 }
 
-impl Plan<'_> {
-    // Whether the group at an index is unspent.
-    fn is_left(
-        &self,
-        counts: &[u32; record_sizes::GROUPS],
-        counters: &[u32; record_sizes::COUNTERS],
-        elapsed: u64,
-        k: usize,
-    ) -> bool
-        requires { k < groups_max }
-        ensures { result ≡ left_at counts.now counters.now elapsed self.now.rows.now k }
-    {
-        self.rows[k].is_left(counters, counts[k], elapsed)
-    }
+// Whether the group at an index is unspent.
+fn is_left(
+    counts: &[u32; record_sizes::GROUPS],
+    counters: &[u32; record_sizes::COUNTERS],
+    elapsed: u64,
+    rows: &[Row; record_sizes::GROUPS],
+    k: usize,
+) -> bool
+    requires { k < groups_max }
+    ensures { result ≡ left_at counts.now counters.now elapsed rows.now k }
+{
+    rows[k].is_left(counters, counts[k], elapsed)
+}
 
+// The groups of a set that are unspent, by the rows of a table.
+pub fn unspent_of(
+    counts: &[u32; record_sizes::GROUPS],
+    counters: &[u32; record_sizes::COUNTERS],
+    elapsed: u64,
+    rows: &[Row; record_sizes::GROUPS],
+    set: u64,
+) -> u64
+    requires { set < 2 ^ groups_max }
+    ensures { result ≡ members_in (left_at counts.now counters.now elapsed rows.now) set_bits set }
+{
+    members(set, |k| is_left(counts, counters, elapsed, rows, k))
+}
+
+impl Plan<'_> {
     // The lowest group of a set that is unspent.
     // stays: the loop counts bits down; std has no iterator over the members of a set.
     fn first_unspent(
@@ -114,7 +129,7 @@ impl Plan<'_> {
         let mut still = unspent;
         while 0 < left {
             let k = lowest(left);
-            if self.is_left(counts, counters, elapsed, k) {
+            if is_left(counts, counters, elapsed, self.rows, k) {
                 return First {
                     place: Some(k),
                     still,
@@ -138,7 +153,7 @@ impl Plan<'_> {
         requires { set < 2 ^ groups_max }
         ensures { result ≡ members_in (left_at counts.now counters.now elapsed self.now.rows.now) set_bits set }
     {
-        members(set, |k| self.is_left(counts, counters, elapsed, k))
+        unspent_of(counts, counters, elapsed, self.rows, set)
     }
 
     // Whether the group at an index admits what a request record asks for. No record of kind 15 follows it.

@@ -5,7 +5,7 @@
 
 ghost use Rattle.std.specs.Prelude.{◌≡◌, ◌≤◌, ◌<◌, ◌+◌, ◌*◌, length};
 ghost use Rattle.rules.specs.Sizes.{set_bits, groups_max};
-ghost use Rattle.rules.specs.Basics.{Every, records};
+ghost use Rattle.rules.specs.Basics.{Every, same, records};
 ghost use Rattle.rules.specs.Acl.{acl_of};
 ghost use Rattle.rules.specs.Prepared.{form_of, prepare, same_form};
 ghost use Rattle.run_form.specs.Forms.{form_as, preparation_as, doubled};
@@ -87,11 +87,22 @@ pub fn form_of(acl: &[u8]) -> Prepared
     }
 }
 
+// Whether the sets of all permissions are the same. No test here stops at the first difference.
+fn same_words(a: &[u64; record_sizes::PERMISSIONS], b: &[u64; record_sizes::PERMISSIONS]) -> bool
+    ensures { result ≡ same a.now b.now }
+{
+    let mut so_far = true;
+    for i in 0..record_sizes::PERMISSIONS {
+        so_far = so_far & (a[i] == b[i]);
+    }
+    so_far
+}
+
 // Whether two forms are the same.
 pub fn same_form(a: Prepared, b: Prepared) -> bool
     ensures { result ≡ same_form (form_as a) (form_as b) }
 {
-    a == b
+    same_words(&a.uses, &b.uses) & (a.working == b.working) & (a.recovery == b.recovery)
 }
 
 // The form of an ACL, or the ACL's own refusal.

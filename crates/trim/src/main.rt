@@ -161,7 +161,7 @@ fn trim_files(rt: &HostRuntime, bundle: &[u8], acl: &[u8]) {
 
 // No file that fits its greatest length fills its buffer, so that a longer one is cut and still too long.
 fn main(rt: HostRuntime) {
-    if !cli_arguments::are_given(&rt, 5, "trim BUNDLE ACL NEW HINTS") {
+    if !cli_arguments::are_given(&rt, 5, b"trim BUNDLE ACL NEW HINTS") {
         return;
     }
     let mut bundle = [0u8; BUNDLE];

@@ -7,7 +7,7 @@ use mathlib.Core.Path.{◌≡◌, refl, ◌∙◌, ap}
 use mathlib.Core.List.{List, [], ◌∷◌, ◌++◌}
 use mathlib.Core.Option.{Option, none}
 use mathlib.Core.Bool.{Bool, true, false, not, ◌&&◌, false≢true}
-use borrow.Author.Tests.{eqb-true, not-true, not-false}
+use borrow.Author.Tests.{eqb-true, eq-eqb, ne_eqb, not-true, not-false}
 use lib.ListN.{length}
 use lib.Dec.{eqb}
 use lib.Arith.{mod-mul}
@@ -16,19 +16,17 @@ use Rattle.rules.specs.Sizes.{record_bytes, hash_bytes}
 use Rattle.std.specs.Prelude.{if◌then◌else◌, Some, None, is_some, Result, Ok, Err, is_ok}
 use Rattle.std.specs.Prelude as prelude
 use Rattle.rules.specs.Basics.{Bytes, implies, bit, number, kind, flag, part, optional, both_same, joined}
-use Rattle.rules.specs.Bundle.{Policy, policy_of}
-use Rattle.rules.specs.Acl.{Action, action_of}
-use Rattle.rules.specs.Desk.{Step, action_failure, class_of, policy_admits}
+use Rattle.rules.specs.Bundle.{Policy, field, policy_of}
+use Rattle.rules.specs.Acl.{blob_rule_of, archive_rule_of, action_of}
+use Rattle.rules.specs.Desk.{Step, module_key, recovery_key, permissions_failure, blob_failure, archive_failure, failure_under, action_failure, class_of, policy_admits}
 use Rattle.rules.specs.Trim.{kept_below, kept_bits, is_checked, action_passes, stays, trimmed_record, kept_before, trimmed_from}
 use Rattle.rules.proofs.Laws.{not_both}
 use Rattle.rules.proofs.Bits.{kept_below_lem}
 use Rattle.rules.proofs.Trim.{masked}
-use Rattle.bundle_facts.specs.Found.{bytes_as}
 use Rattle.desk_steps.specs.declared.Step as code
 use Rattle.desk_steps.specs.Steps.{failure_as}
-use Rattle.desk_actions.specs.declared.Terms.{Terms}
 use Rattle.desk_actions.specs.Classes.{admitted_bit}
-use Rattle.desk_actions.specs.Judging.{TermsOf, failure_by}
+use Rattle.desk_actions.proofs.Laws.{by_kind}
 use Rattle.trim_records.specs.declared.Kept.{Kept}
 use Rattle.trim_records.specs.declared.Kept.TheVariants.{Whole, Fewer}
 use Rattle.trim_records.specs.Fates.{kept_bit, on_action, on_record, size_of, left_of, kept_after, checked_after}
@@ -96,14 +94,25 @@ kept_among (suc k) p bits = pick (bit k bits) refl (p k) refl (kept_among k p bi
 pub kept_most : (policy : Policy) (bits n : ℕ) → n ≡ kept_bits policy bits → n ≤ bits
 kept_most policy bits n e = let h = kept_among 16 (λ p. policy_admits policy (class_of p)) bits in omega arith
 
--- The step that an action fails by the terms of the bundle, and whether it names the officer's key.
-module _ (b : List Bytes) (t : Terms) (of : TermsOf b t) where
-  pub failure_found : (a : Action) (f : Option Step) → f ≡ failure_by t a → f ≡ action_failure b a
-  failure_found a f e = rw (← of.policy, ← of.hkm, ← of.hkre) e
+-- The step that an action fails, by its kind and what that asks of the bundle.
+module _ (b : List Bytes) (r : Bytes) (x : Option Step) where
+  pub permission_found : (p : Policy) → kind r ≡ 3 → p ≡ policy_of b → x ≡ permissions_failure p (number 4 2 r) → x ≡ action_failure b (action_of r none)
+  unfolding failure_under
+  permission_found p k e h = by_kind (action_failure b) r none x (rw (eq-eqb (kind r) 3 k, ← e) h)
 
-  pub checked_found : (r : Bytes) (n : Bool) → n ≡ both_same (bytes_as t.officer) (optional (flag 0 r) (part 4 hash_bytes r)) → not n ≡ is_checked b r
-  unfolding is_checked
-  checked_found r n e = rw (← of.officer) (ap not e)
+  pub blob_found : (hkm : Option Bytes) → kind r ≡ 4 → hkm ≡ module_key b → x ≡ blob_failure hkm (blob_rule_of r) → x ≡ action_failure b (action_of r none)
+  unfolding failure_under
+  blob_found hkm k e h = by_kind (action_failure b) r none x (rw (ne_eqb (kind r) 3 (λ z. omega arith), eq-eqb (kind r) 4 k, ← e) h)
+
+  pub archive_found : (p : Policy) (hkre : Option Bytes) → (kind r ≡ 3 → ⊥) → (kind r ≡ 4 → ⊥) → p ≡ policy_of b → hkre ≡ recovery_key b → x ≡ archive_failure p hkre (archive_rule_of r)
+      → x ≡ action_failure b (action_of r none)
+  unfolding failure_under
+  archive_found p hkre n m e d h = by_kind (action_failure b) r none x (rw (ne_eqb (kind r) 3 n, ne_eqb (kind r) 4 m, ← e, ← d) h)
+
+-- Whether the desk checks a group, by its record and the officer's key.
+pub checked_found : (b : List Bytes) (r : Bytes) (officer : Option Bytes) (n : Bool) → officer ≡ field 4 b → n ≡ both_same officer (optional (flag 0 r) (part 4 hash_bytes r)) → not n ≡ is_checked b r
+unfolding is_checked
+checked_found b r officer n o e = rw (← o) (ap not e)
 
 -- What a run of steps found.
 pub passed : {A : Type 0} (b : List Bytes) (r : Bytes) (x : Result A code.Step) → failure_as x ≡ action_failure b (action_of r none) → is_ok x ≡ action_passes b r

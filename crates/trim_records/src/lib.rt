@@ -14,7 +14,6 @@ ghost use Rattle.desk_steps.specs.Steps.{failure_as};
 ghost use Rattle.trim_records.specs.Fates.{kept_bit, size_of, on_action, on_record, kept_after, checked_after};
 
 use bundle_facts::{Facts, Policy};
-use desk_actions::Terms;
 use desk_steps::Step;
 use record_sizes::Record;
 
@@ -67,14 +66,22 @@ pub fn lost_bits(policy: Policy, bits: u16) -> u16
 pub fn is_checked(facts: Facts, rec: &Record) -> bool
     ensures { result ≡ is_checked (records facts.entry.bundle.now) rec.now }
 {
-    !Terms::of(facts).names_officer(rec)
+    !desk_actions::names_certifier(facts.content(4), rec)
 }
 
-// The first step that an action fails, by the bundle's policy and the keys that it vouches for.
+// The first step that an action fails, by the bundle's policy and the keys that it vouches for. Only what the action's kind asks of the bundle is looked
+// for.
 pub fn action_failure(facts: Facts, rec: &Record) -> Result<(), Step>
     ensures { failure_as result ≡ action_failure (records facts.entry.bundle.now) (action_of rec.now none) }
 {
-    Terms::of(facts).action_steps(rec)
+    let kind = rec[0];
+    if kind == record_kinds::OP_PERMISSIONS {
+        return desk_actions::permission_step(facts.policy(), rec);
+    }
+    if kind == record_kinds::MAKE_BLOB {
+        return desk_actions::blob_steps(desk_evidence::module_key(facts), rec);
+    }
+    desk_actions::archive_steps(facts.policy(), desk_evidence::recovery_key(facts), rec)
 }
 
 // Whether an action fails none of the steps.

@@ -27,7 +27,7 @@ fn write_file(rt: &HostRuntime, kind: Kind, i: usize, j: usize, text: &[u8]) {
 
 // No text fills the buffer. So one that does, of which only the beginning is read, has its first bad line there.
 fn main(rt: HostRuntime) {
-    let Some((kind, i)) = cli_kinds::read_arguments(&rt, 3, 4, "unlist [KIND] TEXT FILE") else {
+    let Some((kind, i)) = cli_kinds::read_arguments(&rt, 3, 4, b"unlist [KIND] TEXT FILE") else {
         return;
     };
     let mut text = [0u8; cli_kinds::LONGEST + 1];

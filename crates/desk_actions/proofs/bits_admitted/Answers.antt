@@ -1,5 +1,8 @@
-use Rattle.desk_actions.proofs.Laws.{below_none, below_next, below_whole}
+use Rattle.desk_actions.proofs.Laws.{no_permissions, below_none, below_next, below_whole}
 use Rattle.desk_actions.proofs.bits_admitted.Goals as goal
+
+pub returns-then-bits-eq0 : goal.returns-then-bits-eq0
+returns-then-bits-eq0 c = no_permissions _ _ c.if-bits-eq0.true
 
 pub loop-b-init : goal.loop-b-init
 loop-b-init c = below_none _

@@ -1,16 +1,22 @@
 use mathlib.Core.Path.{◌∙◌, ap}
+use lib.ListN.{take}
+use lib.Dec.{eqb}
 use Rattle.std.proofs.Common.{rules, tests}
+use Rattle.std.specs.List.{prefix_len}
 use Rattle.std.proofs.lemmas.Iterator.{YieldsList-from_slice}
-use Rattle.std.proofs.lemmas.Iterator.Search.{any_from_yields_List}
-use Rattle.rules.specs.Basics.{Bytes, any}
-use Rattle.rules.specs.Acl.{limit_of}
+use Rattle.std.proofs.lemmas.Iterator.Search.{any_from_yields_List, YieldsList-from_take_while}
+use Rattle.rules.specs.Basics.{Bytes, any, kind}
+use Rattle.rules.specs.Acl.{limit_of, limits_of}
 use Rattle.rules.specs.Narrow.{answers, is_answered}
+use Rattle.acl_groups.proofs.Laws.{first_limits_read}
 use Rattle.gate_narrowing.proofs.Laws.{any_read}
 use Rattle.gate_narrowing.proofs.limit_answered.Goals as goal
 
 pub returns : goal.returns
 unfolding is_answered
 returns c =
-    any_from_yields_List (λ (r : Bytes). answers (limit_of c.args.old.now) (limit_of r)) _ _ _ c.any.ensures.ran (YieldsList-from_slice c.limits.result.now cc) (λ x b q k. search (rules, tests))
-    ∙ any_read (answers (limit_of c.args.old.now)) limit_of c.limits.result.now
-    ∙ ap (any (answers (limit_of c.args.old.now))) c.limits.ensures
+    any_from_yields_List (λ (r : Bytes). answers (limit_of c.args.old.now) (limit_of r)) _ _ _ c.any.ensures.ran
+    (YieldsList-from_take_while _ (λ (r : Bytes). eqb (kind r) 2) (YieldsList-from_slice c.records.result.now cc) (cc) (cc) (λ x b q k. search (rules, tests)))
+    (λ x b q k. search (rules, tests))
+    ∙ any_read (answers (limit_of c.args.old.now)) limit_of (take (prefix_len (λ (r : Bytes). eqb (kind r) 2) c.records.result.now) c.records.result.now)
+    ∙ ap (any (answers (limit_of c.args.old.now))) (first_limits_read c.records.result.now ∙ ap limits_of c.records.ensures)

@@ -6,4 +6,4 @@ pub returns-then-n : goal.returns-then-n
 returns-then-n c = search (rules, spot_none)
 
 pub returns : goal.returns
-returns c = spot_found _ _ _ _ c.from-n.ensures c.if-n.false _ c.of.ensures c.first_at_fault.result c.first_at_fault.ensures
+returns c = spot_found _ _ _ _ c.from-n.ensures c.if-n.false _ c.of.ensures c.first_at_fault.result c.first_at_fault.ensures.spot

@@ -17,5 +17,5 @@ loop-i-preserved c = (search rules, search (rules, given_next))
 
 pub returns : goal.returns
 returns c =
-    let e : c.loop-i.i ≡ c.min-n.result = omega arith in
-    ap (λ (k : ℕ). row_as (take k c.loop-i.room)) (sym e) ∙ c.loop-i.invariant.1 ∙ ap (first_given c.args.bytes.now) e ∙ given_lent _ _ c.min-n.ensures
+    let e : c.loop-i.i ≡ c.lent-n.result = omega arith in
+    ap (λ (k : ℕ). row_as (take k c.loop-i.room)) (sym e) ∙ c.loop-i.invariant.1 ∙ ap (first_given c.args.bytes.now) e ∙ given_lent _ _ c.lent-n.ensures

@@ -2,4 +2,4 @@ use Rattle.trim_records.proofs.Laws.{checked_found}
 use Rattle.trim_records.proofs.is_checked.Goals as goal
 
 pub returns : goal.returns
-returns c = checked_found _ _ c.of.ensures _ _ c.names_officer.ensures
+returns c = checked_found _ _ _ _ c.content.ensures c.names_certifier.ensures
