@@ -142,20 +142,6 @@ impl Plan<'_> {
         First { place: None, still }
     }
 
-    // The groups of a set that are unspent.
-    pub fn unspent_of(
-        &self,
-        counts: &[u32; record_sizes::GROUPS],
-        counters: &[u32; record_sizes::COUNTERS],
-        elapsed: u64,
-        set: u64,
-    ) -> u64
-        requires { set < 2 ^ groups_max }
-        ensures { result ≡ members_in (left_at counts.now counters.now elapsed self.now.rows.now) set_bits set }
-    {
-        unspent_of(counts, counters, elapsed, self.rows, set)
-    }
-
     // Whether the group at an index admits what a request record asks for. No record of kind 15 follows it.
     fn admits_at(&self, rec: &Record, k: usize) -> bool
         requires { k < groups_max }

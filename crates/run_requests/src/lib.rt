@@ -254,7 +254,7 @@ pub fn run_records(
         (ledger_of_tables counts.old counters.old loaded before) buf.old 0 (records requests.now)) }
 {
     let since = before.saturating_sub(loaded);
-    let unspent = plan.unspent_of(counts, counters, since, plan.certified);
+    let unspent = run_decision::unspent_of(counts, counters, since, plan.rows, plan.certified);
     ask_records(
         counts, counters, loaded, before, plan, unspent, requests, buf,
     )
