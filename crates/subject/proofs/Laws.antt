@@ -1,14 +1,17 @@
 -- Bytes written over the front of a buffer piece by piece, and the tests of the code in the definitions' terms.
-use Prim.Native.Nat.{ℕ, ◌≤◌, ◌<◌, ◌+◌, ◌-◌}
+use Prim.Native.Nat.{ℕ, suc, ◌≤◌, ◌<◌, ◌+◌, ◌-◌, ◌%◌}
 use native.Mathlib.Omega.{arith}
+use native.Mathlib.Numerals.{add-one}
+use native.Mathlib.Nat.{add-sub_cancel_left}
 use mathlib.Core.Path.{◌≡◌, refl, sym, ◌∙◌, ap}
-use mathlib.Core.List.{[], ◌++◌, append_assoc, append-nil}
+use mathlib.Core.List.{[], ◌∷◌, ◌++◌, append_assoc, append-nil}
 use mathlib.Core.Option.{none, some}
-use mathlib.Core.Bool.{true, false}
-use lib.ListN.{length, take, drop, length-append, length-drop, drop_of_length-le}
-use lib.Seq.{take_all, drop-drop, drop_at, take_at}
-use lib.Dec.{leb}
+use mathlib.Core.Bool.{Bool, true, false}
+use lib.ListN.{length, take, drop, get_or, set, length-append, length-drop, drop_of_length-le, take-append-drop}
+use lib.Seq.{length-take-le, take_all, take-take, take-append-le, drop-append-add, drop-drop, drop_at, drop-cons, take_at, take-add, set_split}
+use lib.Dec.{eqb, leb}
 use borrow.Author.Tests.{eq-eqb, ne_eqb, le-leb, lt-leb, leb-true}
+use Rattle.rules.specs.Sizes.{hash_bytes}
 use Rattle.rules.specs.Numbers.{bad_length, short_buffer, out_of_range, unknown_suite}
 use Rattle.rules.specs.Basics.{Bytes, first_fault}
 use Rattle.rules.specs.Layout.{between}
@@ -46,9 +49,117 @@ over_next s t d x e n p en h q =
     let f : e ≡ overwritten t (drop n (overwritten s d)) = q ∙ ap (overwritten t) (whole ∙ ap (drop n) p) in
     ap (λ (l : Bytes). take n l ++ (e ++ drop (length x - n) (drop n l))) p ∙ over_then s t d e n (length x - n) en h (omega arith) f
 
--- The certificates: only 5 is left past 3 and 4.
+-- A piece over as many bytes is the piece.
+pub over_whole : (s d : Bytes) → length s ≡ length d → overwritten s d ≡ s
+unfolding overwritten
+over_whole s d e = rw (drop_of_length-le d {i = length s} (omega arith)) (append-nil s)
+
+-- A second piece instead of as many bytes after the first.
+over_piece : (s t d : Bytes) (i n : ℕ) → length s ≡ i → length t ≡ n → take i (overwritten s d) ++ (t ++ drop n (drop i (overwritten s d))) ≡ overwritten (s ++ t) d
+unfolding overwritten
+over_piece s t d i n l m =
+    let a : take i (s ++ drop (length s) d) ≡ s = take_at s (drop (length s) d) i l in
+    let b : drop i (s ++ drop (length s) d) ≡ drop (length s) d = drop_at s (drop (length s) d) i l in
+    rw (a, b, ← m) (sym (append_assoc s t (drop (length (s ++ t)) d) ∙ ap (λ (l : Bytes). s ++ (t ++ l)) (drop_both s t d)))
+
+-- The first i bytes of s over the front of d: what the loop keeps. Shut, so that a search reads s, d and i off it.
+unfoldable pub copied : Bytes → Bytes → ℕ → Bytes
+copied s d i = overwritten (take i s) d
+
+module _ (s d : Bytes) where
+  pub copied_zero : d ≡ copied s d 0
+  unfolding copied overwritten
+  copied_zero = refl
+
+  copied_length : (x : Bytes) (i : ℕ) → i ≤ length s → length s ≤ length d → x ≡ copied s d i → length x ≡ length d
+  unfolding copied
+  copied_length x i h k q = let l : length (take i s) ≡ i = length-take-le i s h in ap length q ∙ over_length (take i s) d (omega arith)
+
+  pub copied_done : (e : Bytes) (i : ℕ) → length s ≤ i → e ≡ copied s d i → e ≡ overwritten s d
+  unfolding copied
+  copied_done e i h q = q ∙ ap (λ (l : Bytes). overwritten l d) (take_all i s h)
+
+  -- n bytes more, in place of the part that is lent as `&mut x[i..i + n]`
+  copied_exact : (x e : Bytes) (i n : ℕ) → i + n ≤ length s → length s ≤ length d → x ≡ copied s d i
+      → e ≡ take (i + n - i) (drop i s)
+      → take i x ++ (e ++ drop (i + n - i) (drop i x)) ≡ copied s d (i + n)
+  unfolding copied
+  copied_exact x e i n h k q f =
+      let l : length (take i s) ≡ i = length-take-le i s (omega arith) in
+      let c : i + n - i ≡ n = add-sub_cancel_left i n in
+      let m : length (take n (drop i s)) ≡ n = length-take-le n (drop i s) (omega (arith, length-drop i s)) in
+      let g : e ≡ take n (drop i s) = f ∙ ap (λ (j : ℕ). take j (drop i s)) c in
+      ap (λ (z : Bytes). take i x ++ (z ++ drop (i + n - i) (drop i x))) g
+      ∙ ap (λ (j : ℕ). take i x ++ (take n (drop i s) ++ drop j (drop i x))) c
+      ∙ ap (λ (z : Bytes). take i z ++ (take n (drop i s) ++ drop n (drop i z))) q
+      ∙ over_piece (take i s) (take n (drop i s)) d i n l m
+      ∙ ap (λ (z : Bytes). overwritten z d) (sym (take-add i n s))
+
+  -- the same by a call that writes `&s[i..i + n]` over that part
+  pub copied_part : (x e : Bytes) (i n : ℕ) → i + n ≤ length s → length s ≤ length d → x ≡ copied s d i
+      → e ≡ overwritten (take (i + n - i) (drop i s)) (take (i + n - i) (drop i x))
+      → take i x ++ (e ++ drop (i + n - i) (drop i x)) ≡ copied s d (i + n)
+  copied_part x e i n h k q f =
+      let len : length x ≡ length d = copied_length x i (omega arith) k q in
+      let m : length (take (i + n - i) (drop i s)) ≡ i + n - i = length-take-le (i + n - i) (drop i s) (omega (arith, length-drop i s)) in
+      let u : length (take (i + n - i) (drop i x)) ≡ i + n - i = length-take-le (i + n - i) (drop i x) (omega (arith, length-drop i x)) in
+      copied_exact x e i n h k q (f ∙ over_whole (take (i + n - i) (drop i s)) (take (i + n - i) (drop i x)) (m ∙ sym u))
+
+  -- the first n, into `&mut d[0..n]`
+  pub copied_first : (e : Bytes) (n : ℕ) → n ≤ length s → length s ≤ length d → e ≡ overwritten (take (n - 0) (drop 0 s)) (take (n - 0) (drop 0 d))
+      → take 0 d ++ (e ++ drop (n - 0) (drop 0 d)) ≡ copied s d n
+  copied_first e n h k f =
+      let z : n - 0 ≡ 0 + n - 0 = omega arith in
+      let y : 0 + n ≡ n = omega arith in
+      ap (λ (j : ℕ). take 0 d ++ (e ++ drop j (drop 0 d))) z
+      ∙ copied_part d e 0 n (omega arith) k copied_zero (f ∙ ap (λ (j : ℕ). overwritten (take j (drop 0 s)) (take j (drop 0 d))) z)
+      ∙ ap (copied s d) y
+
+  -- one byte more
+  pub copied_byte : (x : Bytes) (i : ℕ) → i < length s → length s ≤ length d → length x ≡ length d → x ≡ copied s d i → set x i (get_or s i 0) ≡ copied s d (i + 1)
+  copied_byte x i h k l q =
+      let c : i + 1 - i ≡ 1 = add-sub_cancel_left i 1 in
+      let b : get_or s i 0 ∷ [] ≡ take 1 (drop i s) = sym (ap (take 1) (drop-cons s i 0 h)) in
+      let z : drop (suc i) x ≡ drop 1 (drop i x) = ap (λ (j : ℕ). drop j x) (sym (add-one i)) ∙ sym (drop-drop 1 i x) in
+      set_split x i (get_or s i 0) (omega arith)
+      ∙ ap (λ (y : Bytes). take i x ++ (get_or s i 0 ∷ y)) z
+      ∙ ap (λ (j : ℕ). take i x ++ ((get_or s i 0 ∷ []) ++ drop j (drop i x))) (sym c)
+      ∙ copied_exact x (get_or s i 0 ∷ []) i 1 (omega arith) k q (b ∙ ap (λ (j : ℕ). take j (drop i s)) (sym c))
+
+  -- the last bytes, `&s[k..n]`, where the first i are written, some of the last among them
+  pub copied_last : (x e : Bytes) (i k n : ℕ) → k ≤ i → i ≤ n → n ≡ length s → length s ≤ length d → x ≡ copied s d i
+      → e ≡ overwritten (take (n - k) (drop k s)) (take (n - k) (drop k x))
+      → take k x ++ (e ++ drop (n - k) (drop k x)) ≡ overwritten s d
+  unfolding copied overwritten
+  copied_last x e i k n h j m w q f =
+      let l : length (take i s) ≡ i = length-take-le i s (omega arith) in
+      let front : take k x ≡ take k s = ap (take k) q ∙ take-append-le k (take i s) (drop (length (take i s)) d) (omega arith) ∙ take-take k i s h in
+      let here : k + (n - k) ≡ length (take i s) + (length s - i) = omega arith in
+      let there : length (take i s) + (length s - i) ≡ length s = omega arith in
+      let back : drop (n - k) (drop k x) ≡ drop (length s) d =
+      drop-drop (n - k) k x
+      ∙ ap (λ (z : ℕ). drop z x) here
+      ∙ ap (drop (length (take i s) + (length s - i))) q
+      ∙ drop-append-add (take i s) (drop (length (take i s)) d) (length s - i)
+      ∙ drop-drop (length s - i) (length (take i s)) d
+      ∙ ap (λ (z : ℕ). drop z d) there
+      in
+      let len : length x ≡ length d = copied_length x i (omega arith) w q in
+      let v : length (take (n - k) (drop k s)) ≡ n - k = length-take-le (n - k) (drop k s) (omega (arith, length-drop k s)) in
+      let u : length (take (n - k) (drop k x)) ≡ n - k = length-take-le (n - k) (drop k x) (omega (arith, length-drop k x)) in
+      let piece : take (n - k) (drop k s) ≡ drop k s = take_all (n - k) (drop k s) (omega (arith, length-drop k s)) in
+      rw (front, back, f ∙ over_whole (take (n - k) (drop k s)) (take (n - k) (drop k x)) (v ∙ sym u) ∙ piece) (sym (append_assoc (take k s) (drop k s) (drop (length s) d)) ∙ ap (λ (z : Bytes). z ++ drop (length s) d) (take-append-drop k s))
+
+-- The certificates: only 5 is left past 3 and 4. The hashes of each are whole.
 pub certificate_5 : (n : ℕ) → between 3 5 n ≡ true → (n ≡ 3 → ⊥) → (n ≡ 4 → ⊥) → n ≡ 5
 certificate_5 n h a b = let l = leb-true 3 n (and_left (leb 3 n) (leb n 5) h) in let m = leb-true n 5 (and_right (leb 3 n) (leb n 5) h) in omega arith
+
+pub hashes_whole : (n : ℕ) → hashes_bytes n % hash_bytes ≡ 0
+hashes_whole n = pick (eqb n 4) refl
+  where
+    pick : (b : Bool) → eqb n 4 ≡ b → hashes_bytes n % hash_bytes ≡ 0
+    pick true e = rw e
+    pick false e = rw e
 
 -- A header and hashes of a length: the ways out of the writer, by the tests that the code made.
 module _ (header : Bytes) (size : ℕ) (hashes buffer : Bytes) where

@@ -1,7 +1,8 @@
 // The subjects of world certificates, the bytes that the certificates sign: a header text by certificate and suite, then key hashes.
 #![tactic(auto)]
 
-ghost use Rattle.std.specs.Prelude.{Ok, ◌≡◌, true, ◌≤◌, ◌+◌, length};
+ghost use Rattle.std.specs.Prelude.{Ok, ◌≡◌, true, ◌≤◌, ◌+◌, ◌%◌, length};
+ghost use Rattle.rules.specs.Sizes.{hash_bytes};
 ghost use Rattle.rules.specs.Basics.{ascii};
 ghost use Rattle.rules.specs.Layout.{between};
 ghost use Rattle.rules.specs.Subject.{hashes_bytes, subject_reply, subject_buffer};
@@ -11,12 +12,84 @@ ghost use Rattle.subject.specs.Writing.{subject_reply_as, overwritten, header_of
 use refusals::Refusal;
 use suites::{Header, Suite};
 
+// Sixteen bytes over sixteen, and eight over eight. All are read before the first is written, so that they are one load and one store; a copy of a length that
+// is known only when it runs would call the C library's `memmove`.
+fn copy_sixteen(bytes: &[u8], buffer: &mut [u8])
+    requires { (length bytes.now ≡ 16) × (length buffer.old ≡ 16) }
+    ensures { buffer.new ≡ overwritten bytes.now buffer.old }
+{
+    let read: [u8; 16] = *bytes.first_chunk().unwrap();
+    buffer.copy_from_slice(&read);
+}
+
+fn copy_eight(bytes: &[u8], buffer: &mut [u8])
+    requires { (length bytes.now ≡ 8) × (length buffer.old ≡ 8) }
+    ensures { buffer.new ≡ overwritten bytes.now buffer.old }
+{
+    let read: [u8; 8] = *bytes.first_chunk().unwrap();
+    buffer.copy_from_slice(&read);
+}
+
+// Sixteen bytes or more over the front of the buffer, sixteen at a time; the last sixteen may overlap those before them.
+fn copy_long(bytes: &[u8], buffer: &mut [u8])
+    requires { (16 ≤ length bytes.now) × (length bytes.now ≤ length buffer.old) }
+    ensures { buffer.new ≡ overwritten bytes.now buffer.old }
+{
+    let end = bytes.len();
+    let mut i = 0;
+    // stays: the last piece may overlap the one before it, which no iterator over pieces gives
+    while 16 < end - i {
+        copy_sixteen(&bytes[i..i + 16], &mut buffer[i..i + 16]);
+        i += 16;
+    }
+    let last = end - 16;
+    copy_sixteen(&bytes[last..end], &mut buffer[last..end]);
+}
+
+// Fewer than sixteen: two pieces of eight, which may overlap, or byte by byte.
+fn copy_short(bytes: &[u8], buffer: &mut [u8])
+    requires { (length bytes.now ≤ 16) × (length bytes.now ≤ length buffer.old) }
+    ensures { buffer.new ≡ overwritten bytes.now buffer.old }
+{
+    let end = bytes.len();
+    if 8 <= end {
+        copy_eight(&bytes[0..8], &mut buffer[0..8]);
+        let last = end - 8;
+        copy_eight(&bytes[last..end], &mut buffer[last..end]);
+        return;
+    }
+    for i in 0..end {
+        buffer[i] = bytes[i];
+    }
+}
+
 // Bytes over the front of the buffer. What is past them is unchanged.
 pub fn copy(bytes: &[u8], buffer: &mut [u8])
     requires { length bytes.now ≤ length buffer.old }
     ensures { buffer.new ≡ overwritten bytes.now buffer.old }
 {
-    buffer[..bytes.len()].copy_from_slice(bytes);
+    if 16 <= bytes.len() {
+        copy_long(bytes, buffer);
+    } else {
+        copy_short(bytes, buffer);
+    }
+}
+
+// Hashes over the front of the buffer, one after the other. Each goes straight into its place: the next twenty bytes of the buffer are lent to `copy`, so
+// that their number is known where the code is compiled.
+fn write_hashes(hashes: &[u8], buffer: &mut [u8])
+    requires { (length hashes.now % hash_bytes ≡ 0) × (length hashes.now ≤ length buffer.old) }
+    ensures { buffer.new ≡ overwritten hashes.now buffer.old }
+{
+    let mut at = 0;
+    // stays: each turn lends the part of the buffer that is its hash's
+    while at < hashes.len() {
+        copy(
+            &hashes[at..at + record_sizes::HASH],
+            &mut buffer[at..at + record_sizes::HASH],
+        );
+        at += record_sizes::HASH;
+    }
 }
 
 // The header text of certificate 3.
@@ -101,7 +174,7 @@ fn write_under(
     }
     copy(header_text(certificate, suite), buffer);
     let end = total - size;
-    copy(hashes, &mut buffer[end..]);
+    write_hashes(hashes, &mut buffer[end..]);
     Ok(total)
 }
 

@@ -21,7 +21,9 @@ fn end_line(filed: bool, at: usize, line: &mut [u8]) -> usize
     text_bytes::append(b"\n", told, line)
 }
 
-// The line of a group or a MakeArchiveBlob record: a hash by flag 0, a mechanism, where it is named, and whether a blob file record follows.
+// The line of a group or a MakeArchiveBlob record: a hash by flag 0, a mechanism, where it is named, and whether a blob file record follows. It is compiled
+// into its callers, where both words are known: a copy of words that are known only when it runs would call the C library's `memmove`.
+#[inline(always)]
 fn keyed_line(
     first: &[u8],
     word: &[u8],
