@@ -10,4 +10,4 @@ pub loop-i-preserved : goal.loop-i-preserved
 loop-i-preserved c = same_next _ _ _ _ c.loop-i.invariant (omega arith) (omega arith)
 
 pub returns : goal.returns
-returns c = same_done _ _ _ _ c.loop-i.invariant (omega arith) (omega arith)
+returns c = same_done _ _ c.loop-i.i _ c.loop-i.invariant (omega arith) (let t = c.loop-i-test.false in omega arith)
