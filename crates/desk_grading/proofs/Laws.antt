@@ -1,23 +1,30 @@
--- The turns of the loops over groups and actions, and what the parts say of the whole.
-use Prim.Native.Nat.{ℕ, ◌≤◌, min}
+-- The turns of the loop over the records of an ACL, and what the parts say of the whole.
+use Prim.Native.Nat.{ℕ, ◌+◌, ◌≤◌, ◌<◌, min}
 use native.Mathlib.Omega.{arith}
 use mathlib.Core.Path.{◌≡◌, refl, sym, ◌∙◌, ap}
 use mathlib.Core.List.{List, [], ◌∷◌, map}
 use mathlib.Core.Option.{Option, none, some}
-use mathlib.Core.Bool.{Bool, true, false, ◌||◌}
+use mathlib.Core.Bool.{Bool, true, false, not, ◌||◌, false≢true}
 use borrow.Author.Tests.{eq-eqb, ne_eqb}
+use lib.ListN.{length, drop, get_or}
+use lib.Dec.{eqb}
 use Rattle.rules.specs.Numbers.{not_kept}
+use Rattle.rules.specs.Sizes.{hash_bytes}
 use Rattle.std.specs.Prelude.{if◌then◌else◌}
 use Rattle.std.specs.Prelude.{Result, Ok, Err}
 use Rattle.std.specs.Result.{result_and}
 use Rattle.desk_steps.specs.declared.Step as code
 use Rattle.desk_steps.specs.Steps.{failure_as}
-use Rattle.rules.specs.Basics.{Bytes, any, kind, number, or_next, first_fault}
-use Rattle.rules.specs.Acl.{blob_rule_of, archive_rule_of, BlobfileRule, Action, make_blob, action_of, Group}
+use Rattle.rules.specs.Basics.{Bytes, any, kind, flag, part, number, optional, both_same, or_next, first_fault, records}
+use Rattle.rules.specs.Acl.{blob_rule_of, archive_rule_of, BlobfileRule, blobfile_rule_next, Action, make_blob, action_of, actions_of, Group, group_of, groups_of, acl_of}
 use Rattle.rules.specs.Bundle.{field, Policy, policy_of}
 use Rattle.rules.specs.Desk.{Step, permissions_failure, blob_failure, archive_failure, module_key, recovery_key, failure_under, officers_group, acl_failure, action_protection, smallest, is_archive, key_protection, recoverable_key}
+use Rattle.record_fields.proofs.Walks.{left_at, left_none}
+use Rattle.acl_groups.specs.Parts.{passed_over}
+use Rattle.bundle_facts.specs.Found.{bytes_as}
+use Rattle.desk_actions.specs.declared.Terms.{Terms}
 use Rattle.desk_actions.proofs.Laws.{by_kind}
-use Rattle.desk_grading.specs.Grades.{Graded, graded_together, no_actions, all_graded, action_graded, actions_graded, group_graded, groups_graded, acl_graded}
+use Rattle.desk_grading.specs.Grades.{Graded, graded_together, no_actions, all_graded, action_graded, actions_graded, group_graded, groups_graded, acl_graded, action_by, actions_by, group_by, groups_by}
 
 -- An action by its kind: what it fails, what it protects by, whether it is for recovery.
 module _ (policy : Policy) (hkm hkre : Option Bytes) (r : Bytes) (file : Option BlobfileRule) (failure : Option Step) where
@@ -87,27 +94,144 @@ unfolding all_graded graded_together
 all_graded_most f [] = omega arith
 all_graded_most f (a ∷ list) = let h = all_graded_most f list in omega arith
 
--- The turns of a loop over parts: what was found, and what is left.
-module _ {A : Type 0} (f : A → Graded) where
-  pub parts_start : (found : Graded) (list : List A) → found ≡ no_actions false → graded_together found (all_graded f list) ≡ all_graded f list
-  unfolding graded_together
-  parts_start found list e =
-      let h = all_graded_most f list in
-      let m : min not_kept (all_graded f list).protection ≡ (all_graded f list).protection = omega arith in
-      rw (e, m)
+-- One record before others: the actions up to the next group, and the groups.
+module _ (r : Bytes) (rs : List Bytes) where
+  groups_here : kind r ≡ 1 → groups_of (r ∷ rs) ≡ group_of r rs ∷ groups_of rs
+  unfolding groups_of
+  groups_here e = rw (eq-eqb (kind r) 1 e)
 
-  module _ (found x : Graded) (left : List A) (inv : graded_together found (all_graded f left) ≡ x) where
-    pub parts_next : (a : A) (rest : List A) (one next : Graded) → left ≡ a ∷ rest → one ≡ f a → next ≡ graded_together found one → graded_together next (all_graded f rest) ≡ x
-    unfolding all_graded
-    parts_next a rest one next e d n =
-        ap (λ (z : Graded). graded_together z (all_graded f rest)) (n ∙ ap (graded_together found) d)
-        ∙ sym (together_assoc found (f a) (all_graded f rest))
-        ∙ sym (ap (λ (l : List A). graded_together found (all_graded f l)) e)
+  groups_past : (kind r ≡ 1 → ⊥) → groups_of (r ∷ rs) ≡ groups_of rs
+  unfolding groups_of
+  groups_past n = rw (ne_eqb (kind r) 1 n)
+
+  actions_none : kind r ≡ 1 → actions_of (r ∷ rs) ≡ []
+  unfolding actions_of
+  actions_none e = rw (eq-eqb (kind r) 1 e)
+
+  actions_past : (kind r ≡ 1 → ⊥) → passed_over (kind r) ≡ true → actions_of (r ∷ rs) ≡ actions_of rs
+  unfolding actions_of
+  actions_past n o = rw (ne_eqb (kind r) 1 n) (pick (eqb (kind r) 2) (eqb (kind r) 15) o)
+    where
+      pick : (a b : Bool) → (a || b) ≡ true → (if a then actions_of rs else if b then actions_of rs else action_of r (blobfile_rule_next rs) ∷ actions_of rs) ≡ actions_of rs
+      pick true b o = refl
+      pick false true o = refl
+      pick false false o = absurd (false≢true o)
+
+  actions_here : (kind r ≡ 1 → ⊥) → passed_over (kind r) ≡ false → actions_of (r ∷ rs) ≡ action_of r (blobfile_rule_next rs) ∷ actions_of rs
+  unfolding actions_of
+  actions_here n o = rw (ne_eqb (kind r) 1 n) (pick (eqb (kind r) 2) (eqb (kind r) 15) o)
+    where
+      pick : (a b : Bool) → (a || b) ≡ false
+          → (if a then actions_of rs else if b then actions_of rs else action_of r (blobfile_rule_next rs) ∷ actions_of rs) ≡ action_of r (blobfile_rule_next rs) ∷ actions_of rs
+      pick true b o = absurd (false≢true (sym o))
+      pick false true o = absurd (false≢true (sym o))
+      pick false false o = refl
+
+regroup : (t : Bool) (found acts rest : Graded) → graded_together (graded_together found (no_actions t)) (graded_together (if not t then acts else no_actions false) rest) ≡ graded_together found (graded_together (no_actions false) (graded_together (if t then no_actions true else acts) rest))
+unfolding graded_together
+regroup true found acts rest = sym (together_assoc found (no_actions true) (graded_together (no_actions false) rest))
+regroup false found acts rest = sym (together_assoc found (no_actions false) (graded_together acts rest))
+
+-- What is left of an ACL's records: the actions up to the next group, where they are checked, and then the groups.
+module _ (t : Terms) where
+  abbrev actions_left : Bool → List Action → Graded
+  actions_left checked list = if checked then actions_by t list else no_actions false
+
+  unfoldable pub left : Bool → List Bytes → Graded
+  left checked rs = graded_together (actions_left checked (actions_of rs)) (groups_by t (groups_of rs))
+
+  left_first : (rs : List Bytes) → graded_together (no_actions false) (left false rs) ≡ groups_by t (groups_of rs)
+  unfolding left groups_graded graded_together
+  left_first rs =
+      let all : Graded = all_graded (group_by t) (groups_of rs) in
+      let h = all_graded_most (group_by t) (groups_of rs) in
+      let m : min not_kept (min not_kept all.protection) ≡ all.protection = omega arith in
+      rw m
+
+  none_left : (checked : Bool) → actions_left checked [] ≡ no_actions false
+  unfolding actions_graded all_graded
+  none_left true = refl
+  none_left false = refl
+
+  left_end : (checked : Bool) → left checked [] ≡ no_actions false
+  unfolding left actions_of groups_of groups_graded graded_together all_graded
+  left_end checked = rw (none_left checked)
+
+  module _ (r : Bytes) (rs : List Bytes) where
+    -- what a group's first record leaves: its actions are checked unless the group is the officer's
+    group_left : (checked officers : Bool) → kind r ≡ 1 → officers ≡ both_same (bytes_as t.officer) (optional (flag 0 r) (part 4 hash_bytes r))
+        → left checked (r ∷ rs) ≡ graded_together (no_actions false) (graded_together (if officers then no_actions true else actions_by t (actions_of rs)) (groups_by t (groups_of rs)))
+    unfolding left groups_graded all_graded group_graded
+    group_left checked officers e is = rw (actions_none r rs e, none_left checked, groups_here r rs e, is)
+
+    -- a record that begins no group, where nothing is checked
+    unchecked_left : (checked : Bool) → (kind r ≡ 1 → ⊥) → checked ≡ false → left checked (r ∷ rs) ≡ left checked rs
+    unfolding left
+    unchecked_left checked n c = rw (c, groups_past r rs n)
+
+    -- what is neither a group nor an action
+    passed_left : (checked : Bool) → (kind r ≡ 1 → ⊥) → passed_over (kind r) ≡ true → left checked (r ∷ rs) ≡ left checked rs
+    unfolding left
+    passed_left checked n o = rw (actions_past r rs n o, groups_past r rs n)
+
+    action_left : (checked : Bool) → (kind r ≡ 1 → ⊥) → checked ≡ true → passed_over (kind r) ≡ false
+        → left checked (r ∷ rs) ≡ graded_together (action_by t (action_of r (blobfile_rule_next rs))) (left checked rs)
+    unfolding left actions_graded all_graded
+    action_left checked n c o =
+        rw (c, actions_here r rs n o, groups_past r rs n)
+        (sym (together_assoc (action_by t (action_of r (blobfile_rule_next rs))) (actions_by t (actions_of rs)) (groups_by t (groups_of rs))))
+
+  pub left_start : (acl : Bytes) (xs : List Bytes) (found : Graded) → xs ≡ records acl → found ≡ no_actions false → graded_together found (left false (drop 0 xs)) ≡ groups_by t (acl_of acl)
+  left_start acl xs found w e = rw (w, e) (left_first (records acl))
+
+  -- The turns of the loop: what was found, and what is left.
+  module _ (xs : List Bytes) (k : ℕ) (checked : Bool) (found x : Graded) (inv : graded_together found (left checked (drop k xs)) ≡ x) where
+    here_left : k < length xs → graded_together found (left checked (get_or xs k [] ∷ drop (k + 1) xs)) ≡ x
+    here_left h = sym (ap (λ (z : List Bytes). graded_together found (left checked z)) (left_at xs k h)) ∙ inv
+
+    group_next : (officers : Bool) → k < length xs → kind (get_or xs k []) ≡ 1 → officers ≡ both_same (bytes_as t.officer) (optional (flag 0 (get_or xs k [])) (part 4 hash_bytes (get_or xs k [])))
+        → graded_together (graded_together found (no_actions officers)) (left (not officers) (drop (k + 1) xs)) ≡ x
+    unfolding left
+    group_next officers h e is =
+        regroup officers found (actions_by t (actions_of (drop (k + 1) xs))) (groups_by t (groups_of (drop (k + 1) xs)))
+        ∙ sym (ap (graded_together found) (group_left (get_or xs k []) (drop (k + 1) xs) checked officers e is))
+        ∙ here_left h
+
+    pub left_group : (officers : Bool) (one next : Graded) → k < length xs → kind (get_or xs k []) ≡ 1
+        → officers ≡ both_same (bytes_as t.officer) (optional (flag 0 (get_or xs k [])) (part 4 hash_bytes (get_or xs k []))) → one ≡ no_actions officers
+        → next ≡ graded_together found one → graded_together next (left (not officers) (drop (k + 1) xs)) ≡ x
+    left_group officers one next h e is o n =
+        ap (λ (z : Graded). graded_together z (left (not officers) (drop (k + 1) xs))) (n ∙ ap (graded_together found) o)
+        ∙ group_next officers h e is
+
+    -- a record that changes nothing
+    left_same : k < length xs → left checked (get_or xs k [] ∷ drop (k + 1) xs) ≡ left checked (drop (k + 1) xs) → graded_together found (left checked (drop (k + 1) xs)) ≡ x
+    left_same h e = sym (ap (graded_together found) e) ∙ here_left h
+
+    pub left_unchecked : k < length xs → (kind (get_or xs k []) ≡ 1 → ⊥) → checked ≡ false → graded_together found (left checked (drop (k + 1) xs)) ≡ x
+    left_unchecked h n c = left_same h (unchecked_left (get_or xs k []) (drop (k + 1) xs) checked n c)
+
+    pub left_passed : k < length xs → (kind (get_or xs k []) ≡ 1 → ⊥) → passed_over (kind (get_or xs k [])) ≡ true → graded_together found (left checked (drop (k + 1) xs)) ≡ x
+    left_passed h n o = left_same h (passed_left (get_or xs k []) (drop (k + 1) xs) checked n o)
+
+    -- an action that is checked
+    pub left_action : (one next : Graded) → k < length xs → (kind (get_or xs k []) ≡ 1 → ⊥) → checked ≡ true → passed_over (kind (get_or xs k [])) ≡ false
+        → ((file : Option BlobfileRule) → one ≡ action_by t (action_of (get_or xs k []) file)) → next ≡ graded_together found one
+        → graded_together next (left checked (drop (k + 1) xs)) ≡ x
+    left_action one next h n c o is e =
+        let f = blobfile_rule_next (drop (k + 1) xs) in
+        let a = action_by t (action_of (get_or xs k []) f) in
+        ap (λ (z : Graded). graded_together z (left checked (drop (k + 1) xs))) (e ∙ ap (graded_together found) (is f))
+        ∙ sym (together_assoc found a (left checked (drop (k + 1) xs)))
+        ∙ sym (ap (graded_together found) (action_left (get_or xs k []) (drop (k + 1) xs) checked n c o))
+        ∙ here_left h
+
+    pub left_done : found.protection ≤ not_kept → length xs ≤ k → found ≡ x
+    left_done m h =
+        sym (together_none found m)
+        ∙ sym (ap (graded_together found) (left_end checked))
+        ∙ sym (ap (λ (z : List Bytes). graded_together found (left checked z)) (left_none xs k h))
         ∙ inv
-
-    pub parts_done : found.protection ≤ not_kept → left ≡ [] → found ≡ x
-    unfolding all_graded
-    parts_done m e = sym (together_none found m) ∙ sym (ap (λ (l : List A). graded_together found (all_graded f l)) e) ∙ inv
 
 pub protection_most : (b : List Bytes) (gs : List Group) → key_protection b gs ≤ not_kept
 unfolding key_protection

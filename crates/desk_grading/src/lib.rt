@@ -1,12 +1,11 @@
-// An ACL at the desk: the first step that it fails, the key's protection, whether the key is recoverable. The groups of an ACL, and the actions of a group, are graded one after the other: each grade says all three.
+// An ACL at the desk: the first step that it fails, the key's protection, whether the key is recoverable. One walk through the ACL finds all three.
 #![tactic(auto)]
 
 ghost use Rattle.std.specs.Prelude.{◌≡◌};
 ghost use Rattle.std.proofs.Math.Option.{Option};
 ghost use Rattle.rules.specs.Basics.{records};
-ghost use Rattle.rules.specs.Acl.{BlobfileRule, action_of, actions_of, acl_of};
-ghost use Rattle.acl_groups.specs.Parts.{group_read};
-ghost use Rattle.desk_grading.specs.Grades.{graded_as, graded_together, no_actions, action_by, actions_by, group_by, groups_by, acl_graded};
+ghost use Rattle.rules.specs.Acl.{BlobfileRule, action_of, acl_of};
+ghost use Rattle.desk_grading.specs.Grades.{graded_as, graded_together, no_actions, action_by, groups_by, acl_graded};
 
 use bundle_facts::Facts;
 use desk_actions::Terms;
@@ -70,35 +69,24 @@ fn no_actions(recoverable: bool) -> Grade
     }
 }
 
-// The grade of a group's actions, of the records that follow its first one.
-fn actions_grade(terms: Terms, body: &[u8]) -> Grade
-    ensures { graded_as result ≡ actions_by terms.entry (actions_of (records body.now)) }
-{
-    let mut found = no_actions(false);
-    for (rec, _) in acl_groups::Actions(body) {
-        found = joined(found, action_grade(terms, rec));
-    }
-    found
-}
-
-// The grade of a group, of its first record and those that follow. The actions of a group that the officer's key certifies are not checked: the group
-// marks the key recoverable. The certifier's mechanism does not matter.
-fn group_grade(terms: Terms, rec: &Record, body: &[u8]) -> Grade
-    ensures { graded_as result ≡ group_by terms.entry (group_read rec.now body.now) }
-{
-    if terms.names_officer(rec) {
-        return no_actions(true);
-    }
-    actions_grade(terms, body)
-}
-
-// The grade of an ACL's groups.
+// The grade of an ACL's groups, by one walk over its records. `checked` is whether the actions at this point are checked: not before the first group, and
+// not in a group that the officer's key certifies, which marks the key recoverable. The certifier's mechanism does not matter.
 fn groups_grade(terms: Terms, acl: &[u8]) -> Grade
     ensures { graded_as result ≡ groups_by terms.entry (acl_of acl.now) }
 {
     let mut found = no_actions(false);
-    for (rec, body) in acl_groups::Groups(acl) {
-        found = joined(found, group_grade(terms, rec, body));
+    let mut checked = false;
+    for rec in record_fields::records(acl) {
+        if rec[0] == record_kinds::GROUP {
+            let officers = terms.names_officer(rec);
+            found = joined(found, no_actions(officers));
+            checked = !officers;
+            continue;
+        }
+        if !checked || acl_groups::is_passed_over(rec[0]) {
+            continue;
+        }
+        found = joined(found, action_grade(terms, rec));
     }
     found
 }

@@ -53,7 +53,7 @@ impl Replay {
     }
 
     // A call that is no run, its arguments in their room. Those that write do so in the second, a trimming in the third and fourth.
-    fn answer_alone(&mut self, k: u64, call: Call, room: &mut Room) -> Result<(), Stop> {
+    fn answer_alone(&mut self, k: u64, call: Call, room: Room) -> Result<(), Stop> {
         let letter = call.letter;
         let given = prefix(room.a, call.a);
         let m = within(room.b, call.b);
@@ -92,7 +92,7 @@ impl Replay {
     }
 
     // A call, its arguments in their room. A run writes in the fifth.
-    fn answer(&mut self, k: u64, call: Call, room: &mut Room) -> Result<(), Stop> {
+    fn answer(&mut self, k: u64, call: Call, room: Room) -> Result<(), Stop> {
         let slot_run = replay_script::is_slot_run(call.letter);
         if !replay_script::is_run(call.letter) && !slot_run {
             return self.answer_alone(k, call, room);
@@ -134,8 +134,8 @@ impl Replay {
     }
 
     // Reads the next call, call k, and answers it. Whether there was one.
-    fn turn(&mut self, rt: &HostRuntime, k: u64, room: &mut Room) -> Result<bool, Stop> {
-        let Some(call) = replay_script::read_call(rt, room)? else {
+    fn turn(&mut self, rt: &HostRuntime, k: u64, mut room: Room) -> Result<bool, Stop> {
+        let Some(call) = replay_script::read_call(rt, &mut room)? else {
             return Ok(false);
         };
         self.answer(k, call, room)?;
@@ -151,17 +151,17 @@ fn main(rt: HostRuntime) {
     let mut d = [0u8; MOST];
     let mut e = [0u8; MOST];
     let mut form = [0u8; FORM];
-    let mut room = Room {
-        a: &mut a,
-        b: &mut b,
-        c: &mut c,
-        d: &mut d,
-        e: &mut e,
-        form: &mut form,
-    };
     let mut replay = Replay::new(&rt);
     for k in 1..u64::MAX {
-        match replay.turn(&rt, k, &mut room) {
+        let room = Room {
+            a: &mut a,
+            b: &mut b,
+            c: &mut c,
+            d: &mut d,
+            e: &mut e,
+            form: &mut form,
+        };
+        match replay.turn(&rt, k, room) {
             Ok(true) => {}
             Ok(false) => return,
             Err(Stop) => {
