@@ -7,7 +7,7 @@ use cli_printing::Output;
 use gate::Ledger;
 use replay_gate::Files;
 use replay_rows::Batch;
-use replay_script::{Call, FORM, MOST, Room, Stop, prefix, within};
+use replay_script::{Call, Room, Stop, prefix, within};
 
 // Where the lines go, and what is carried from call to call.
 #[derive(Drop)]
@@ -53,12 +53,12 @@ impl Replay {
     }
 
     // A call that is no run, its arguments in their room. Those that write do so in the second, a trimming in the third and fourth.
-    fn answer_alone(&mut self, k: u64, call: Call, room: Room) -> Result<(), Stop> {
+    fn answer_alone(&mut self, k: u64, call: Call, room: &mut Room) -> Result<(), Stop> {
         let letter = call.letter;
-        let given = prefix(room.a, call.a);
-        let m = within(room.b, call.b);
-        let n = within(room.c, call.c);
-        let o = within(room.d, call.d);
+        let given = prefix(&room.a, call.a);
+        let m = within(&room.b, call.b);
+        let n = within(&room.c, call.c);
+        let o = within(&room.d, call.d);
         let b = &mut room.b[..];
         let c = &mut room.c[..];
         let d = &mut room.d[..];
@@ -86,25 +86,24 @@ impl Replay {
                 acl: &b[..m],
                 req: &c[..n],
                 new: &d[..o],
-                hints: prefix(room.e, call.e),
+                hints: prefix(&room.e, call.e),
             },
         )
     }
 
     // A call, its arguments in their room. A run writes in the fifth.
-    fn answer(&mut self, k: u64, call: Call, room: Room) -> Result<(), Stop> {
+    fn answer(&mut self, k: u64, call: Call, room: &mut Room) -> Result<(), Stop> {
         let slot_run = replay_script::is_slot_run(call.letter);
         if !replay_script::is_run(call.letter) && !slot_run {
             return self.answer_alone(k, call, room);
         }
-        let form: &[u8; FORM] = room.form.first_chunk().ok_or(Stop)?;
         let batch = Batch {
-            km0: prefix(room.a, call.a),
-            acl: prefix(room.b, call.b),
-            row: prefix(room.c, call.c),
-            requests: prefix(room.d, call.d),
+            km0: prefix(&room.a, call.a),
+            acl: prefix(&room.b, call.b),
+            row: prefix(&room.c, call.c),
+            requests: prefix(&room.d, call.d),
         };
-        let m = within(room.e, call.e);
+        let m = within(&room.e, call.e);
         let e = &mut room.e[..];
         let answers = &mut e[..m];
         let out = &mut self.out;
@@ -115,7 +114,7 @@ impl Replay {
                 self.cabinet,
                 call.letter,
                 call.first,
-                form,
+                &room.form,
                 batch,
                 answers,
             );
@@ -125,7 +124,7 @@ impl Replay {
                 k,
                 self.ledger,
                 call.letter,
-                form,
+                &room.form,
                 batch,
                 answers,
             );
@@ -134,8 +133,17 @@ impl Replay {
     }
 
     // Reads the next call, call k, and answers it. Whether there was one.
-    fn turn(&mut self, rt: &HostRuntime, k: u64, mut room: Room) -> Result<bool, Stop> {
-        let Some(call) = replay_script::read_call(rt, &mut room)? else {
+    fn turn(&mut self, rt: &HostRuntime, k: u64, room: &mut Room) -> Result<bool, Stop> {
+        let read = replay_script::read_call(
+            rt,
+            &mut room.a,
+            &mut room.b,
+            &mut room.c,
+            &mut room.d,
+            &mut room.e,
+            &mut room.form,
+        );
+        let Some(call) = read? else {
             return Ok(false);
         };
         self.answer(k, call, room)?;
@@ -145,23 +153,10 @@ impl Replay {
 
 // A proved loop has to end, and nothing says that a script does: the calls are counted up to a number that no run reaches.
 fn main(rt: HostRuntime) {
-    let mut a = [0u8; MOST];
-    let mut b = [0u8; MOST];
-    let mut c = [0u8; MOST];
-    let mut d = [0u8; MOST];
-    let mut e = [0u8; MOST];
-    let mut form = [0u8; FORM];
+    let mut room = Room::new();
     let mut replay = Replay::new(&rt);
     for k in 1..u64::MAX {
-        let room = Room {
-            a: &mut a,
-            b: &mut b,
-            c: &mut c,
-            d: &mut d,
-            e: &mut e,
-            form: &mut form,
-        };
-        match replay.turn(&rt, k, room) {
+        match replay.turn(&rt, k, &mut room) {
             Ok(true) => {}
             Ok(false) => return,
             Err(Stop) => {

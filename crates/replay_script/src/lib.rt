@@ -23,15 +23,28 @@ pub struct Call {
     pub e: u64,
 }
 
-// Room for the runs of bytes of a call, and for its form: buffers of any length.
+// Room for the runs of bytes of a call, and for its form.
 #[derive(Drop)]
-pub struct Room<'a> {
-    pub a: &'a mut [u8],
-    pub b: &'a mut [u8],
-    pub c: &'a mut [u8],
-    pub d: &'a mut [u8],
-    pub e: &'a mut [u8],
-    pub form: &'a mut [u8],
+pub struct Room {
+    pub a: [u8; MOST],
+    pub b: [u8; MOST],
+    pub c: [u8; MOST],
+    pub d: [u8; MOST],
+    pub e: [u8; MOST],
+    pub form: [u8; FORM],
+}
+
+impl Room {
+    pub fn new() -> Room {
+        Room {
+            a: [0; MOST],
+            b: [0; MOST],
+            c: [0; MOST],
+            d: [0; MOST],
+            e: [0; MOST],
+            form: [0; FORM],
+        }
+    }
 }
 
 // The script cannot be read any further: it ends within a call, a length is greater than its buffer, a row is no whole number of certificates, a form does
@@ -138,37 +151,52 @@ fn read_form(rt: &HostRuntime, due: bool, form: &mut [u8]) -> Result<(), Stop> {
 }
 
 // The arguments of a letter's call. A row that no run can have ends the script at once: what follows it is not read.
-fn read_arguments(rt: &HostRuntime, letter: u8, room: &mut Room) -> Result<Call, Stop> {
+fn read_arguments(
+    rt: &HostRuntime,
+    letter: u8,
+    a: &mut [u8],
+    b: &mut [u8],
+    c: &mut [u8],
+    d: &mut [u8],
+    e: &mut [u8],
+    form: &mut [u8],
+) -> Result<Call, Stop> {
     let numbers = numbers_of(letter);
     let first = read_number(rt, 0 < numbers)?;
     let second = read_number(rt, 1 < numbers)?;
-    read_form(rt, letter == b'Q' || letter == b'q', room.form)?;
+    read_form(rt, letter == b'Q' || letter == b'q', form)?;
     let runs = runs_of(letter);
-    let a = read_bytes(rt, 0 < runs, room.a)?;
-    let b = read_bytes(rt, 1 < runs, room.b)?;
-    let c = read_bytes(rt, 2 < runs, room.c)?;
-    if !can_be_third(letter, c) {
+    let x = read_bytes(rt, 0 < runs, a)?;
+    let y = read_bytes(rt, 1 < runs, b)?;
+    let z = read_bytes(rt, 2 < runs, c)?;
+    if !can_be_third(letter, z) {
         return Err(Stop);
     }
-    let d = read_bytes(rt, 3 < runs, room.d)?;
-    let e = read_bytes(rt, 4 < runs, room.e)?;
     Ok(Call {
         letter,
         first,
         second,
-        a,
-        b,
-        c,
-        d,
-        e,
+        a: x,
+        b: y,
+        c: z,
+        d: read_bytes(rt, 3 < runs, d)?,
+        e: read_bytes(rt, 4 < runs, e)?,
     })
 }
 
-// The next call, its runs of bytes and its form in their room; none where the script ends, as it may between two calls.
-pub fn read_call(rt: &HostRuntime, room: &mut Room) -> Result<Option<Call>, Stop> {
+// The next call, its runs of bytes in the buffers and its form in one of its own; none where the script ends, as it may between two calls.
+pub fn read_call(
+    rt: &HostRuntime,
+    a: &mut [u8],
+    b: &mut [u8],
+    c: &mut [u8],
+    d: &mut [u8],
+    e: &mut [u8],
+    form: &mut [u8],
+) -> Result<Option<Call>, Stop> {
     let mut letter = [0u8; 1];
     if fill(rt, &mut letter).is_err() {
         return Ok(None);
     }
-    Ok(Some(read_arguments(rt, letter[0], room)?))
+    Ok(Some(read_arguments(rt, letter[0], a, b, c, d, e, form)?))
 }
