@@ -33,18 +33,21 @@ fn print_verdict(rt: &HostRuntime, bundle: &[u8], acl: &[u8]) {
     print_place(rt, verdict, bundle, acl);
 }
 
-// No file that fits its greatest length fills its buffer, so that a longer one is cut and still too long.
+// Judges the bundle with the ACL that the second argument names. No file that fits its greatest length fills its buffer, so that a longer one is cut and still too
+// long.
+fn judge_acl(rt: &HostRuntime, bundle: &[u8]) {
+    let mut acl = [0u8; (record_sizes::ACL_RECORDS + 1) * record_sizes::RECORD];
+    if let Some(acl) = cli_arguments::read(rt, 2, b"ACL", &mut acl) {
+        print_verdict(rt, bundle, acl);
+    }
+}
+
 fn main(rt: HostRuntime) {
     if !cli_arguments::are_given(&rt, 3, b"attest BUNDLE ACL") {
         return;
     }
     let mut bundle = [0u8; BUNDLE];
-    let Some(bundle) = cli_arguments::read(&rt, 1, b"BUNDLE", &mut bundle) else {
-        return;
-    };
-    let mut acl = [0u8; (record_sizes::ACL_RECORDS + 1) * record_sizes::RECORD];
-    let Some(acl) = cli_arguments::read(&rt, 2, b"ACL", &mut acl) else {
-        return;
-    };
-    print_verdict(&rt, bundle, acl);
+    if let Some(bundle) = cli_arguments::read(&rt, 1, b"BUNDLE", &mut bundle) {
+        judge_acl(&rt, bundle);
+    }
 }

@@ -4,9 +4,12 @@
 
 ghost use Rattle.std.specs.Prelude.{◌≡◌, ◌<◌, true, false, length, ltb};
 ghost use Rattle.rules.specs.Sizes.{groups_max, slots_max};
+ghost use Rattle.rules.specs.Request.{request_of};
+ghost use Rattle.rules.specs.Gate.{request};
 ghost use Rattle.rules.specs.Cabinet.{fresh_cabinet, as_gate, cabinet_refused, cabinet_load, cabinet_clear, cabinet_request, cabinet_narrow, cabinet_expand};
 ghost use Rattle.gate_decision.specs.Standings.{ledger_of_tables};
-ghost use Rattle.gate_charge.specs.Charges.{answer_as, CountersRoom, counters_charged};
+ghost use Rattle.gate_charge.specs.Charges.{answer_as, CountersRoom, counts_charged, counters_charged};
+ghost use Rattle.gate.specs.Outcomes.{Settles};
 ghost use Rattle.rules.specs.Acl.{acl_of};
 ghost use Rattle.refusals.specs.Refusals.{refusal_number};
 ghost use Rattle.cabinet.specs.Kept.{slot_index, cabinet_as, cabinet_outcome_as};
@@ -62,6 +65,25 @@ fn counts_of(s: Slot) -> [u32; Ledger::GROUPS]
     ensures { (result ≡ s.counts) × (length result ≡ groups_max) }
 {
     s.counts
+}
+
+// The gate's reply to a request, in a function that is not inlined: with a whole judgement inside a call, the compiler would zero and copy the cabinet once more.
+#[inline(never)]
+fn request_reply<'a>(
+    counts: &'a [u32; Ledger::GROUPS],
+    counters: &'a [u32; Ledger::COUNTERS],
+    loaded: u64,
+    last: u64,
+    km0: &[u8],
+    acl: &[u8],
+    req: &[u8],
+) -> Reply
+    ensures { Settles (ledger_of_tables counts.now counters.now loaded last) (acl_of acl.now) (request_of req.now).time
+        counts_charged (answer_as result)
+        (request (ledger_of_tables counts.now counters.now loaded last) km0.now acl.now
+        req.now) }
+{
+    gate::request_reply(counts, counters, loaded, last, km0, acl, req)
 }
 
 // The reply to a call, where there is the slot that it is made to; else 13, before anything else is looked at.
@@ -179,15 +201,7 @@ impl Cabinet {
         let at = slot_index(slot);
         let s = self.slots[at];
         let mut counts = counts_of(s);
-        let request = || gate::request_reply(
-            &counts,
-            &self.counters,
-            s.loaded,
-            s.last,
-            km0,
-            acl,
-            req,
-        );
+        let request = || request_reply(&counts, &self.counters, s.loaded, s.last, km0, acl, req);
         let reply = reply_in(there, request);
         gate_charge::charge_count(&mut counts, reply);
         let after = gate_charge::last_after(reply, s.last, request_reader::time(req));

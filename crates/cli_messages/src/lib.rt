@@ -3,7 +3,7 @@
 // The two functions that find words are proved. The others only print, so that they promise nothing.
 #![tactic(auto)]
 
-ghost use Rattle.std.specs.Prelude.{◌≡◌};
+ghost use Rattle.std.specs.Prelude.{◌≡◌, ◌≤◌, length};
 ghost use Rattle.desk_steps.specs.Steps.{step_as};
 ghost use Rattle.cli_messages.specs.Words.{refusal_words, step_words};
 
@@ -11,9 +11,13 @@ use cli_arguments::{say, say_bytes};
 use desk::Verdict;
 use desk_steps::Step;
 
+// No words are longer.
+pub const ROOM: usize = 160;
+
 // The words of a refusal number. Another number has none.
 pub fn refusal_words(number: u8) -> &'static str
-    ensures { result.now ≡ refusal_words number }
+    ensures words { result.now ≡ refusal_words number }
+    ensures room { length result.now ≤ ROOM }
 {
     match number {
         1 =>
@@ -38,7 +42,8 @@ pub fn refusal_words(number: u8) -> &'static str
 
 // The words of a step.
 pub fn step_words(step: Step) -> &'static str
-    ensures { result.now ≡ step_words (step_as step) }
+    ensures words { result.now ≡ step_words (step_as step) }
+    ensures room { length result.now ≤ ROOM }
 {
     match step {
         Step::WV1 => "the warrant's signature is not good, or its ESN is absent",

@@ -94,8 +94,6 @@ impl Ledger {
 // The reply to a request for a use or a blob, from tables lent for reading. It charges nothing: a permit still has to be charged by the caller, who has the
 // tables and the last time. It is public only because `cabinet` and `gate_in_place` charge tables of their own; a host calls an entry point, which does both.
 // stays: the three replies differ in their files and in the definition that they settle, and one function that takes these as closures would be no shorter.
-// None of the three is inlined: inside a call by value the compiler would zero and copy a whole cabinet once more.
-#[inline(never)]
 pub fn request_reply<'a>(
     counts: &'a [u32; Ledger::GROUPS],
     counters: &'a [u32; Ledger::COUNTERS],
@@ -149,7 +147,8 @@ impl Ledger {
 }
 
 // The reply to a narrowing, from tables lent for reading. It charges nothing, and is public only for `cabinet` and `gate_in_place`, which charge a permit
-// and carry the group counts over themselves.
+// and carry the group counts over themselves. Neither this nor `expand_reply` is inlined: inside a call by value the compiler would zero and copy a whole cabinet
+// once more.
 #[inline(never)]
 pub fn narrow_reply<'a>(
     counts: &'a [u32; Ledger::GROUPS],

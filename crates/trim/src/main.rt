@@ -159,18 +159,21 @@ fn trim_files(rt: &HostRuntime, bundle: &[u8], acl: &[u8]) {
     }
 }
 
-// No file that fits its greatest length fills its buffer, so that a longer one is cut and still too long.
+// Trims by the bundle the ACL that the second argument names. No file that fits its greatest length fills its buffer, so that a longer one is cut and still too
+// long.
+fn trim_acl(rt: &HostRuntime, bundle: &[u8]) {
+    let mut acl = [0u8; (record_sizes::ACL_RECORDS + 1) * record_sizes::RECORD];
+    if let Some(acl) = cli_arguments::read(rt, 2, b"ACL", &mut acl) {
+        trim_files(rt, bundle, acl);
+    }
+}
+
 fn main(rt: HostRuntime) {
     if !cli_arguments::are_given(&rt, 5, b"trim BUNDLE ACL NEW HINTS") {
         return;
     }
     let mut bundle = [0u8; BUNDLE];
-    let Some(bundle) = cli_arguments::read(&rt, 1, b"BUNDLE", &mut bundle) else {
-        return;
-    };
-    let mut acl = [0u8; (record_sizes::ACL_RECORDS + 1) * record_sizes::RECORD];
-    let Some(acl) = cli_arguments::read(&rt, 2, b"ACL", &mut acl) else {
-        return;
-    };
-    trim_files(&rt, bundle, acl);
+    if let Some(bundle) = cli_arguments::read(&rt, 1, b"BUNDLE", &mut bundle) {
+        trim_acl(&rt, bundle);
+    }
 }

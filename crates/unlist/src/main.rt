@@ -25,13 +25,17 @@ fn write_file(rt: &HostRuntime, kind: Kind, i: usize, j: usize, text: &[u8]) {
     }
 }
 
-// No text fills the buffer. So one that does, of which only the beginning is read, has its first bad line there.
-fn main(rt: HostRuntime) {
-    let Some((kind, i)) = cli_kinds::read_arguments(&rt, 3, 4, b"unlist [KIND] TEXT FILE") else {
-        return;
-    };
+// Writes the file of the text that argument i names to the file that argument j names. No text fills the buffer. So one that does, of which only the
+// beginning is read, has its first bad line there.
+fn unlist(rt: &HostRuntime, kind: Kind, i: usize, j: usize) {
     let mut text = [0u8; cli_kinds::LONGEST + 1];
-    if let Some(text) = cli_arguments::read(&rt, i, b"TEXT", &mut text) {
-        write_file(&rt, kind, i, i + 1, text);
+    if let Some(text) = cli_arguments::read(rt, i, b"TEXT", &mut text) {
+        write_file(rt, kind, i, j, text);
+    }
+}
+
+fn main(rt: HostRuntime) {
+    if let Some((kind, i)) = cli_kinds::read_arguments(&rt, 3, 4, b"unlist [KIND] TEXT FILE") {
+        unlist(&rt, kind, i, i + 1);
     }
 }
