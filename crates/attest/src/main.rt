@@ -33,8 +33,8 @@ fn print_verdict(rt: &HostRuntime, bundle: &[u8], acl: &[u8]) {
     print_place(rt, verdict, bundle, acl);
 }
 
-// Judges the bundle with the ACL that the second argument names. No file that fits its greatest length fills its buffer, so that a longer one is cut and still too
-// long.
+// Judges the bundle with the ACL that the second argument names. No file that fits its greatest length fills its buffer, so that a longer one is cut and
+// still too long.
 fn judge_acl(rt: &HostRuntime, bundle: &[u8]) {
     let mut acl = [0u8; (record_sizes::ACL_RECORDS + 1) * record_sizes::RECORD];
     if let Some(acl) = cli_arguments::read(rt, 2, b"ACL", &mut acl) {

@@ -67,7 +67,8 @@ fn counts_of(s: Slot) -> [u32; Ledger::GROUPS]
     s.counts
 }
 
-// The gate's reply to a request, in a function that is not inlined: with a whole judgement inside a call, the compiler would zero and copy the cabinet once more.
+// The gate's reply to a request, in a function that is not inlined: with a whole judgement inside a call, the compiler would zero and copy the cabinet
+// once more.
 #[inline(never)]
 fn request_reply<'a>(
     counts: &'a [u32; Ledger::GROUPS],

@@ -147,8 +147,8 @@ impl Ledger {
 }
 
 // The reply to a narrowing, from tables lent for reading. It charges nothing, and is public only for `cabinet` and `gate_in_place`, which charge a permit
-// and carry the group counts over themselves. Neither this nor `expand_reply` is inlined: inside a call by value the compiler would zero and copy a whole cabinet
-// once more.
+// and carry the group counts over themselves. Neither this nor `expand_reply` is inlined: inside a call by value the compiler would zero and copy a whole
+// cabinet once more.
 #[inline(never)]
 pub fn narrow_reply<'a>(
     counts: &'a [u32; Ledger::GROUPS],

@@ -16,8 +16,8 @@ fn print_text(rt: &HostRuntime, kind: Kind, i: usize, file: &[u8]) {
     }
 }
 
-// Prints the text of the file that argument i names. No file fills the buffer, so that a longer one is cut and still too long. The buffer is the first statement
-// of a function, here and in the other programs that read an ACL or its text: after a return the compiler would clear it twice.
+// Prints the text of the file that argument i names. No file fills the buffer, so that a longer one is cut and still too long. The large buffer is the
+// first statement of a function, here and in `unlist`, `attest` and `trim`: after a return the compiler would clear it twice.
 fn list(rt: &HostRuntime, kind: Kind, i: usize) {
     let mut file = [0u8; (record_sizes::ACL_RECORDS + 1) * record_sizes::RECORD];
     if let Some(file) = cli_arguments::read(rt, i, b"FILE", &mut file) {

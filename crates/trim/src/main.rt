@@ -159,8 +159,8 @@ fn trim_files(rt: &HostRuntime, bundle: &[u8], acl: &[u8]) {
     }
 }
 
-// Trims by the bundle the ACL that the second argument names. No file that fits its greatest length fills its buffer, so that a longer one is cut and still too
-// long.
+// Trims by the bundle the ACL that the second argument names. No file that fits its greatest length fills its buffer, so that a longer one is cut and
+// still too long.
 fn trim_acl(rt: &HostRuntime, bundle: &[u8]) {
     let mut acl = [0u8; (record_sizes::ACL_RECORDS + 1) * record_sizes::RECORD];
     if let Some(acl) = cli_arguments::read(rt, 2, b"ACL", &mut acl) {
