@@ -68,7 +68,7 @@ fn counts_of(s: Slot) -> [u32; Ledger::GROUPS]
 }
 
 // The gate's reply to a request, in a function that is not inlined: with a whole judgement inside a call, the compiler would zero and copy the cabinet
-// once more.
+// once more. The gate's own function may be inlined, for `gate_in_place`, where nothing is copied; its replies to a narrowing and an expansion may not.
 #[inline(never)]
 fn request_reply<'a>(
     counts: &'a [u32; Ledger::GROUPS],
