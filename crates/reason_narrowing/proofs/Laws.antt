@@ -101,7 +101,7 @@ module _ (olds acts : List Action) (hints : List ℕ) (x : Bool) (inv : actions_
     named_short l = let d = empty hints l in rw (e, d) at inv
 
     module _ (h : ℕ) (others : List ℕ) (d : hints ≡ h ∷ others) where
-      named_step : (present (get_elem? olds h) && actions_named more others olds) ≡ x
+      pub named_step : (present (get_elem? olds h) && actions_named more others olds) ≡ x
       unfolding actions_named
       named_step = rw (e, d) at inv
 

@@ -17,7 +17,7 @@ use Rattle.std.specs.Prelude.{if◌then◌else◌, Some, None, is_some, Result, 
 use Rattle.std.specs.Prelude as prelude
 use Rattle.rules.specs.Basics.{Bytes, implies, bit, number, kind, flag, part, optional, both_same, joined}
 use Rattle.rules.specs.Bundle.{Policy, field, policy_of}
-use Rattle.rules.specs.Acl.{blob_rule_of, archive_rule_of, action_of}
+use Rattle.rules.specs.Acl.{blob_rule_of, archive_rule_of, Action, action_of}
 use Rattle.rules.specs.Desk.{Step, module_key, recovery_key, permissions_failure, blob_failure, archive_failure, failure_under, action_failure, class_of, policy_admits}
 use Rattle.rules.specs.Trim.{kept_below, kept_bits, is_checked, action_passes, stays, trimmed_record, kept_before, trimmed_from}
 use Rattle.rules.proofs.Laws.{not_both}
@@ -94,20 +94,31 @@ kept_among (suc k) p bits = pick (bit k bits) refl (p k) refl (kept_among k p bi
 pub kept_most : (policy : Policy) (bits n : ℕ) → n ≡ kept_bits policy bits → n ≤ bits
 kept_most policy bits n e = let h = kept_among 16 (λ p. policy_admits policy (class_of p)) bits in omega arith
 
--- The step that an action fails, by its kind and what that asks of the bundle.
+-- The step that an action fails, by what the code found in the bundle.
+pub failure_found : (b : List Bytes) (policy : Policy) (hkm hkre : Option Bytes) (a : Action) (f : Option Step) → policy ≡ policy_of b → hkm ≡ module_key b → hkre ≡ recovery_key b
+    → f ≡ failure_under policy hkm hkre a → f ≡ action_failure b a
+failure_found b policy hkm hkre a f p m r e = rw (← p, ← m, ← r) e
+
+-- The same by the action's kind, which asks for the policy, for one key, or for both the policy and the other key.
 module _ (b : List Bytes) (r : Bytes) (x : Option Step) where
   pub permission_found : (p : Policy) → kind r ≡ 3 → p ≡ policy_of b → x ≡ permissions_failure p (number 4 2 r) → x ≡ action_failure b (action_of r none)
   unfolding failure_under
-  permission_found p k e h = by_kind (action_failure b) r none x (rw (eq-eqb (kind r) 3 k, ← e) h)
+  permission_found p k e h =
+      failure_found b p (module_key b) (recovery_key b) (action_of r none) x e refl refl
+      (by_kind (failure_under p (module_key b) (recovery_key b)) r none x (rw (eq-eqb (kind r) 3 k) h))
 
   pub blob_found : (hkm : Option Bytes) → kind r ≡ 4 → hkm ≡ module_key b → x ≡ blob_failure hkm (blob_rule_of r) → x ≡ action_failure b (action_of r none)
   unfolding failure_under
-  blob_found hkm k e h = by_kind (action_failure b) r none x (rw (ne_eqb (kind r) 3 (λ z. omega arith), eq-eqb (kind r) 4 k, ← e) h)
+  blob_found hkm k e h =
+      failure_found b (policy_of b) hkm (recovery_key b) (action_of r none) x refl e refl
+      (by_kind (failure_under (policy_of b) hkm (recovery_key b)) r none x (rw (ne_eqb (kind r) 3 (λ z. omega arith), eq-eqb (kind r) 4 k) h))
 
   pub archive_found : (p : Policy) (hkre : Option Bytes) → (kind r ≡ 3 → ⊥) → (kind r ≡ 4 → ⊥) → p ≡ policy_of b → hkre ≡ recovery_key b → x ≡ archive_failure p hkre (archive_rule_of r)
       → x ≡ action_failure b (action_of r none)
   unfolding failure_under
-  archive_found p hkre n m e d h = by_kind (action_failure b) r none x (rw (ne_eqb (kind r) 3 n, ne_eqb (kind r) 4 m, ← e, ← d) h)
+  archive_found p hkre n m e d h =
+      failure_found b p (module_key b) hkre (action_of r none) x e refl d
+      (by_kind (failure_under p (module_key b) hkre) r none x (rw (ne_eqb (kind r) 3 n, ne_eqb (kind r) 4 m) h))
 
 -- Whether the desk checks a group, by its record and the officer's key.
 pub checked_found : (b : List Bytes) (r : Bytes) (officer : Option Bytes) (n : Bool) → officer ≡ field 4 b → n ≡ both_same officer (optional (flag 0 r) (part 4 hash_bytes r)) → not n ≡ is_checked b r
