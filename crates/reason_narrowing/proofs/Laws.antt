@@ -4,7 +4,7 @@ use native.Mathlib.Omega.{arith}
 use mathlib.Core.Path.{◌≡◌, refl, sym, ◌∙◌, ap}
 use mathlib.Core.List.{List, [], ◌∷◌, map}
 use mathlib.Core.Option.{Option, none, some}
-use mathlib.Core.Bool.{Bool, true, false, not, ◌&&◌, cond}
+use mathlib.Core.Bool.{Bool, true, false, not, ◌&&◌, cond, false≢true}
 use borrow.Author.Tests.{ltb-true, ltb-false, lt-ltb, le-ltb}
 use lib.ListN.{length, get_elem?}
 use lib.Dec.{eqb, ltb}
@@ -101,16 +101,31 @@ module _ (olds acts : List Action) (hints : List ℕ) (x : Bool) (inv : actions_
     named_short l = let d = empty hints l in rw (e, d) at inv
 
     module _ (h : ℕ) (others : List ℕ) (d : hints ≡ h ∷ others) where
-      pub named_step : (present (get_elem? olds h) && actions_named more others olds) ≡ x
+      named_step : (present (get_elem? olds h) && actions_named more others olds) ≡ x
       unfolding actions_named
       named_step = rw (e, d) at inv
 
-      module _ (n : ℕ) (count : n ≡ length olds) where
-        pub named_nothing : n ≤ h → false ≡ x
-        named_nothing l = rw (past_end olds h (omega arith)) at named_step
+      pub named_nothing : none ≡ get_elem? olds h → false ≡ x
+      named_nothing f = rw (← f) at named_step
 
-        pub named_more : h < n → actions_named more others olds ≡ x
-        named_more l = rw (within olds h (omega arith)) at named_step
+      pub named_more : (o : Action) → some o ≡ get_elem? olds h → actions_named more others olds ≡ x
+      named_more o f = rw (← f) at named_step
+
+      -- the same by the number of actions
+      module _ (n : ℕ) (count : n ≡ length olds) where
+        pub named_past : n ≤ h → false ≡ x
+        named_past l = pick (get_elem? olds h) refl (past_end olds h (omega arith))
+          where
+            pick : (g : Option Action) → g ≡ get_elem? olds h → present g ≡ false → false ≡ x
+            pick none f p = named_nothing f
+            pick (some o) f p = absurd (false≢true (sym p))
+
+        pub named_within : h < n → actions_named more others olds ≡ x
+        named_within l = pick (get_elem? olds h) refl (within olds h (omega arith))
+          where
+            pick : (g : Option Action) → g ≡ get_elem? olds h → present g ≡ true → actions_named more others olds ≡ x
+            pick none f p = absurd (false≢true p)
+            pick (some o) f p = named_more o f
 
 -- A loop over new actions and the bytes of their hint: the first that is wider.
 module _ (olds acts : List Action) (hints : List ℕ) (i : ℕ) (x : Option ℕ) (inv : first_wider i acts hints olds ≡ x) where
