@@ -65,13 +65,13 @@ or_false : (a : Bool) → (a || false) ≡ a
 or_false true = refl
 or_false false = refl
 
-together_assoc : (x y z : Graded) → graded_together x (graded_together y z) ≡ graded_together (graded_together x y) z
+pub together_assoc : (x y z : Graded) → graded_together x (graded_together y z) ≡ graded_together (graded_together x y) z
 unfolding graded_together
 together_assoc x y z =
     let m : min x.protection (min y.protection z.protection) ≡ min (min x.protection y.protection) z.protection = omega arith in
     rw (or_next_assoc x.failure y.failure z.failure, m, or_assoc x.recoverable y.recoverable z.recoverable)
 
-together_none : (x : Graded) → x.protection ≤ not_kept → graded_together x (no_actions false) ≡ x
+pub together_none : (x : Graded) → x.protection ≤ not_kept → graded_together x (no_actions false) ≡ x
 unfolding graded_together
 together_none x h =
     let m : min x.protection not_kept ≡ x.protection = omega arith in
@@ -89,7 +89,7 @@ failure_and (Ok x) b = refl
 failure_and (Err s) b = refl
 
 -- No protection is over 4, "not kept".
-all_graded_most : {A : Type 0} (f : A → Graded) (list : List A) → (all_graded f list).protection ≤ not_kept
+pub all_graded_most : {A : Type 0} (f : A → Graded) (list : List A) → (all_graded f list).protection ≤ not_kept
 unfolding all_graded graded_together
 all_graded_most f [] = omega arith
 all_graded_most f (a ∷ list) = let h = all_graded_most f list in omega arith
